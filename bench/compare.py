@@ -2,9 +2,9 @@
 """Compares what the interpreter, the compiled program and gcc's program write, for random programs whose meaning the standard fixes.
 
 compare.py [COUNT] [SEED]: COUNT programs (100), from a seed (1). The programs have both types, casts, all operators, arrays of words and of bytes, locals,
-functions of up to eight parameters, some of which may return at once, elements near by, words of the input and all statements but goto; shifts and divisions are
+functions of up to eight parameters (some may return at once), elements near by, words of the input and all statements but goto; shifts and divisions are
 guarded, and sums wrap (-fwrapv). Every second program has more objects between its own, so that some of these lie beyond the first 4 KiB of
-the globals, or across their end. The words have to be the same, and the word that main returns; gcc tells only the last eight bits of
+the globals, or across their end. The words have to be the same, and the word that main returns; gcc gives only the last eight bits of
 that. A program in which an operation goes wrong is passed over, once it is seen that it is compiled. The program has to be built
 (./cclib --help), or CCLIB names one that is. The text of a program with other words is printed. gcc compiles 25 of them as one text, in which each
 name at file scope has the program's number."""

@@ -2,13 +2,12 @@
 """Runs the gate and tells where its time goes.
 
     bench/gate.py [FOLDER]          in that clone of the repository, or a fresh one of what is committed here
-    bench/gate.py --chain           runs nothing: tells by tools/costs.txt the sum of all and the longest chain
-    bench/gate.py --table           writes the table that docs/GATE.md has to have by tools/costs.txt
+    bench/gate.py --chain           runs nothing: prints the sums and the longest chain by tools/costs.txt, which docs/GATE.md has to have
+    bench/gate.py --table           runs nothing: prints tools/costs.txt as a table
 
 The gate is `rt ci`, as `.ci/run` has it; it should be the only thing that the machine does. While it runs, this script looks
 four times a second at the toolchain's processes and adds up the processor seconds of each. Then it prints a row for each
-crate, in seconds of processor, and where the run passed it writes the same to tools/costs.txt and under the head "The table" of
-docs/GATE.md (of the repository that the script is in), whose text above stays:
+crate, in seconds of processor, and if the run passed it writes the same to tools/costs.txt (of the repository that the script is in):
 
     lines   of src/, proofs left out
     P       a whole proof from scratch
@@ -33,18 +32,11 @@ from datetime import date
 TOP = os.path.dirname(os.path.dirname(os.path.abspath(__file__)))
 TICK = os.sysconf("SC_CLK_TCK")
 
-# What each crate costs, from which the table is made and ./prove-below schedules.
+# What each crate costs, by which ./prove-below schedules too.
 COSTS = f"{TOP}/tools/costs.txt"
 
-# The head of docs/GATE.md under which the table stands, to the end, and what is said between the two.
-HEAD = "## The table\n"
-WORDS = """
-Written by `bench/gate.py` on {day}: one whole run of the gate in a fresh clone, from scratch. Seconds of
-processor: P a whole proof from scratch, `tests` the proof of the crate's tests, `first` the first must-fail edit, e
-each further one on average, n a check that changes nothing, `sum` all of these. A blank: none.
-
-"""
-
+# The crates that are linked as programs.
+PROGRAMS = ("cclib", "bench")
 
 class Cost:
     """A line of tools/costs.txt: what the gate spends on one crate; a number is 0 where there is none."""
@@ -77,17 +69,12 @@ def table(found):
     return head + [it.row() for it in found]
 
 
-def write(found, said):
-    """Puts costs in place of those of tools/costs.txt, and their table in place of the one in docs/GATE.md."""
+def write(found):
+    """Puts costs in place of those of tools/costs.txt."""
     with open(COSTS, encoding="utf-8") as file:
         comments = [line for line in file if line.startswith("#")]
     with open(COSTS, "w", encoding="utf-8") as file:
-        file.write("".join(comments) + "".join(f"{it.line()}\n" for it in found))
-    page = f"{TOP}/docs/GATE.md"
-    with open(page, encoding="utf-8") as file:
-        above = file.read().partition(HEAD)[0]
-    with open(page, "w", encoding="utf-8") as file:
-        file.write(above + HEAD + WORDS.format(day=date.today().isoformat()) + "\n".join(said) + "\n")
+        file.write("".join(comments) + f"# Of one whole run of the gate, {date.today().isoformat()}.\n" + "".join(f"{it.line()}\n" for it in found))
 
 
 class Process:
@@ -165,14 +152,29 @@ def longest(names, proof, last):
     return seconds, crates
 
 
+def sums(names, found):
+    """Returns the sum of what the gate spends, and its parts, with what each is."""
+    own = [found[it] for it in names if it in found]
+    kinds = {"test crates": [], "the two programs": [], "the libraries' own proofs": []}
+    for it in own:
+        kinds["test crates" if it.name.startswith("tests_") else "the two programs" if it.name in PROGRAMS else "the libraries' own proofs"].append(it)
+    parts = {kind: sum(it.proof + it.tests for it in kinds[kind]) for kind in ("the libraries' own proofs", "test crates", "the two programs")}
+    parts["second proofs for edits"] = sum(it.first for it in own)
+    parts["further edits"] = sum(it.each * max(it.count - 1, 0) for it in own)
+    parts["checks after them"] = sum(it.again for it in own)
+    return sum(parts.values()), parts
+
+
 def tell_chain():
     """Prints what tools/costs.txt says of the crates of today."""
     names, found = below(TOP), {it.name: it for it in costs()}
     unknown = sorted(set(names) - set(found))
     proof = lambda it: found[it].proof if it in found else 0
     seconds, crates = longest(names, proof, lambda it: found[it].whole() - found[it].proof if it in found else 0)
-    print(f"sum {sum(found[it].whole() for it in names if it in found) / 60:.0f} processor minutes; not in the table: {', '.join(unknown) or 'none'}")
-    print(f"the longest chain, {seconds:.0f} s of processor: {', '.join(f'{it} {proof(it):.0f}' for it in crates)}")
+    whole, parts = sums(names, found)
+    print(f"the longest chain, {seconds:,.0f} s of processor: {', '.join(f'{it} {proof(it):.0f}' for it in crates)}")
+    print(f"the sum, {whole:,.0f} s: {', '.join(f'{what} {each:,.0f}' for what, each in parts.items())}")
+    print(f"not in tools/costs.txt: {', '.join(unknown) or 'none'}")
 
 
 def span(processes):
@@ -223,7 +225,7 @@ def main(folder):
     ]
     print("\n".join(said))
     if passed:
-        write(found, said)
+        write(found)
     print("passed" if passed else "NOT PASSED")
     if room:
         shutil.rmtree(room, ignore_errors=True)

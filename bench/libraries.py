@@ -10,7 +10,7 @@ killed at 200 moments. Nothing may have the new name, or all of the library; wha
 synced before the new file gets its name.
 libraries.py calls [COUNT [SEED]]: COUNT random programs (1,000) in a library: what `call` answers of each on random words within a random bound, as
 `run` does and as the simulator of image.py, by which `executed M` is counted too; one after the other, and by `--lines`.
-The status is 1 where something differs. The program has to be built (./cclib)."""
+The status is 1 if something differs. The program has to be built (./cclib)."""
 
 import os
 import random
@@ -172,6 +172,34 @@ def try_copy(chance, old, new, units):
     differs("copy: records", [(kind, name) for kind, name, _ in commands], [(1, it) for it in sorted(wanted)])
     differs("copy: over a file", (lines(run("copy", old, new, "--format", "4096")), read(new)[0]), (["fault 35 DiskFault"], parts(wanted)))
     os.remove(new)
+    try_confirmed(old, new, names, wanted)
+    try_refusals(old, new, names, room)
+
+
+def try_confirmed(old, new, names, wanted):
+    """No certificate of these units is right, so an audit confirms none."""
+    done = run("copy", old, new, "--format", "64", "--confirmed", *names)
+    told = [f"audit {it} {'none' if unit.certificate is None else 'unconfirmed'}" for it, unit in sorted(wanted.items())]
+    differs("copy --confirmed", (lines(done), done.returncode), ([*told, "ok"], 1 if told else 0))
+    differs("copy --confirmed: units", read(new)[0], {})
+    os.remove(new)
+
+
+def try_refusals(old, new, names, room):
+    """33 comes before 32, that before 34, and that before 35; nothing is made, and what is there stays."""
+    with open(new, "wb") as file:
+        file.write(b"here")
+    there = [("35", room, names)] + [("34", room - 1, names)] * (room > 64) + [("32", 64, [*names, "absent"]), ("33", 64, ["absent", "Bad", *names])]
+    for number, area, asked in there:
+        done = run("copy", old, new, "--format", str(area), *asked)
+        differs(f"copy: {number}", (lines(done)[0].split()[1], done.returncode, open(new, "rb").read()), (number, 1, b"here"))
+    os.remove(new)
+    with open(new + ".text", "wb") as file:
+        file.write(bytes(200))
+    for path, number in ((new + ".none", "35"), (new + ".text", "38")):
+        done = run("copy", path, new, "--format", "64", "Bad")
+        differs(f"copy: {number}", (lines(done)[0].split()[1], done.returncode, os.path.exists(new)), (number, 1, False))
+    os.remove(new + ".text")
 
 
 def try_log(chance, path, commands, units):

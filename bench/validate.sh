@@ -1,8 +1,8 @@
 #!/usr/bin/env bash
 # What spilling all and then validating cost as a function grows: the growth exponent, by ratios within one run.
 # Three kinds of text: straight code, nested loops, and 64 locals that all stay live. Each is made so long that its RTL has as many
-# nodes as asked for, or a few less. A step's time is the processor's, without that of the steps before it, and so without reading and making
-# the RTL. The exponent is log(ratio of times) / log(ratio of nodes): 1 is linear; the goal is 1.3 at most where the number of live registers
+# nodes as asked for, or a few less. A step's time is the processor's, without that of the steps before it, and so without reading, making
+# the RTL and dropping what nobody needs of it. The exponent is log(ratio of times) / log(ratio of nodes): 1 is linear; the goal is 1.3 at most where the number of live registers
 # is bounded.
 # Each is run ROUNDS times (3), in turn, and the best time counts. Shorter texts are done more often in one process, WORK (400,000)
 # nodes in all.
@@ -33,7 +33,7 @@ sizes() { if [ "$1" = live64 ]; then echo 512 1448 4096; else echo 64 512 4096; 
 
 for kind in straight loops live64; do
     for goal in $(sizes $kind); do
-        steps "$kind" "$goal" "${WORK:-400000}" rtl spill validate
+        steps "$kind" "$goal" "${WORK:-400000}" live spill validate
     done | told $kind spill_all validate
 done
 

@@ -82,13 +82,17 @@ def from_help():
 
 
 def example():
-    """The program that docs/SERVICE.md shows is a test of tests_service."""
-    shown = found(r"^```rust\n(.*?)^```$", read("docs/SERVICE.md"))
+    """The program that examples/service shows is a test of tests_service."""
+    shown = found(r"^```rust\n(.*?)^```$", read("examples/service/README.md"))
     test = found(r"^(fn two_clients_add_one_name.*?)\n#\[test\]$", read("crates/tests_service/src/running/calls.rt"))
-    return differ("docs/SERVICE.md and tests_service", shown, test)
+    return differ("examples/service/README.md and tests_service", shown, test)
 
 
 def costs():
-    """The table of docs/GATE.md is made of tools/costs.txt."""
-    table = found(r"^(\| crate +\|[^\n]*\n(?:\|[^\n]*\n)*)", read("docs/GATE.md"))
-    return differ("bench/gate.py --table and docs/GATE.md", said("bench/gate.py", "--table"), table)
+    """The sums and the longest chain that docs/GATE.md has are those of tools/costs.txt, which has each crate."""
+    chain, whole, unknown = said("bench/gate.py", "--chain").splitlines()
+    page = " ".join(read("docs/GATE.md").split())
+    there = found(r"\*\*The longest chain\*\* of proofs, (.*?), with the edits", page)
+    wrong = differ("bench/gate.py --chain and docs/GATE.md", re.sub(r" \d+(, |$)", r"\1", found(r"^the longest chain, (.*)$", chain)), there.replace("`", ""))
+    wrong += differ("bench/gate.py --chain and docs/GATE.md", found(r"^the sum, (.*)$", whole), found(r"\*\*The sum\*\*, (.*?)\. - \*\*", page))
+    return wrong + differ("crates.txt and tools/costs.txt", unknown, "not in tools/costs.txt: none")

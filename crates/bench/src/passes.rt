@@ -1,16 +1,11 @@
-// The passes up to the validator. A step does those before it too, so what one costs is the difference of two.
+// The compiler's passes over a function, as far as a step. A step does those before it too, so what one costs is the difference of two.
 
-use cc_cminor::to_cminor;
-use cc_colour::{colour, spill_all};
-use cc_link::compile;
-use cc_live::drop_faint;
-use cc_ltl::{Ltl, read_ltl};
-use cc_rtl::{RtlPair, to_rtl};
+use cc_link::{Allocation, Mode, Seen, Watch, compile, compile_watched_in};
+use cc_ltl::read_ltl;
 use cc_syntax::parse;
 use cc_types::TypedUnit;
 use cc_typing::check;
-use cc_validate::validate;
-use std::alloc::Global;
+use std::alloc::{AllocError, Global};
 use std::sync::Arc;
 
 /// How far a turn goes.
@@ -18,17 +13,17 @@ use std::sync::Arc;
 pub enum Step {
     /// The function's RTL.
     Rtl,
-    /// LTL with a slot for each value.
-    Spill,
-    /// The validator on that.
-    Validate,
     /// RTL without the nodes that nobody needs, and its live sets.
     Live,
     /// LTL by registers.
     Colour,
     /// The validator on that.
     Check,
-    /// RTL without the nodes that nobody needs, and the validator on LTL that was handed in.
+    /// LTL with a slot for each value.
+    Spill,
+    /// The validator on that.
+    Validate,
+    /// The validator on LTL that was handed in.
     Judge,
 }
 
@@ -37,14 +32,58 @@ impl Step {
     pub fn named(name: &str) -> Option<Step> {
         match name {
             "rtl" => Some(Step::Rtl),
-            "spill" => Some(Step::Spill),
-            "validate" => Some(Step::Validate),
             "live" => Some(Step::Live),
             "colour" => Some(Step::Colour),
             "check" => Some(Step::Check),
+            "spill" => Some(Step::Spill),
+            "validate" => Some(Step::Validate),
             "judge" => Some(Step::Judge),
             _ => None,
         }
+    }
+
+    // The allocation that it takes; none if the LTL is refused.
+    fn allocation(self, alloc: Global, ltl: &[u8]) -> Option<Allocation> {
+        match self {
+            Step::Rtl | Step::Live | Step::Colour | Step::Check => Some(Allocation::Chosen),
+            Step::Spill | Step::Validate => Some(Allocation::Spilled),
+            Step::Judge => Some(Allocation::Given(read_ltl(alloc, ltl).ok()?)),
+        }
+    }
+
+    // Whether it ends at what is seen.
+    fn ends_at(self, seen: Seen<'_>) -> bool {
+        match self {
+            Step::Rtl => matches!(seen, Seen::Rtl(_)),
+            Step::Live => matches!(seen, Seen::Pruned(_)),
+            Step::Colour | Step::Spill => matches!(seen, Seen::Allocated(_, _)),
+            Step::Check | Step::Validate | Step::Judge => {
+                matches!(seen, Seen::Validated(_) | Seen::Refused(_))
+            }
+        }
+    }
+}
+
+// Watches a function, and ends its way at the end of a step.
+#[derive(Drop)]
+struct Until {
+    step: Step,
+    // How many nodes its RTL has.
+    nodes: usize,
+    // Whether the step came to its end, and nothing was refused.
+    is_done: bool,
+}
+
+impl Watch for Until {
+    fn see(&mut self, seen: Seen<'_>) -> Result<(), AllocError> {
+        if let Seen::Rtl(rtl) = seen {
+            self.nodes = rtl.len();
+        }
+        if self.step.ends_at(seen) {
+            self.is_done = !matches!(seen, Seen::Refused(_));
+            return Err(AllocError);
+        }
+        Ok(())
     }
 }
 
@@ -59,7 +98,7 @@ pub fn compiled(alloc: Global, text: &[u8], times: u32) -> Option<usize> {
     Some(words)
 }
 
-/// Reads and checks a text once, and takes its first function so far so many times: how many nodes its RTL has. None where the text, the
+/// Reads and checks a text once, and takes its first function so far so many times: how many nodes its RTL has. None if the text, the
 /// function or its LTL is refused.
 pub fn again(alloc: Global, text: &[u8], step: Step, ltl: &[u8], times: u32) -> Option<usize> {
     let unit = check(alloc, parse(alloc, text).ok()?).ok()?;
@@ -72,34 +111,20 @@ pub fn again(alloc: Global, text: &[u8], step: Step, ltl: &[u8], times: u32) -> 
 }
 
 fn turn(alloc: Global, unit: &Arc<TypedUnit>, step: Step, ltl: &[u8]) -> Option<usize> {
-    let mut pair = first_rtl(alloc, unit)?;
-    let nodes = pair.code().len();
-    let ltl = match step {
-        Step::Rtl => return Some(nodes),
-        Step::Live => return drop_faint(alloc, &mut pair).ok().map(|_| nodes),
-        Step::Spill | Step::Validate => spill_all(alloc, pair.code()).ok()?,
-        Step::Colour | Step::Check => registers(alloc, &mut pair)?,
-        Step::Judge => handed_in(alloc, &mut pair, ltl)?,
-    };
-    match step {
-        Step::Spill | Step::Colour => Some(nodes),
-        _ => validate(alloc, pair, ltl).ok().map(|_| nodes),
-    }
-}
-
-fn first_rtl(alloc: Global, unit: &Arc<TypedUnit>) -> Option<RtlPair> {
     if unit.functions() == 0 {
         return None;
     }
-    to_rtl(alloc, to_cminor(alloc, unit, 0).ok()?).ok()
-}
-
-fn registers(alloc: Global, pair: &mut RtlPair) -> Option<Ltl> {
-    let live = drop_faint(alloc, pair).ok()?;
-    colour(alloc, pair.code(), &live).ok()
-}
-
-fn handed_in(alloc: Global, pair: &mut RtlPair, ltl: &[u8]) -> Option<Ltl> {
-    drop_faint(alloc, pair).ok()?;
-    read_ltl(alloc, ltl).ok()
+    let allocation = step.allocation(alloc, ltl)?;
+    let mut until = Until {
+        step,
+        nodes: 0,
+        is_done: false,
+    };
+    let piece = compile_watched_in(alloc, Mode::Plain, unit, 0, allocation, &mut until);
+    drop(piece);
+    if until.is_done {
+        Some(until.nodes)
+    } else {
+        None
+    }
 }

@@ -1,4 +1,4 @@
--- Writes that follow one another write the whole.
+-- Writes that follow one another write the whole text.
 use Rattle.std.proofs.Common.{◌≡◌, ◌∙◌, ℕ, ◌+◌, ◌<◌, List, [], ◌∷◌, ◌++◌, length, take, get_or, Option, Result, Ok, Err, OnOk, refl, sym, ap, subst, append_assoc}
 use Rattle.std.proofs.KnownBytes.{Appends-kept, Appends-nil, Appends-trans}
 use Rattle.std.proofs.lemmas.List.{flat_map_more, take_more}
@@ -17,7 +17,7 @@ written_on (Err e) a b c xs ys one two = tt
 pub written_third : {T E : Type 0} (answer : Result T E) (a b c d : Option (List ℕ)) (xs ys zs : List ℕ) → Appends a b xs → Appends b c ys → OnOk answer (Appends c d zs) → OnOk answer (Appends a d (xs ++ ys ++ zs))
 written_third answer a b c d xs ys zs one two three = written_on answer a c d (xs ++ ys) zs (Appends-trans a b c xs ys one two) three
 
--- the text of one more of a list
+-- the text of one more element of a list
 pub one_more : {A : Type 0} (text : A → List ℕ) (a b c : Option (List ℕ)) (items : List A) (i : ℕ) (item : A) → i < length items → get_or items i item ≡ item
     → Appends a b (flat_map text (take i items)) → Appends b c (text item) → Appends a c (flat_map text (take (i + 1) items))
 one_more text a b c items i item within is one two =

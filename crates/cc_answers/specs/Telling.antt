@@ -1,10 +1,11 @@
--- What is written of an answer to a script, and how that may fail.
+-- What is written for an answer to a script, and how that may fail.
 use Rattle.std.specs.Prelude.{◌≡◌, ℕ, ◌==◌, if◌then◌else◌, List, [], ◌++◌, Option, Result, IfErr, OnOk, codes}
 use Rattle.std.specs.List.{flat_map}
 use Rattle.std.specs.Fmt.{decimal}
 use Rattle.std.specs.Io.KnownBytes.{Appends}
 use Rattle.cc_link.specs.declared.audit_answer.Audit.{Audit}
 use Rattle.cc_link.specs.declared.audit_answer.Audit.TheVariants.{Confirmed, NoCertificate, Unconfirmed}
+use Rattle.cc_library.specs.declared.space.SpaceUse.{SpaceUse}
 use Rattle.cc_script.specs.Fault.{fault_number}
 use Rattle.cc_script.specs.declared.fault.ScriptFault.{ScriptFault}
 use Rattle.cc_script.specs.declared.fault.ScriptFault.TheVariants.{WriteFault}
@@ -30,7 +31,7 @@ units_text names = flat_map unit_text names
 abbrev pub names_text : (names : List (List ℕ)) (number : ℕ) → List ℕ
 names_text names number = units_text names ++ number_text number
 
--- what an audit says
+-- the result of an audit
 abbrev pub said_text : Audit → List ℕ
 said_text Confirmed = line (codes " confirmed")
 said_text NoCertificate = line (codes " none")
@@ -38,6 +39,14 @@ said_text Unconfirmed = line (codes " unconfirmed")
 
 abbrev pub audit_text : (name : List ℕ) → Audit → List ℕ
 audit_text name audit = codes "audit " ++ name ++ said_text audit
+
+-- how much of its area a library takes: four numbers on a line, then `ok`
+abbrev pub space_line : SpaceUse → List ℕ
+space_line space =
+    codes "space " ++ (decimal space.area ++ (codes " " ++ (decimal space.used ++ (codes " " ++ (decimal space.compacted ++ (codes " " ++ (decimal space.units ++ codes "\n")))))))
+
+abbrev pub space_text : SpaceUse → List ℕ
+space_text space = space_line space ++ line (codes "ok")
 
 -- the line of a fault of the script; 54 has none
 abbrev pub script_fault_text : ScriptFault → List ℕ

@@ -1,4 +1,4 @@
--- What is written of an answer and of a fault, byte for byte.
+-- What is written for an answer and for a fault, byte for byte.
 use Rattle.std.specs.Prelude.{ℕ, ◌==◌, if◌then◌else◌, List, [], ◌∷◌, ◌++◌, take, drop, Option, Some, None, codes}
 use Rattle.std.specs.List.{flat_map}
 use Rattle.std.specs.Fmt.{decimal}
@@ -27,13 +27,13 @@ word_line w = line (signed_text w)
 abbrev pub words_text : List ℕ → List ℕ
 words_text words = flat_map word_line words
 
--- what a run has come to
+-- how a run ended
 abbrev pub machine_outcome_text : MachineOutcome → List ℕ
 machine_outcome_text Going = line (codes "going")
 machine_outcome_text (Exited w) = line (codes "exited " ++ signed_text w)
 machine_outcome_text Trapped = line (codes "trapped")
 
--- the words that an image has written, and what its run has come to
+-- the words that an image has written, and how its run ended
 abbrev pub run_text : ImageRun → List ℕ
 run_text run = words_text run.output.items ++ machine_outcome_text run.outcome
 
@@ -77,7 +77,7 @@ name_at text at count = take count (drop at text)
 abbrev pub in_text : (text : List ℕ) (at count : ℕ) → List ℕ
 in_text text at count = codes " in " ++ name_at text at count
 
--- the function that is not compiled, and the label at which the proof failed
+-- the function that was not compiled, and the label at which the proof failed
 abbrev pub function_text : (text : List ℕ) → PieceFault → List ℕ
 function_text text (piece.FunctionTooLarge at count) = in_text text at count
 function_text text (piece.Unvalidated at count label) = in_text text at count ++ (codes " at label " ++ decimal label)

@@ -1,2 +1,2 @@
--- What only private contracts speak of.
+-- Definitions for private contracts.
 pub mod Flushing

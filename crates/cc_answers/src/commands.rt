@@ -1,9 +1,9 @@
-// What a person is told of the commands of a script.
+// The commands of a script, explained to a person.
 
 use cc_script::{COMMANDS, Dialect, PLAIN_COMMANDS};
 use std::io::{self, Write};
 
-// What stands before the command of this place, of so many.
+// What comes before the command at this index, of this many commands.
 fn before(place: usize, count: usize) -> &'static [u8] {
     if place == 0 {
         b""
@@ -14,7 +14,7 @@ fn before(place: usize, count: usize) -> &'static [u8] {
     }
 }
 
-// The words of a command: of `submit`, which counts the bytes after a line by itself, without LEN.
+// The words of a command. For a line of `submit` they have no LEN, since `submit` counts the bytes after the line itself.
 fn shown(command: &[u8], is_line: bool) -> &[u8] {
     if is_line {
         return command;
@@ -23,7 +23,7 @@ fn shown(command: &[u8], is_line: bool) -> &[u8] {
     short.strip_suffix(b" LEN").unwrap_or(short)
 }
 
-// Writes the commands of a script of that dialect.
+// Writes the commands of a script in this dialect.
 fn write_commands<W: Write>(dialect: Dialect, is_line: bool, writer: &mut W) -> io::Result<()> {
     let commands = match dialect {
         Dialect::Plain => &COMMANDS[..PLAIN_COMMANDS],
@@ -36,7 +36,7 @@ fn write_commands<W: Write>(dialect: Dialect, is_line: bool, writer: &mut W) -> 
     Ok(())
 }
 
-/// Writes what is expected of a person who types a session's script.
+/// Writes what a person who types a session's script may enter. Err: the writer failed.
 pub fn greet<W: Write>(writer: &mut W) -> io::Result<()> {
     writer.write_all(b"cclib: ")?;
     write_commands(Dialect::Plain, true, writer)?;
@@ -44,7 +44,7 @@ pub fn greet<W: Write>(writer: &mut W) -> io::Result<()> {
     writer.flush()
 }
 
-/// Writes what is told of a line that is no command of a script of that dialect.
+/// Writes an explanation for a line that is no command of a script in this dialect. Err: the writer failed.
 pub fn explain_bad_line<W: Write>(dialect: Dialect, writer: &mut W) -> io::Result<()> {
     writer.write_all(b"cclib: the line is no command: ")?;
     write_commands(dialect, true, writer)?;
@@ -52,7 +52,7 @@ pub fn explain_bad_line<W: Write>(dialect: Dialect, writer: &mut W) -> io::Resul
     writer.flush()
 }
 
-/// Writes what is told of words of `submit` that are no command.
+/// Writes an explanation for words of `submit` that are no command. Err: the writer failed.
 pub fn explain_no_command<W: Write>(writer: &mut W) -> io::Result<()> {
     writer.write_all(b"cclib: the words are no command of a script: ")?;
     write_commands(Dialect::Served, false, writer)?;

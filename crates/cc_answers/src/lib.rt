@@ -1,11 +1,11 @@
-//! What the program writes of an answer, and what it tells a person of a fault: of a task for a text as of a line of a script.
+//! What the program writes for an answer, and how it explains a fault to a person: for a task on a text and for a line of a script.
 //!
-//! `run` runs an image and writes what came of it, `stands` says where in a text a fault is and tells of it there, `line` writes a fault's
-//! line, `words` has what is told of a fault by its number, `commands` what is told of the commands of a script. `script` writes each answer to
-//! a script; `person` is to whom the rest is told, or that nobody is.
+//! `run` runs an image and writes the result, `stands` has the position of a fault in a text and explains it there, `line` writes a fault's
+//! line, `words` explains a fault by its number, `commands` explains the commands of a script. `script` writes each answer to a script.
+//! `person` says to whom the explanations go, if to anybody.
 //!
-//! It knows neither tasks nor services, so both front ends stand on it: `cc_tasks` and `cc_session`. Hands out these, and the
-//! definitions that their contracts name (`specs/`).
+//! The crate knows neither tasks nor services, so both front ends are built on it: `cc_tasks` and `cc_session`. It hands out these, and the
+//! definitions that their contracts cite (`specs/`).
 #![tactic(auto)]
 
 mod commands;
@@ -22,7 +22,7 @@ pub use person::{Persons, Telling};
 pub use run::{ImageRun, run_image, write_run, write_words};
 pub use script::{
     Refusal, tell_audit, tell_fault, tell_names, tell_no_memory, tell_number, tell_ok,
-    tell_refusal, tell_run, tell_text,
+    tell_refusal, tell_run, tell_space, tell_text,
 };
 pub use stands::{Stands, of_fault, write_told};
 pub use words::{explain_words, words_of, words_of_task};

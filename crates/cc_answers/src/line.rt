@@ -66,8 +66,8 @@ pub fn name_of(number: u32) -> &'static str
     }
 }
 
-/// Writes the line of a fault for the text that has it: its number and its name; where it stands in the text its place, for example
-/// `fault 5 Unexpected at 1:25`; where it is one of a function that one's name, for example `fault 22 FunctionTooLarge in main`.
+/// Writes the line of a fault for the text that has it: its number and its name; its place if it is in the text, for example `fault 5
+/// Unexpected at 1:25`; and the function's name if it is about a function, for example `fault 22 FunctionTooLarge in main`.
 #[tactic(auto, using(crate::proofs::Writing::written_third))]
 pub fn write_fault_line<W: Write>(
     number: u32,
@@ -82,7 +82,7 @@ pub fn write_fault_line<W: Write>(
     writer.write_all(b"\n")
 }
 
-// The number of a fault, and its name.
+// Writes the number of a fault, and its name.
 fn write_head<W: Write>(number: u32, writer: &mut W) -> io::Result<()>
     ensures { OnOk result (Appends (W.contents writer.old) (W.contents writer.new) (fault_head number)) }
 {
@@ -90,7 +90,7 @@ fn write_head<W: Write>(number: u32, writer: &mut W) -> io::Result<()>
     write!(writer, "fault {number} {name}")
 }
 
-// The place or the function of a fault, if it has one.
+// Writes the place or the function of a fault, if it has one.
 fn write_position<W: Write>(stands: Stands<'_>, text: &[u8], writer: &mut W) -> io::Result<()>
     ensures { OnOk result (Appends (W.contents writer.old) (W.contents writer.new) (position_text text.now stands.entry)) }
 {
@@ -110,7 +110,7 @@ fn write_place<W: Write>(place: Option<Place>, writer: &mut W) -> io::Result<()>
     }
 }
 
-// The function of a fault, and the label.
+// Writes the function of a fault, and the label.
 #[tactic(auto, using(crate::proofs::Writing::written_on))]
 fn write_function<W: Write>(fault: PieceFault, text: &[u8], writer: &mut W) -> io::Result<()>
     ensures { OnOk result (Appends (W.contents writer.old) (W.contents writer.new) (function_text text.now fault)) }
@@ -125,7 +125,7 @@ fn write_function<W: Write>(fault: PieceFault, text: &[u8], writer: &mut W) -> i
     }
 }
 
-// The name of this many bytes that begins at this offset of the text.
+// Writes the name of this many bytes that begins at this offset of the text.
 #[tactic(auto, using(crate::proofs::Writing::written_on))]
 fn write_name<W: Write>(text: &[u8], at: usize, length: usize, writer: &mut W) -> io::Result<()>
     ensures { OnOk result (Appends (W.contents writer.old) (W.contents writer.new) (in_text text.now at length)) }

@@ -1,19 +1,19 @@
-// What a person is told on standard error, where one is to be told.
+// Explanations for a person on standard error, if they are wanted.
 
 use std::io::{self, Write};
 
-/// Where a person sits, and whether one is to be told anything.
+/// Whether a person types, whether one reads, and whether explanations are wanted.
 #[derive(Clone, Copy, Drop)]
 pub struct Persons {
     /// Whether standard input comes from a person.
     pub is_typed: bool,
     /// Whether a person sees standard error.
     pub is_watched: bool,
-    /// Whether nothing is to be explained.
+    /// Whether explanations are left out.
     pub is_quiet: bool,
 }
 
-/// Standard error, or nothing where nobody is to be told.
+/// Standard error, or nothing if explanations are left out.
 #[derive(Drop)]
 pub struct Telling<E: Drop> {
     pub errors: E,

@@ -1,6 +1,6 @@
 // What an image does.
 
-ghost use Rattle.std.specs.Prelude.{◌≡◌, IfOk, OnOk};
+ghost use Rattle.std.specs.Prelude.{IfOk, OnOk};
 ghost use Rattle.std.specs.Io.KnownBytes.{Appends};
 ghost use Rattle.cc_answers.specs.Run.{IsRunOf};
 ghost use Rattle.cc_answers.specs.Text.{machine_outcome_text, run_text, words_text};
@@ -11,14 +11,14 @@ use cc_rv32::outcome::MachineOutcome;
 use std::alloc::{AllocError, Global};
 use std::io::{self, Write};
 
-/// What an image has written, and what its run has come to.
+/// What an image has written, and how its run ended.
 #[derive(Drop)]
 pub struct ImageRun {
     pub output: Vec<u32>,
     pub outcome: MachineOutcome,
 }
 
-/// What an image does on the input words within this many instructions. `AllocError` where memory was refused as it ran.
+/// What an image does on the input words within this many instructions. `AllocError` if memory was refused during the run.
 pub fn run_image(
     alloc: Global,
     image: &Image,
@@ -39,7 +39,7 @@ pub fn run_image(
     }
 }
 
-/// Writes words as signed numbers, each on a line of its own.
+/// Writes words as signed numbers, each on a line of its own. Err: the writer failed.
 pub fn write_words<W: Write>(words: &[u32], writer: &mut W) -> io::Result<()>
     ensures { OnOk result (Appends (W.contents writer.old) (W.contents writer.new) (words_text words.now)) }
 {
@@ -49,7 +49,7 @@ pub fn write_words<W: Write>(words: &[u32], writer: &mut W) -> io::Result<()>
     Ok(())
 }
 
-// Writes what a run has come to.
+// Writes how a run ended.
 fn write_outcome<W: Write>(outcome: MachineOutcome, writer: &mut W) -> io::Result<()>
     ensures { OnOk result (Appends (W.contents writer.old) (W.contents writer.new) (machine_outcome_text outcome)) }
 {
@@ -60,7 +60,7 @@ fn write_outcome<W: Write>(outcome: MachineOutcome, writer: &mut W) -> io::Resul
     }
 }
 
-/// Writes the words, one a line, and then what the run has come to.
+/// Writes the words, one on each line, and then how the run ended. Err: the writer failed.
 #[tactic(auto, using(crate::proofs::Writing::written_on))]
 pub fn write_run<W: Write>(run: &ImageRun, writer: &mut W) -> io::Result<()>
     ensures { OnOk result (Appends (W.contents writer.old) (W.contents writer.new) (run_text run.now)) }

@@ -1,17 +1,17 @@
-// What is written of an answer to a script, and what explains its faults. Each answer goes to `answers`, which is flushed after it; what helps a
-// person with a fault goes to `explanations`. If that cannot be written it is left out.
+// What is written for an answer to a script, and the explanations of its faults. Each answer goes to `answers`, which is flushed after it.
+// Explanations for a person go to `explanations`; if one cannot be written, it is left out.
 
 ghost use Rattle.std.specs.Prelude.{◌≡◌, [], OnOk, codes};
 ghost use Rattle.std.specs.Io.KnownBytes.{Appends};
 ghost use Rattle.cc_answers.specs.Text.{fault_line, line, position_text, run_text};
-ghost use Rattle.cc_answers.specs.Telling.{Tells, audit_text, names_text, number_text, said_text, script_fault_text, unit_text, units_text};
+ghost use Rattle.cc_answers.specs.Telling.{Tells, audit_text, names_text, number_text, said_text, script_fault_text, space_line, space_text, unit_text, units_text};
 ghost use Rattle.cc_answers.specs.internal.Flushing.{Flushes};
 
 use crate::line::write_fault_line;
 use crate::run::{ImageRun, write_run};
 use crate::stands::{Stands, of_fault, write_told};
 use crate::words::{explain_words, words_of};
-use cc_library::Name;
+use cc_library::{Name, SpaceUse};
 use cc_link::Audit;
 use cc_script::ScriptFault;
 use std::alloc::Global;
@@ -82,7 +82,7 @@ fn said_of(audit: Audit) -> &'static [u8]
     }
 }
 
-// Writes what an audit says of a name's unit.
+// Writes the result of an audit of the unit with a name.
 #[tactic(auto, using(crate::proofs::Writing::written_third))]
 fn write_audit<W: Write>(name: &[u8], audit: Audit, writer: &mut W) -> io::Result<()>
     ensures { OnOk result (Appends (W.contents writer.old) (W.contents writer.new) (audit_text name.now audit)) }
@@ -90,6 +90,28 @@ fn write_audit<W: Write>(name: &[u8], audit: Audit, writer: &mut W) -> io::Resul
     writer.write_all(b"audit ")?;
     writer.write_all(name)?;
     writer.write_all(said_of(audit))
+}
+
+// Writes how much of its area a library takes.
+fn write_space_line<W: Write>(space: SpaceUse, writer: &mut W) -> io::Result<()>
+    ensures { OnOk result (Appends (W.contents writer.old) (W.contents writer.new) (space_line space)) }
+{
+    let SpaceUse {
+        area,
+        used,
+        compacted,
+        units,
+    } = space;
+    writeln!(writer, "space {area} {used} {compacted} {units}")
+}
+
+// Writes that, and `ok`.
+#[tactic(auto, using(crate::proofs::Writing::written_on))]
+fn write_space<W: Write>(space: SpaceUse, writer: &mut W) -> io::Result<()>
+    ensures { OnOk result (Appends (W.contents writer.old) (W.contents writer.new) (space_text space)) }
+{
+    write_space_line(space, writer)?;
+    writer.write_all(b"ok\n")
 }
 
 // Writes what is told of a refusal: words, or the place in the source that was sent.
@@ -106,7 +128,7 @@ fn explain_refusal<W: Write>(
     writer.flush()
 }
 
-/// Writes the names of a library's units, and the number of the receipt that has them.
+/// Writes the names of a library's units, and the number of the receipt that has them. Err: 54 `WriteFault`, the writer failed.
 #[tactic(auto, using(crate::proofs::Writing::told))]
 pub fn tell_names<W: Write>(names: &[Name], number: u64, answers: &mut W) -> Result<(), ScriptFault>
     ensures { Tells (W.contents answers.old) (W.contents answers.new) (names_text names.now number) result }
@@ -115,7 +137,7 @@ pub fn tell_names<W: Write>(names: &[Name], number: u64, answers: &mut W) -> Res
     flushed(write, answers)
 }
 
-/// Writes what a unit's image did.
+/// Writes what a unit's image did. Err: 54 `WriteFault`, the writer failed.
 #[tactic(auto, using(crate::proofs::Writing::told))]
 pub fn tell_run<W: Write>(run: &ImageRun, answers: &mut W) -> Result<(), ScriptFault>
     ensures { Tells (W.contents answers.old) (W.contents answers.new) (run_text run.now) result }
@@ -124,12 +146,21 @@ pub fn tell_run<W: Write>(run: &ImageRun, answers: &mut W) -> Result<(), ScriptF
     flushed(write, answers)
 }
 
-/// Writes what an audit says of a name's unit.
+/// Writes the result of an audit of the unit with a name. Err: 54 `WriteFault`, the writer failed.
 #[tactic(auto, using(crate::proofs::Writing::told))]
 pub fn tell_audit<W: Write>(name: &[u8], audit: Audit, answers: &mut W) -> Result<(), ScriptFault>
     ensures { Tells (W.contents answers.old) (W.contents answers.new) (audit_text name.now audit) result }
 {
     let write = write_audit(name, audit, answers);
+    flushed(write, answers)
+}
+
+/// Writes how much of its area a library takes.
+#[tactic(auto, using(crate::proofs::Writing::told))]
+pub fn tell_space<W: Write>(space: SpaceUse, answers: &mut W) -> Result<(), ScriptFault>
+    ensures { Tells (W.contents answers.old) (W.contents answers.new) (space_text space) result }
+{
+    let write = write_space(space, answers);
     flushed(write, answers)
 }
 
@@ -142,7 +173,7 @@ pub fn tell_text<W: Write>(text: &[u8], answers: &mut W) -> Result<(), ScriptFau
     flushed(write, answers)
 }
 
-/// Writes that a change was made, and the number of its receipt.
+/// Writes that a change was made, and the number of its receipt. Err: 54 `WriteFault`, the writer failed.
 #[tactic(auto, using(crate::proofs::Writing::told))]
 pub fn tell_number<W: Write>(number: u64, answers: &mut W) -> Result<(), ScriptFault>
     ensures { Tells (W.contents answers.old) (W.contents answers.new) (number_text number) result }
@@ -151,14 +182,14 @@ pub fn tell_number<W: Write>(number: u64, answers: &mut W) -> Result<(), ScriptF
     flushed(write, answers)
 }
 
-/// Writes that what was asked for is done.
+/// Writes that what was asked for is done. Err: 54 `WriteFault`, the writer failed.
 pub fn tell_ok<W: Write>(answers: &mut W) -> Result<(), ScriptFault>
     ensures { Tells (W.contents answers.old) (W.contents answers.new) (line (codes "ok")) result }
 {
     tell_text(b"ok\n", answers)
 }
 
-// Writes the line of a fault with this number.
+// Writes the line of the fault with this number.
 #[tactic(auto, using(crate::proofs::Writing::told))]
 fn tell_line<W: Write>(
     number: u32,
@@ -172,7 +203,7 @@ fn tell_line<W: Write>(
     flushed(write, answers)
 }
 
-// Writes the line of a fault of the script, if it has one.
+// Writes the line of a script's fault, if it has one.
 fn tell_script_fault<W: Write>(fault: ScriptFault, answers: &mut W) -> Result<(), ScriptFault>
     ensures { Tells (W.contents answers.old) (W.contents answers.new) (script_fault_text fault) result }
 {
@@ -183,7 +214,7 @@ fn tell_script_fault<W: Write>(fault: ScriptFault, answers: &mut W) -> Result<()
     tell_line(number, Stands::Nowhere, &[], answers)
 }
 
-/// Writes the line of a fault of the script, and explains it. 54, a fault of the answers, has no line.
+/// Writes the line of a script's fault, and explains it. 54, a fault of the answers themselves, has no line.
 pub fn tell_fault<W: Write, E: Write>(
     fault: ScriptFault,
     answers: &mut W,

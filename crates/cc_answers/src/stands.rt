@@ -1,22 +1,22 @@
-// Where in a text a fault stands, and what a person is told of it there.
+// The position of a fault in a text, and its explanation there.
 
 use cc_diagnostic::{Diagnostic, of_name, of_syntax, of_typing};
 use cc_link::{PieceFault, TextFault};
 use std::alloc::{AllocError, Global};
 use std::io::{self, Write};
 
-/// Where in a text a fault stands.
+/// The position of a fault in a text.
 #[derive(Clone, Copy, Drop)]
 pub enum Stands<'a> {
-    /// Where the text ceases to be a program's.
+    /// Where the text stops being a program.
     Text(&'a TextFault),
     /// In a function.
     Function(PieceFault),
-    /// Nowhere in it.
+    /// Not in the text.
     Nowhere,
 }
 
-// What is told of a function that is not compiled; nothing of lack of memory.
+// The explanation for a function that was not compiled; None if memory ran out.
 fn of_piece(
     alloc: Global,
     text: &[u8],
@@ -36,8 +36,8 @@ fn of_piece(
     }
 }
 
-/// What is told of a fault in the text: what was found there and what was expected, or which function it is; nothing of one that stands
-/// nowhere in it, and of lack of memory.
+/// The explanation of a fault in the text: what was found there and what was expected, or which function it is. None for a fault that is
+/// not in the text, and for lack of memory.
 pub fn of_fault(
     alloc: Global,
     text: &[u8],
@@ -51,7 +51,7 @@ pub fn of_fault(
     }
 }
 
-/// Writes what is told of a text, where there is something and there was memory for it.
+/// Writes an explanation, if there is one and there was memory for it.
 pub fn write_told<W: Write>(
     told: Result<Option<Diagnostic>, AllocError>,
     text: &[u8],

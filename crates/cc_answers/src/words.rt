@@ -1,11 +1,11 @@
-// What a person is told of a fault that stands in no text, by its number.
+// Explanations of faults that are not in a text, by their numbers.
 
 use crate::commands::explain_bad_line;
 use cc_script::{Dialect, ScriptFault};
 use std::io::{self, Write};
 
-/// What is told of a fault of a script or of a library with this number that stands in no text; nothing of others. That of 50 has the
-/// commands of the script too: `explain_bad_line` writes it.
+/// The explanation of the fault of a script or of a library with this number, if it is not in a text; None for other faults. The
+/// explanation of 50 also has the commands of the script: `explain_bad_line` writes it.
 pub fn words_of(number: u32) -> Option<&'static str> {
     match number {
         25 => Some("the image would have more than 131072 words of code"),
@@ -31,7 +31,7 @@ pub fn words_of(number: u32) -> Option<&'static str> {
     }
 }
 
-/// The same of a task, which reads a text and has one answer.
+/// The same for a task, which reads a text and has one answer.
 pub fn words_of_task(number: u32) -> Option<&'static str> {
     match number {
         53 => Some("the text could not be read"),
@@ -40,7 +40,7 @@ pub fn words_of_task(number: u32) -> Option<&'static str> {
     }
 }
 
-/// Writes what is told of a fault of a session's script, or of a library, with this number, where something is.
+/// Writes the explanation of the fault with this number, of a session's script or of a library, if there is one. Err: the writer failed.
 pub fn explain_words<W: Write>(number: u32, writer: &mut W) -> io::Result<()> {
     if number == ScriptFault::BadLine.number() {
         return explain_bad_line(Dialect::Plain, writer);

@@ -1,4 +1,4 @@
--- The tree of what the code keeps.
+-- The syntax tree as the definitions see it, made from the code's values.
 use Rattle.std.specs.Prelude.{List, [], ◌∷◌, Option, map}
 use Rattle.std.specs.Global.{Box}
 use Rattle.std.specs.Option.{option_map}
@@ -22,7 +22,7 @@ use Rattle.cc_ast.specs.declared.ast.Object.TheVariants as objects
 use Rattle.cc_ast.specs.declared.ast.External.{External}
 use Rattle.cc_ast.specs.declared.ast.External.TheVariants as externals
 
--- an identifier's bytes and place
+-- an identifier: its bytes and its offset
 abbrev pub name_tree : Identifier → tree.Name
 name_tree i = record { text = i.bytes.items; at = i.at }
 
@@ -43,11 +43,11 @@ abbrev mutual
   expressions_tree end_of-Expression = none
   expressions_tree (more_of-Expression e rest) = more (expression_tree e) (expressions_tree rest)
 
--- the tree of an expression that may be left out, in its box
+-- the tree of a boxed expression that may be absent
 abbrev pub optional_tree : Option (Box Expression) → Option Expr
 optional_tree e = option_map (λ b. expression_tree b.value) e
 
--- the tree of what an assignment writes
+-- the tree of an assignment's target
 abbrev pub target_tree : Target → tree.Target
 target_tree (targets.Variable x) = tree.AtVariable (name_tree x)
 target_tree (targets.Element x e) = tree.AtElement (name_tree x) (expression_tree e.value)
@@ -58,15 +58,15 @@ action_tree (actions.Assign op t e) = tree.Assign op (target_tree t) (expression
 action_tree (actions.Step op t) = tree.Step op (target_tree t)
 action_tree (actions.Evaluate e) = tree.Evaluate (expression_tree e.value)
 
--- the tree of an action that may be left out
+-- the tree of an action that may be absent
 abbrev pub optional_action : Option Action → Option tree.Action
 optional_action a = option_map action_tree a
 
--- the tree of one name of a declaration
+-- the tree of one name in a declaration
 abbrev pub declarator_tree : Declarator → tree.Declarator
 declarator_tree d = record { name = name_tree d.name; initial = optional_tree d.initial }
 
--- the trees of the names of a declaration
+-- the trees of the names in a declaration
 abbrev pub declarator_trees : List Declarator → List tree.Declarator
 declarator_trees ds = map declarator_tree ds
 
@@ -103,11 +103,11 @@ statements_of (s ∷ rest) = next (statement_tree s) (statements_of rest)
 abbrev pub constant_tree : ConstantExpression → ConstantExpr
 constant_tree c = record { at = c.at; expr = expression_tree c.expression.value }
 
--- the tree of a constant expression that may be left out
+-- the tree of a constant expression that may be absent
 abbrev pub optional_constant : Option ConstantExpression → Option ConstantExpr
 optional_constant c = option_map constant_tree c
 
--- the trees of the values of a list
+-- the trees of the values in an initialiser list
 abbrev pub constant_trees : List ConstantExpression → List ConstantExpr
 constant_trees cs = map constant_tree cs
 
@@ -119,17 +119,17 @@ parameter_tree p = record { scalar = p.scalar; name = option_map name_tree p.nam
 abbrev pub parameter_trees : List Parameter → List tree.Parameter
 parameter_trees ps = map parameter_tree ps
 
--- the tree of what is said of a function
+-- the tree of a function's head
 abbrev pub signature_tree : Signature → tree.Signature
 signature_tree s = record { result = s.result; name = name_tree s.name; parameters = parameter_trees s.parameters.items }
 
--- the tree of one name of a declaration of objects
+-- the tree of one name in a declaration of objects
 abbrev pub object_tree : Object → tree.Object
 object_tree (objects.Single x e) = tree.Single (name_tree x) (optional_constant e)
 object_tree (objects.Array x n es) = tree.Array (name_tree x) (optional_constant n) (constant_trees es.items)
 object_tree (objects.Bytes x n es) = tree.Bytes (name_tree x) (optional_constant n) (constant_trees es.items)
 
--- the trees of the names of a declaration of objects
+-- the trees of the names in a declaration of objects
 abbrev pub object_trees : List Object → List tree.Object
 object_trees os = map object_tree os
 

@@ -1,4 +1,4 @@
--- The grammar: which tokens spell which tree (C99 6.5 to 6.9), and how each token stands to the limits.
+-- The grammar: which tokens spell which tree (C99 6.5 to 6.9), and what the limits count at each token.
 use Rattle.std.specs.Prelude.{◌≡◌, ℕ, suc, ◌≤◌, List, [], ◌∷◌, ◌++◌, map, Option, Some, None, ◌⊎◌}
 use Rattle.cc_tokens.specs.declared.scalar.Scalar.{Scalar}
 use Rattle.cc_tokens.specs.declared.scalar.Scalar.TheVariants as scalar
@@ -66,9 +66,9 @@ abbrev pub step_punctuator : StepOperator → Punctuator
 step_punctuator stepping.Increment = punctuator.PlusPlus
 step_punctuator stepping.Decrement = punctuator.MinusMinus
 
--- how tightly a binary operator binds: `||` (6.5.14), `&&` (6.5.13), `|` (6.5.12), `^` (6.5.11), `&` (6.5.10), equality
--- (6.5.9), relation (6.5.8), shift (6.5.7), sum (6.5.6), product (6.5.5). A conditional expression has level 1 (6.5.15),
--- the operand of a unary operator or a cast level 12 (6.5.3, 6.5.4)
+-- how tightly a binary operator binds: `||` (6.5.14), `&&` (6.5.13), `|` (6.5.12), `^` (6.5.11), `&` (6.5.10), equality (6.5.9),
+-- relation (6.5.8), shift (6.5.7), sum (6.5.6), product (6.5.5). A conditional expression has level 1 (6.5.15), the operand of a
+-- unary operator or of a cast level 12 (6.5.3, 6.5.4).
 abbrev pub precedence : BinaryOperator → ℕ
 precedence binary.Multiply = 11
 precedence binary.Divide = 11
@@ -89,11 +89,11 @@ precedence binary.Or = 4
 precedence binary.LogicalAnd = 3
 precedence binary.LogicalOr = 2
 
--- a token is a given punctuator
+-- a token is this punctuator
 abbrev pub Marks : Punctuator → Lexeme → Type 0
 Marks p x = x.kind ≡ kind.Punctuator p
 
--- a token is a given keyword
+-- a token is this keyword
 abbrev pub IsKeyword : Keyword → Lexeme → Type 0
 IsKeyword k x = x.kind ≡ kind.Keyword k
 
@@ -101,22 +101,22 @@ IsKeyword k x = x.kind ≡ kind.Keyword k
 abbrev pub identifier : Name → Lexeme
 identifier n = record { kind = kind.Identifier; text = n.text; at = n.at }
 
--- the word that says whether a type has a sign
+-- the keyword that gives a type its sign
 abbrev pub sign_word : Scalar → Keyword
 sign_word scalar.Int = keyword.Signed
 sign_word scalar.Unsigned = keyword.Unsigned
 
--- a type: `int` alone, or `signed` or `unsigned` with `int` after it or not (C99 6.7.2)
+-- a type: `int` alone, or `signed` or `unsigned`, with or without `int` after it (C99 6.7.2)
 abbrev pub SpellsType : List Lexeme → Scalar → Type 0
 SpellsType ts t =
     ((word : Lexeme) × (t ≡ scalar.Int) × IsKeyword keyword.Int word × (ts ≡ word ∷ []))
     ⊎ (((word : Lexeme) × IsKeyword (sign_word t) word × (ts ≡ word ∷ []))
     ⊎ ((word int : Lexeme) × IsKeyword (sign_word t) word × IsKeyword keyword.Int int × (ts ≡ word ∷ int ∷ [])))
 
--- The tokens of an expression in which each operator that no parentheses enclose binds at least as tightly as the level.
--- The operands of a binary operator have its own level on the left and the next one on the right, so each groups to the
--- left; a conditional expression groups to the right; the operand of a unary operator or a cast has level 12, and so no
--- bare operator after it.
+-- The tokens of an expression in which each operator outside parentheses binds at least as tightly as the level. A binary
+-- operator's left operand has the operator's own level and its right operand the next one, so binary operators group to the left.
+-- A conditional expression groups to the right. The operand of a unary operator or of a cast has level 12, so it contains no
+-- binary operator outside parentheses.
 abbrev mutual
   pub SpellsExpression : ℕ → List Lexeme → Expr → Type 0
   SpellsExpression level ts (Number t n) = (x : Lexeme) × (x.kind ≡ kind.Number t n) × (ts ≡ x ∷ [])
@@ -144,7 +144,7 @@ abbrev mutual
       × Marks punctuator.Colon colon × SpellsExpression 2 test c × SpellsExpression 1 left a × SpellsExpression 1 right b
       × (ts ≡ test ++ (question ∷ left ++ colon ∷ right))
 
-  -- no argument, or one or more, separated by commas
+  -- no arguments, or one or more, separated by commas
   pub SpellsArguments : List Lexeme → Exprs → Type 0
   SpellsArguments ts none = ts ≡ []
   SpellsArguments ts (more e none) = SpellsExpression 1 ts e
@@ -152,12 +152,12 @@ abbrev mutual
       (comma : Lexeme) × (first others : List Lexeme) × Marks punctuator.Comma comma × SpellsExpression 1 first e
       × SpellsArguments others (more f es) × (ts ≡ first ++ comma ∷ others)
 
--- what an assignment writes: a name, or a name and an index, in no parentheses (C99 6.5.16)
+-- what an assignment writes to: a name, or a name and an index, without parentheses (C99 6.5.16)
 abbrev pub SpellsTarget : List Lexeme → Target → Type 0
 SpellsTarget ts (AtVariable n) = SpellsExpression 1 ts (Variable n)
 SpellsTarget ts (AtElement n e) = SpellsExpression 1 ts (Element n e)
 
--- an assignment, an increment or decrement, before its target or after it, or an expression (C99 6.8.3)
+-- an assignment, an increment or decrement with its operator before or after the target, or an expression (C99 6.8.3)
 abbrev pub SpellsAction : List Lexeme → Action → Type 0
 SpellsAction ts (Assign op t e) =
     (sign : Lexeme) × (left right : List Lexeme) × SpellsTarget left t × Marks (assignment_punctuator op) sign
@@ -167,8 +167,8 @@ SpellsAction ts (Step op t) =
     × ((ts ≡ sign ∷ target) ⊎ (ts ≡ target ++ sign ∷ []))
 SpellsAction ts (Evaluate e) = SpellsExpression 1 ts e
 
--- a token of a unit, and how it stands to the limits: it is the how-manieth token of a full expression (0: of none), and
--- the first of a statement or declaration at a level (0: of none)
+-- a token of a unit, with what the limits count: its number within its full expression, from 1 (0 if it belongs to none), and the
+-- level of the statement or declaration that it begins (0 if it begins none)
 pub record Measured : Type 0 where
   pub token : Lexeme
   pub count : ℕ
@@ -178,7 +178,7 @@ pub record Measured : Type 0 where
 abbrev pub outside : Lexeme → Measured
 outside x = record { token = x; count = 0; level = 0 }
 
--- the tokens of a full expression, of which this many came before
+-- the tokens of a full expression, given how many of its tokens came before
 abbrev pub full_after : ℕ → List Lexeme → List Measured
 full_after n [] = []
 full_after n (x ∷ xs) = record { token = x; count = suc n; level = 0 } ∷ full_after (suc n) xs
@@ -187,7 +187,7 @@ full_after n (x ∷ xs) = record { token = x; count = suc n; level = 0 } ∷ ful
 abbrev pub full : List Lexeme → List Measured
 full xs = full_after 0 xs
 
--- the tokens of a statement or declaration at a level
+-- the tokens of a statement or declaration at this level
 abbrev pub begins : ℕ → List Measured → List Measured
 begins level [] = []
 begins level (p ∷ ps) = record { token = p.token; count = p.count; level = level } ∷ ps
@@ -200,7 +200,7 @@ SpellsRow Spells ts (a ∷ b ∷ rest) =
     (comma : Lexeme) × (first others : List Measured) × Marks punctuator.Comma comma × Spells first a
     × SpellsRow Spells others (b ∷ rest) × (ts ≡ first ++ outside comma ∷ others)
 
--- one name of a declaration of locals, and the initialiser where there is one (C99 6.7)
+-- one name in a declaration of locals, and its initialiser if there is one (C99 6.7)
 abbrev pub SpellsInitial : List Measured → Option Expr → Type 0
 SpellsInitial ts None = ts ≡ []
 SpellsInitial ts (Some e) =
@@ -215,7 +215,7 @@ SpellsLocal ts t ds =
     (type : List Lexeme) × (names : List Measured) × (semicolon : Lexeme) × SpellsType type t × SpellsRow SpellsDeclarator names ds
     × Marks punctuator.Semicolon semicolon × (ts ≡ map outside type ++ (names ++ outside semicolon ∷ []))
 
--- a full expression, or nothing
+-- a full expression or nothing
 abbrev pub SpellsOptional : List Measured → Option Expr → Type 0
 SpellsOptional ts None = ts ≡ []
 SpellsOptional ts (Some e) = (inner : List Lexeme) × SpellsExpression 1 inner e × (ts ≡ full inner)
@@ -225,7 +225,7 @@ abbrev pub SpellsOptionalAction : List Measured → Option Action → Type 0
 SpellsOptionalAction ts None = ts ≡ []
 SpellsOptionalAction ts (Some a) = (inner : List Lexeme) × SpellsAction inner a × (ts ≡ full inner)
 
--- the first part of a `for` header, with its semicolon; a declaration there stands at the level (C99 6.8.5.3)
+-- the first part of a `for` header, with its semicolon; a declaration there has this level (C99 6.8.5.3)
 abbrev pub SpellsBeginning : ℕ → List Measured → Beginning → Type 0
 SpellsBeginning level ts (Declares t ds) = (inner : List Measured) × SpellsLocal inner t ds × (ts ≡ begins level inner)
 SpellsBeginning level ts (Performs a) =
@@ -237,7 +237,7 @@ abbrev pub IsStatement : Stmt → Type 0
 IsStatement (Local t ds) = ⊥
 IsStatement s = Unit {0}
 
--- no `if` at the end of the statement could take an `else` that stands after it (C99 6.8.4.1, paragraph 3)
+-- no `if` at the end of the statement could take an `else` that follows the statement (C99 6.8.4.1, paragraph 3)
 abbrev pub IsClosed : Stmt → Type 0
 IsClosed (If e s) = ⊥
 IsClosed (IfElse e s t) = IsClosed t
@@ -245,9 +245,9 @@ IsClosed (While e s) = IsClosed s
 IsClosed (For a e b s) = IsClosed s
 IsClosed s = Unit {0}
 
--- A statement, or a declaration of locals, at a level (C99 6.8, 6.7): what stands directly in a block or is a part of an
--- `if` or a loop is one level deeper. Full expressions (6.8): an action, a condition, the operand of a return, an
--- initialiser. What stands between an `if` and its `else` is closed, so an `else` belongs to the nearest `if`.
+-- A statement, or a declaration of locals, at a level (C99 6.8, 6.7). What lies directly in a block, or is a part of an `if` or a
+-- loop, is one level deeper. The full expressions (6.8) are an action, a condition, the operand of a return, and an initialiser.
+-- The statement between an `if` and its `else` is closed, so an `else` belongs to the nearest `if`.
 abbrev mutual
   pub SpellsStatement : ℕ → List Measured → Stmt → Type 0
   SpellsStatement level ts (Block ss) =
@@ -313,11 +313,11 @@ abbrev pub SpellsOptionalConstant : List Measured → Option ConstantExpr → Ty
 SpellsOptionalConstant ts None = ts ≡ []
 SpellsOptionalConstant ts (Some c) = SpellsConstantExpr ts c
 
--- a comma, or nothing
+-- a comma or nothing
 abbrev pub IsOptionalComma : List Lexeme → Type 0
 IsOptionalComma ts = (ts ≡ []) ⊎ ((comma : Lexeme) × Marks punctuator.Comma comma × (ts ≡ comma ∷ []))
 
--- the list of an array's values: nothing where there is none; a comma may stand after the last (C99 6.7.8)
+-- the initialiser list of an array: nothing if there are no values; a comma may follow the last value (C99 6.7.8)
 abbrev pub SpellsList : List Measured → List ConstantExpr → Type 0
 SpellsList ts [] = ts ≡ []
 SpellsList ts (v ∷ vs) =
@@ -325,14 +325,14 @@ SpellsList ts (v ∷ vs) =
     × Marks punctuator.OpenBrace opening × Marks punctuator.CloseBrace closing × SpellsRow SpellsConstantExpr row (v ∷ vs)
     × IsOptionalComma comma × (ts ≡ outside sign ∷ outside opening ∷ row ++ (map outside comma ++ outside closing ∷ []))
 
--- the name of an array, its length and its list (C99 6.7.5.2, 6.7.8)
+-- the name of an array, its length and its initialiser list (C99 6.7.5.2, 6.7.8)
 abbrev pub SpellsArray : List Measured → Name → Option ConstantExpr → List ConstantExpr → Type 0
 SpellsArray ts n size values =
     (opening closing : Lexeme) × (inner list : List Measured) × Marks punctuator.OpenBracket opening × Marks punctuator.CloseBracket closing
     × SpellsOptionalConstant inner size × SpellsList list values
     × (ts ≡ outside (identifier n) ∷ outside opening ∷ inner ++ outside closing ∷ list)
 
--- one name of a declaration of objects of a type (C99 6.7)
+-- one name in a declaration of objects of a type (C99 6.7)
 abbrev pub SpellsObject : List Measured → Object → Type 0
 SpellsObject ts (Single n None) = ts ≡ outside (identifier n) ∷ []
 SpellsObject ts (Single n (Some c)) =
@@ -341,7 +341,7 @@ SpellsObject ts (Single n (Some c)) =
 SpellsObject ts (Array n size values) = SpellsArray ts n size values
 SpellsObject ts (Bytes n size values) = ⊥
 
--- one name of a declaration of arrays of `unsigned char`
+-- one name in a declaration of arrays of `unsigned char`
 abbrev pub SpellsByteArray : List Measured → Object → Type 0
 SpellsByteArray ts (Single n e) = ⊥
 SpellsByteArray ts (Array n size values) = ⊥
@@ -351,18 +351,18 @@ SpellsByteArray ts (Bytes n size values) = SpellsArray ts n size values
 abbrev pub SpellsUnsignedChar : List Lexeme → Type 0
 SpellsUnsignedChar ts = (sign word : Lexeme) × IsKeyword keyword.Unsigned sign × IsKeyword keyword.Char word × (ts ≡ sign ∷ word ∷ [])
 
--- a declaration of objects: what stands before their names, the names, a semicolon
+-- a declaration of objects: the tokens before their names, the names, a semicolon
 abbrev pub SpellsObjects : (List Lexeme → Type 0) → (List Measured → Object → Type 0) → List Measured → List Object → Type 0
 SpellsObjects Prefix Each ts os =
     (type : List Lexeme) × (row : List Measured) × (semicolon : Lexeme) × Prefix type × SpellsRow Each row os
     × Marks punctuator.Semicolon semicolon × (ts ≡ map outside type ++ (row ++ outside semicolon ∷ []))
 
--- the token of a name that may be left out
+-- the token of a name that may be absent
 abbrev pub optional_identifier : Option Name → List Lexeme
 optional_identifier None = []
 optional_identifier (Some n) = identifier n ∷ []
 
--- a parameter: its type, and its name where it has one (C99 6.7.5.3)
+-- a parameter: its type, and its name if it has one (C99 6.7.5.3)
 abbrev pub SpellsParameter : List Measured → Parameter → Type 0
 SpellsParameter ts p =
     (type : List Lexeme) × SpellsType type p.scalar × (ts ≡ map outside type ++ map outside (optional_identifier p.name))
@@ -389,7 +389,7 @@ abbrev pub AreNamed : List Parameter → Type 0
 AreNamed [] = Unit {0}
 AreNamed (p ∷ ps) = ((n : Name) × (p.name ≡ Some n)) × AreNamed ps
 
--- an external declaration (C99 6.9): the body of a definition is a block at level 1, and its parameters have names
+-- an external declaration (C99 6.9). The body of a definition is a block at level 1, and its parameters have names.
 abbrev pub SpellsExternal : List Measured → External → Type 0
 SpellsExternal ts (Declaration f) =
     (head : List Measured) × (semicolon : Lexeme) × SpellsSignature head f × Marks punctuator.Semicolon semicolon
@@ -400,7 +400,7 @@ SpellsExternal ts (Definition f body) =
 SpellsExternal ts (Objects t os) =
     SpellsObjects (λ type. SpellsType type t) SpellsObject ts os ⊎ ((t ≡ scalar.Unsigned) × SpellsObjects SpellsUnsignedChar SpellsByteArray ts os)
 
--- external declarations, one after the other
+-- external declarations, one after another
 abbrev pub SpellsExternals : List Measured → List External → Type 0
 SpellsExternals ts [] = ts ≡ []
 SpellsExternals ts (e ∷ es) = (first others : List Measured) × SpellsExternal first e × SpellsExternals others es × (ts ≡ first ++ others)
@@ -410,14 +410,14 @@ abbrev pub SpellsUnit : List Measured → List External → Type 0
 SpellsUnit ts [] = ⊥
 SpellsUnit ts (e ∷ es) = SpellsExternals ts (e ∷ es)
 
--- the tokens alone
+-- the tokens without what the limits count
 abbrev pub plain_tokens : List Measured → List Lexeme
 plain_tokens ts = map (λ p. p.token) ts
 
--- the tokens spell the tree, whose limits are not asked
+-- the tokens spell the tree; the limits need not hold
 abbrev pub Spells : List Lexeme → List External → Type 0
 Spells tokens tree = (ts : List Measured) × SpellsUnit ts tree × (plain_tokens ts ≡ tokens)
 
--- some unit, whose limits are not asked, begins with the tokens
+-- some unit begins with these tokens; the limits need not hold
 abbrev pub Begins : List Lexeme → Type 0
 Begins tokens = (rest : List Lexeme) × (tree : List External) × Spells (tokens ++ rest) tree

@@ -1,18 +1,18 @@
 -- the syntax tree
 pub mod Tree
--- the tree of what the code keeps
+-- the syntax tree made from the code's values
 pub mod Erase
--- which tokens spell which tree, and how each token stands to the limits
+-- which tokens spell which tree, and what the limits count at each token
 pub mod Grammar
 -- the limits of a unit, and the first token that breaks the grammar or a limit
 pub mod Limits
 -- what a text spells, and why it is refused
 pub mod Parse
--- what a parsed text shows, and what is said of the answer
+-- what a parsed text contains, and what the parser's answer means
 pub mod Source
--- no promise rests on these
+-- definitions that no promise depends on
 pub mod internal
--- Pages of crates below that clauses here cite, handed on.
+-- Modules of the crates below that clauses here use, passed on.
 pub use Rattle.cc_tokens.specs.Place
 pub use Rattle.cc_tokens.specs.Tokens
 pub use Rattle.cc_tokens.specs.declared.fault

@@ -5,46 +5,46 @@ use Rattle.cc_tokens.specs.Token.{Lexeme}
 use Rattle.cc_ast.specs.Tree.{External}
 use Rattle.cc_ast.specs.Grammar.{Measured, SpellsUnit, plain_tokens, Spells, Begins}
 
--- how many tokens a full expression may have
+-- the most tokens that a full expression may have
 abbrev pub most_tokens : ℕ
 most_tokens = 512
 
--- the deepest level at which a statement or declaration may stand
+-- the deepest level that a statement or declaration may have
 abbrev pub deepest_level : ℕ
 deepest_level = 64
 
 abbrev pub IsWithin : Measured → Type 0
 IsWithin p = (p.count ≤ most_tokens) × (p.level ≤ deepest_level)
 
--- the tokens spell the tree, and the limits hold
+-- the tokens spell the tree within the limits
 abbrev pub SpellsWithin : List Lexeme → List External → Type 0
 SpellsWithin tokens tree = (ts : List Measured) × SpellsUnit ts tree × AllByRecursion IsWithin ts × (plain_tokens ts ≡ tokens)
 
--- a token past a limit: one more than a full expression may have, or the first of a statement or declaration that stands too deep
+-- a token past a limit: one too many in a full expression, or the first of a statement or declaration that is too deep
 abbrev pub PassesLimit : Measured → Type 0
 PassesLimit p = (most_tokens < p.count) ⊎ (deepest_level < p.level)
 
--- no unit begins with the tokens up to and with number k; the end of the text counts as a last token
+-- no unit begins with the tokens up to and including number k; the end of the text counts as a last token
 abbrev pub UnexpectedAt : List Lexeme → ℕ → Type 0
 UnexpectedAt tokens k =
     ((k < length tokens) × (Begins (take (suc k) tokens) → ⊥))
     ⊎ ((k ≡ length tokens) × ((tree : List External) → Spells tokens tree → ⊥))
 
--- in some unit that begins with the tokens up to and with number k, that token passes a limit
+-- in some unit that begins with the tokens up to and including number k, that token passes a limit
 abbrev pub TooDeepAt : List Lexeme → ℕ → Type 0
 TooDeepAt tokens k =
     (prefix rest : List Measured) × (p : Measured) × (tree : List External) × (k < length tokens) × PassesLimit p
     × SpellsUnit (prefix ++ p ∷ rest) tree × (plain_tokens (prefix ++ p ∷ []) ≡ take (suc k) tokens)
 
--- some unit goes on from the tokens before number k, none of which passes a limit
+-- some unit begins with the tokens before number k, and none of them passes a limit
 abbrev pub IsFineBefore : List Lexeme → ℕ → Type 0
 IsFineBefore tokens k = Begins (take k tokens) × ((j : ℕ) → j < k → TooDeepAt tokens j → ⊥)
 
--- tokens spell one tree at most
+-- tokens spell at most one tree
 abbrev pub TreesAreOne : Type 0
 TreesAreOne = (tokens : List Lexeme) (a b : List External) → Spells tokens a → Spells tokens b → a ≡ b
 
--- where tokens spell a tree within the limits, no token breaks the grammar or a limit
+-- if tokens spell a tree within the limits, no token breaks the grammar or a limit
 abbrev pub SpelledHaveNoFault : Type 0
 SpelledHaveNoFault =
     (tokens : List Lexeme) (tree : List External) (k : ℕ) → SpellsWithin tokens tree → (UnexpectedAt tokens k → ⊥) × (TooDeepAt tokens k → ⊥)

@@ -1,4 +1,4 @@
--- What the text as a whole spells, and why it is refused.
+-- What a whole text spells, and why it is refused.
 use Rattle.std.specs.Prelude.{◌≡◌, ℕ, ◌≤◌, List, length, slice_get, Option, Some, None, Result, Ok, Err}
 use Rattle.cc_tokens.specs.declared.place.Place.{Place}
 use Rattle.cc_tokens.specs.declared.fault.SyntaxFault.{SyntaxFault}
@@ -9,22 +9,22 @@ use Rattle.cc_tokens.specs.Place.{place_of}
 use Rattle.cc_tokens.specs.Tokens.{IsTokens, IsTokenRefusal, most_bytes}
 use Rattle.cc_ast.specs.Limits.{SpellsWithin, UnexpectedAt, TooDeepAt, IsFineBefore}
 
--- the text's tokens spell the tree, and the limits hold
+-- the text's tokens spell the tree within the limits
 pub record SpellsText (text : List ℕ) (tree : List External) : Type 0 where
   pub tokens : List Lexeme
   pub are : IsTokens text tokens
   pub spelled : SpellsWithin tokens tree
 
--- the offset of a token that is there, or the end of the text
+-- the offset of a token, or of the end of the text if there is no token
 abbrev pub offset_of : List ℕ → Option Lexeme → ℕ
 offset_of text None = length text
 offset_of text (Some x) = x.at
 
--- the place of token number k, one past the last byte where the text ends before it
+-- the place of token number k, or one past the last byte if the text has no such token
 abbrev pub place_at_token : List ℕ → List Lexeme → ℕ → Place
 place_at_token text tokens k = place_of text (offset_of text (slice_get tokens k))
 
--- the text has tokens, of which number k is the first that breaks the grammar or a limit, in the way that is named
+-- the text has tokens, and number k is the first that breaks the grammar or a limit, in the named way
 pub record BreaksAt (Breaks : List Lexeme → ℕ → Type 0) (text : List ℕ) (p : Place) : Type 0 where
   pub fits : length text ≤ most_bytes
   pub tokens : List Lexeme
@@ -34,22 +34,22 @@ pub record BreaksAt (Breaks : List Lexeme → ℕ → Type 0) (text : List ℕ) 
   pub here : Breaks tokens number
   pub place : p ≡ place_at_token text tokens number
 
--- when a text has no tree: where it has no tokens, as for them; else 5 or 6 at the first token that has one
+-- why a text has no tree: a text without tokens is refused as by `tokens`; any other by 5 or 6, at the first token that is wrong
 abbrev pub IsParseRefusal : List ℕ → SyntaxFault → Type 0
 IsParseRefusal text (fault.Unexpected p) = BreaksAt UnexpectedAt text p
 IsParseRefusal text (fault.TooDeep p) = BreaksAt TooDeepAt text p
 IsParseRefusal text f = IsTokenRefusal text f
 
--- what `parse` may answer for a text, lack of memory set aside: the tree that it spells, or why it has none
+-- what `parse` may return for a text if memory suffices: the tree that it spells, or why it has none
 abbrev pub IsParseAnswer : List ℕ → Result (List External) SyntaxFault → Type 0
 IsParseAnswer text (Ok tree) = (length text ≤ most_bytes) × SpellsText text tree
 IsParseAnswer text (Err fault.OutOfMemory) = ⊥
 IsParseAnswer text (Err f) = IsParseRefusal text f
 
--- a text has one answer at most: two are the same tree, or the same fault at the same place
+-- a text has at most one such answer: two answers are the same tree, or the same fault at the same place
 abbrev pub ParseAnswersAreOne : Type 0
 ParseAnswersAreOne = (text : List ℕ) (a b : Result (List External) SyntaxFault) → IsParseAnswer text a → IsParseAnswer text b → a ≡ b
 
--- and a text has one
+-- every text has such an answer
 abbrev pub TextsHaveAnswers : Type 0
 TextsHaveAnswers = (text : List ℕ) → (a : Result (List External) SyntaxFault) × IsParseAnswer text a

@@ -1,4 +1,4 @@
--- What a parsed text shows: its bytes and its tree.
+-- What a parsed text contains: its bytes and its tree.
 use Rattle.std.specs.Prelude.{◌≡◌, List, Result, Ok, Err}
 use Rattle.cc_ast.specs.Tree.{Source, External}
 use Rattle.cc_ast.specs.Erase.{external_trees}
@@ -14,7 +14,7 @@ source u = record { text = u.text.items; externals = external_trees u.externals.
 abbrev pub UnitTree : Type 0
 UnitTree = List External
 
--- the tree is answered, unless memory ran out
+-- the result is this tree, unless memory ran out
 abbrev pub AnswersTree : List External → Result Unit SyntaxFault → Type 0
 AnswersTree tree (Ok u) = (source u).externals ≡ tree
 AnswersTree tree (Err e) = e ≡ OutOfMemory

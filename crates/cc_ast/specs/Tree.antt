@@ -1,4 +1,4 @@
--- The syntax tree, without where it lies in memory.
+-- The syntax tree, independent of its place in memory.
 use Rattle.std.specs.Prelude.{ℕ, List, Option}
 use Rattle.cc_tokens.specs.declared.scalar.Scalar.{Scalar}
 use Rattle.cc_ast.specs.declared.ast.UnaryOperator.{UnaryOperator}
@@ -11,7 +11,7 @@ pub record Name : Type 0 where
   pub text : List ℕ
   pub at : ℕ
 
--- an expression (C99 6.5); a pair of parentheses is a node
+-- an expression (C99 6.5); each pair of parentheses is a node
 mutual
   pub data Expr : Type 0 where
     Number : Scalar → ℕ → Expr
@@ -28,19 +28,19 @@ mutual
     none : Exprs
     more : Expr → Exprs → Exprs
 
--- what an assignment writes: a variable, or an element of an array and its index
+-- what an assignment writes to: a variable, or an element of an array with its index
 pub data Target : Type 0 where
   AtVariable : Name → Target
   AtElement : Name → Expr → Target
 
--- what an expression statement does: an assignment, an increment or decrement, or an expression whose value is not used
+-- what an expression statement does: it assigns, increments or decrements, or evaluates an expression whose value is not used
 -- (C99 6.8.3)
 pub data Action : Type 0 where
   Assign : AssignmentOperator → Target → Expr → Action
   Step : StepOperator → Target → Action
   Evaluate : Expr → Action
 
--- one name of a declaration of locals, with its initialiser where it has one (C99 6.7)
+-- one name in a declaration of locals, with its initialiser if it has one (C99 6.7)
 pub record Declarator : Type 0 where
   pub name : Name
   pub initial : Option Expr
@@ -74,26 +74,26 @@ pub record ConstantExpr : Type 0 where
   pub at : ℕ
   pub expr : Expr
 
--- a parameter of a function, and its name where it has one (C99 6.7.5.3)
+-- a parameter of a function, and its name if it has one (C99 6.7.5.3)
 pub record Parameter : Type 0 where
   pub scalar : Scalar
   pub name : Option Name
 
--- what a declaration or a definition says of a function: the type of its result, none for `void`, its name, its parameters
+-- the head of a function's declaration or definition: its result type (None for `void`), its name, its parameters
 pub record Signature : Type 0 where
   pub result : Option Scalar
   pub name : Name
   pub parameters : List Parameter
 
--- one name of a declaration of objects at file scope: a single object and its initialiser, or an array, its length where
--- it is given, and the values of its list, none where it has no list (C99 6.7, 6.9.2); or such an array of `unsigned char`
+-- one name in a declaration of objects at file scope: a single object and its initialiser, or an array with its length if given
+-- and the values of its initialiser list, empty without a list (C99 6.7, 6.9.2); or the same for an array of `unsigned char`
 pub data Object : Type 0 where
   Single : Name → Option ConstantExpr → Object
   Array : Name → Option ConstantExpr → List ConstantExpr → Object
   Bytes : Name → Option ConstantExpr → List ConstantExpr → Object
 
--- an external declaration: of a function, its definition, or a declaration of objects of one type (C99 6.9), which is unsigned where they
--- are arrays of `unsigned char`
+-- an external declaration: a function's declaration, its definition, or a declaration of objects of one type (C99 6.9), which is
+-- unsigned for arrays of `unsigned char`
 pub data External : Type 0 where
   Declaration : Signature → External
   Definition : Signature → Stmts → External

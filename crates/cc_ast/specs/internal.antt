@@ -1,3 +1,3 @@
--- What private contracts and proofs speak of.
+-- Definitions that only private contracts and proofs use.
 -- the tree of a list of arguments
 pub mod Arguments

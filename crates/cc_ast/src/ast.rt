@@ -1,5 +1,5 @@
-// The syntax tree. It keeps the offset in the text of each token that a fault may name, and a node for each pair of
-// parentheses, so that a list of tokens spells one tree at most.
+// The syntax tree. It keeps the offset of each token that a fault may name, and has a node for each pair of parentheses, so that
+// a list of tokens spells at most one tree.
 
 use cc_tokens::Scalar;
 
@@ -13,8 +13,8 @@ pub enum UnaryOperator {
 }
 
 // ORDER BinaryOperator
-/// A binary operator (C99 6.5.5 to 6.5.14). `And`, `Xor` and `Or` go bit by bit; `LogicalAnd` and `LogicalOr` are `&&` and
-/// `||`, which evaluate their right operand only where they need it.
+/// A binary operator (C99 6.5.5 to 6.5.14). `And`, `Xor` and `Or` work bit by bit. `LogicalAnd` and `LogicalOr` are `&&` and
+/// `||`, which evaluate their right operand only if they need it.
 #[derive(Clone, Copy)]
 pub enum BinaryOperator {
     Multiply,
@@ -53,7 +53,7 @@ pub enum AssignmentOperator {
     Or,
 }
 
-/// `++` or `--`, before or after what it changes (C99 6.5.2.4, 6.5.3.1).
+/// `++` or `--`, before or after its operand (C99 6.5.2.4, 6.5.3.1).
 #[derive(Clone, Copy)]
 pub enum StepOperator {
     Increment,
@@ -70,12 +70,12 @@ pub struct Identifier {
 /// An expression (C99 6.5).
 #[derive(Drop)]
 pub enum Expression {
-    /// A constant: its type and its word.
+    /// A constant: its type and its value.
     Number(Scalar, u32),
     Name(Identifier),
-    /// An element of an array, and its index.
+    /// An element: the array's name, and the index.
     Element(Identifier, Box<Expression>),
-    /// A call of a function with its arguments.
+    /// A call: the function's name, and the arguments.
     Call(Identifier, Vec<Expression>),
     Parenthesised(Box<Expression>),
     Unary(UnaryOperator, Box<Expression>),
@@ -85,14 +85,14 @@ pub enum Expression {
     Conditional(Box<Expression>, Box<Expression>, Box<Expression>),
 }
 
-/// What an assignment writes: a variable, or an element of an array and its index.
+/// What an assignment writes to: a variable, or an element of an array with its index.
 #[derive(Drop)]
 pub enum Target {
     Variable(Identifier),
     Element(Identifier, Box<Expression>),
 }
 
-/// What an expression statement or a part of a `for` header does: an assignment, an increment or decrement, or an
+/// What an expression statement or a part of a `for` header does: it assigns, increments or decrements, or evaluates an
 /// expression whose value is not used (C99 6.8.3).
 #[derive(Drop)]
 pub enum Action {
@@ -101,14 +101,14 @@ pub enum Action {
     Evaluate(Box<Expression>),
 }
 
-/// One name of a declaration of locals, with its initialiser where it has one (C99 6.7).
+/// One name in a declaration of locals, with its initialiser if it has one (C99 6.7).
 #[derive(Drop)]
 pub struct Declarator {
     pub name: Identifier,
     pub initial: Option<Box<Expression>>,
 }
 
-/// The first part of a `for` header: a declaration of locals, or an action where there is one (C99 6.8.5.3).
+/// The first part of a `for` header: a declaration of locals, or an action that may be absent (C99 6.8.5.3).
 #[derive(Drop)]
 pub enum Beginning {
     Declaration(Scalar, Vec<Declarator>),
@@ -120,19 +120,19 @@ pub enum Beginning {
 pub enum Statement {
     Block(Vec<Statement>),
     Local(Scalar, Vec<Declarator>),
-    /// An expression statement; nothing for a semicolon alone.
+    /// An expression statement; `None` for a semicolon alone.
     Perform(Option<Action>),
-    /// `return`: the offset of the word, and the value where there is one.
+    /// `return`: the offset of the keyword, and the value if there is one.
     Return(usize, Option<Box<Expression>>),
-    /// `break`: the offset of the word.
+    /// `break`: the offset of the keyword.
     Break(usize),
-    /// `continue`: the offset of the word.
+    /// `continue`: the offset of the keyword.
     Continue(usize),
     If(Box<Expression>, Box<Statement>),
     IfElse(Box<Expression>, Box<Statement>, Box<Statement>),
     While(Box<Expression>, Box<Statement>),
     DoWhile(Box<Statement>, Box<Expression>),
-    /// `for`: what it begins with, the condition where there is one, what follows each turn, and the body.
+    /// `for`: the first part, the condition if there is one, the action after each turn if there is one, and the body.
     For(Box<Beginning>, Option<Box<Expression>>, Option<Action>, Box<Statement>),
 }
 
@@ -143,15 +143,14 @@ pub struct ConstantExpression {
     pub expression: Box<Expression>,
 }
 
-/// A parameter of a function; only a declaration may leave its name out (C99 6.7.5.3).
+/// A parameter of a function. Only a declaration may omit its name (C99 6.7.5.3).
 #[derive(Drop)]
 pub struct Parameter {
     pub scalar: Scalar,
     pub name: Option<Identifier>,
 }
 
-/// What a declaration or a definition says of a function: the type of its result, none for `void`, its name, and its
-/// parameters.
+/// The head of a function's declaration or definition: its result type (`None` for `void`), its name, and its parameters.
 #[derive(Drop)]
 pub struct Signature {
     pub result: Option<Scalar>,
@@ -159,14 +158,14 @@ pub struct Signature {
     pub parameters: Vec<Parameter>,
 }
 
-/// One name of a declaration of objects at file scope (C99 6.7, 6.9.2).
+/// One name in a declaration of objects at file scope (C99 6.7, 6.9.2).
 #[derive(Drop)]
 pub enum Object {
-    /// A single object, and its initialiser where it has one.
+    /// A single object, and its initialiser if it has one.
     Single(Identifier, Option<ConstantExpression>),
-    /// An array: its length where it is given, and the values of its list, none where it has no list.
+    /// An array: its length if given, and the values of its initialiser list, empty without a list.
     Array(Identifier, Option<ConstantExpression>, Vec<ConstantExpression>),
-    /// An array of `unsigned char`.
+    /// The same for an array of `unsigned char`.
     Bytes(Identifier, Option<ConstantExpression>, Vec<ConstantExpression>),
 }
 
@@ -177,6 +176,6 @@ pub enum External {
     Declaration(Signature),
     /// The definition of a function, and the statements of its body.
     Definition(Signature, Vec<Statement>),
-    /// The declaration of objects of one type: `Unsigned` where they are arrays of `unsigned char`.
+    /// A declaration of objects of one type: `Unsigned` for arrays of `unsigned char`.
     Objects(Scalar, Vec<Object>),
 }

@@ -1,9 +1,11 @@
-//! The syntax tree of a C text, the grammar, and a text with the tree that its tokens spell (C99 6.5 to 6.9, and the
-//! profile's grammar). How the tree is found is the parser's, `cc_syntax`: whatever only reads trees stands on this crate
-//! alone, so that it does not wait for the parser's proofs.
-//! `ast` has the tree, `unit` a text with its tree. The tokens, the places and the refusals are those of `cc_tokens`, and
-//! handed out here too.
-//! Hands out `Unit`, the tree's types, and the definitions that the contracts name (`specs/`).
+//! The syntax tree of a C text, the grammar, and a text together with the tree that its tokens spell (C99 6.5 to 6.9, and the
+//! profile's grammar).
+//!
+//! The parser, which finds the tree, is in `cc_syntax`. A crate that only reads trees needs just this crate, so it does not wait
+//! for the parser's proofs. `ast` has the tree, `unit` a text with its tree.
+//!
+//! The crate exports `Unit`, the tree's types, the definitions that contracts use (`specs/`), and the tokens, places and refusals
+//! of `cc_tokens`.
 #![tactic(auto)]
 
 mod ast;

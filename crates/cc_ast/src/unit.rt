@@ -7,7 +7,7 @@ ghost use Rattle.cc_tokens.specs.Tokens.{most_bytes};
 
 use super::ast::External;
 
-/// A parsed text: the text, and its tree, which the text's tokens spell within the limits.
+/// A parsed text: the text, and the tree that its tokens spell within the limits.
 pub struct Unit {
     text: Vec<u8>,
     externals: Vec<External>,
@@ -15,7 +15,7 @@ pub struct Unit {
     ghost fits: { length text.items ≤ most_bytes },
 }
 
-// By hand, so that crates above call it and do not prove anew how each part is dropped.
+// Written by hand, so that the crates above use this proof and need not show again how each part is dropped.
 impl Drop for Unit {
     fn drop(self) {
         let Unit { text, externals } = self;
@@ -25,7 +25,7 @@ impl Drop for Unit {
 impl Unit {
     ghost use Rattle.cc_ast.specs.Source.{source};
 
-    /// A text and a tree that it spells.
+    /// Makes a unit of a text and a tree that its tokens spell.
     pub fn new(text: Vec<u8>, externals: Vec<External>) -> Self
         requires spelled { SpellsText text.items (external_trees externals.items) }
         requires fits { length text.items ≤ most_bytes }
@@ -35,7 +35,7 @@ impl Unit {
         Unit { text, externals }
     }
 
-    /// The text, byte for byte: 65,536 at most.
+    /// The text, byte for byte: at most 65,536 bytes.
     pub fn text(&self) -> &[u8]
         ensures answer { result.now ≡ (source self.now).text }
         ensures few { length result.now ≤ most_bytes }
@@ -46,7 +46,7 @@ impl Unit {
     /// The external declarations that the text spells.
     pub fn externals(&self) -> &[External]
         ensures tree { external_trees result.now ≡ (source self.now).externals }
-        // The text's tokens spell it, and the limits hold.
+        // The text's tokens spell the tree, and the limits hold.
         ensures spelled { ∥ SpellsText (source self.now).text (source self.now).externals ∥₁ }
     {
         self.externals.as_slice()

@@ -8,11 +8,11 @@ use Rattle.cc_bits.specs.Rows.{key, most_width, most_rows, most_words}
 pub next_row : (w r n : ℕ) → r < n → w * r + w ≤ w * n
 next_row w r n h = let a = mul-le-mul_left {m = suc r} {n = n} w h in let b = mul-suc w r in omega (arith, a, b)
 
--- the first word of a row lies low
+-- the last word of a row is within the greatest length
 pub row_small : (w r : ℕ) → w ≤ most_width → r < most_rows → w * r + w ≤ most_words
 row_small w r h k = let a = next_row w r most_rows k in let b : w * most_rows ≤ 16 * most_rows = omega (arith, h) in omega (arith, a, b)
 
--- each place in a row is its own
+-- each place in a table has its own number
 pub same_key : (w r c i j : ℕ) → c < 64 * w → j < 64 * w → key w r c ≡ key w i j → (r ≡ i) × (c ≡ j)
 same_key w r c i j h k e = elim (cases_lt r i) [
   | inl lt ↦ absurd (let n = next_row w r i lt in omega (arith, n))
@@ -22,7 +22,7 @@ same_key w r c i j h k e = elim (cases_lt r i) [
   ]
 ]
 
--- each number below the end of this many rows is that of a bit
+-- each number below the end of this many rows is the number of a bit
 pub of_key : (w n k : ℕ) → k < 64 * (w * n) → (r c : ℕ) × (r < n) × (c < 64 * w) × (key w r c ≡ k)
 of_key w n k h = elim (cases_eq w 0) [
   | inl none ↦ absurd (let z : w * n ≡ 0 * n = ap (λ x. x * n) none in omega (arith, z))

@@ -1,4 +1,4 @@
--- Loops over the rows or the columns of a table: what has been done before one of them.
+-- Loops over the rows or the columns of a table: what has been done before a given line.
 use Rattle.std.proofs.Common.{◌≡◌, ℕ, List, length, ◌+◌, ◌*◌, ◌/◌, ◌%◌, ◌<◌, ◌≤◌, ◌∙◌, sym, ap, arith, refl, inl, inr, Bool, true, false, ◌==◌, ◌&&◌, ◌||◌, not, nat_lt, if◌then◌else◌}
 use Rattle.std.proofs.lemmas.Bool.{cases_eq, cases_lt, eq-eqb, ne_eqb}
 use Rattle.std.proofs.lemmas.Bool.Decides.{nat_tests}
@@ -45,9 +45,9 @@ or_swap true false = refl
 or_swap false true = refl
 or_swap false false = refl
 
--- ---- the bits of a line put into another
+-- ---- the bits of one line are put into another
 
--- those of the places before c are put in
+-- the bits of the places before c have been put in
 abbrev pub PutBefore : (c : ℕ) → (own old now : ℕ → Bool) → Type 0
 PutBefore c own old now = (j : ℕ) → now j ≡ (old j || (nat_lt j c && own j))
 
@@ -80,7 +80,7 @@ all_before c own old now past h j = elim (cases_lt j c) [
   | inr ge ↦ h j ∙ (ap (λ b. old j || (nat_lt j c && b)) (past j ge) ∙ (ap (λ b. old j || b) (and_false (nat_lt j c)) ∙ ap (λ b. old j || b) (sym (past j ge))))
 ]
 
--- a bit of row r is put there, and no other row changes
+-- one bit of row r is put in, and no other row changes
 pub row_put : (r c : ℕ) (bits : ℕ → Bool) (old now next : ℕ → ℕ → Bool) → bits c ≡ true → ((i j : ℕ) → next i j ≡ ((r == i && c == j) || now i j))
     → ((i : ℕ) → PutBefore c (λ j. r == i && bits j) (old i) (now i)) → (i : ℕ) → PutBefore (c + 1) (λ j. r == i && bits j) (old i) (next i)
 row_put r c bits old now next there puts h i = elim (cases_eq r i) [
@@ -94,7 +94,7 @@ pub row_skipped : (r c : ℕ) (bits : ℕ → Bool) (old now : ℕ → ℕ → B
     → ((i : ℕ) → PutBefore c (λ j. r == i && bits j) (old i) (now i)) → (i : ℕ) → PutBefore (c + 1) (λ j. r == i && bits j) (old i) (now i)
 row_skipped r c bits old now none h i = skipped c (λ j. r == i && bits j) (old i) (now i) (ap (λ b. r == i && b) none ∙ and_false (r == i)) (h i)
 
--- a whole row is put there
+-- a whole row is put in
 pub rows_put : (r : ℕ) (bits : ℕ → ℕ → Bool) (now next : ℕ → ℕ → Bool) → ((i j : ℕ) → next i j ≡ (now i j || (r == i && bits r j)))
     → ((c : ℕ) → PutBefore r (λ i. bits i c) (λ _. false) (λ i. now i c)) → (c : ℕ) → PutBefore (r + 1) (λ i. bits i c) (λ _. false) (λ i. next i c)
 rows_put r bits now next puts h c = go (bits r c) refl
@@ -107,7 +107,7 @@ rows_put r bits now next puts h c = go (bits r c) refl
 
 -- ---- in each line one bit moves to another place
 
--- in those before line n
+-- it has moved in the lines before line n
 abbrev pub MovedBefore : (n from to : ℕ) → (old now : ℕ → ℕ → Bool) → Type 0
 MovedBefore n from to old now = (i j : ℕ) → now i j ≡ (if nat_lt i n then moved from to (old i) j else old i j)
 
@@ -115,11 +115,11 @@ pub none_moved : (from to : ℕ) (old : ℕ → ℕ → Bool) → MovedBefore 0 
 none_moved from to old i j = ap (λ b. if b then moved from to (old i) j else old i j) (sym (not_below i 0 (omega arith)))
 
 module _ (n from to : ℕ) (old now : ℕ → ℕ → Bool) where
-  -- another line than this
+  -- any other line
   elsewhere : (i j : ℕ) → (n ≡ i → ⊥) → MovedBefore n from to old now → now i j ≡ (if nat_lt i (n + 1) then moved from to (old i) j else old i j)
   elsewhere i j other h = h i j ∙ ap (λ b. if b then moved from to (old i) j else old i j) (sym (same_below i n other))
 
-  -- this line, as it was and as it is to be
+  -- this line, before and after its bit moves
   was : (i j : ℕ) → n ≡ i → MovedBefore n from to old now → now i j ≡ old i j
   was i j same h = h i j ∙ ap (λ b. if b then moved from to (old i) j else old i j) (not_below i n (omega arith))
 
@@ -137,7 +137,7 @@ module _ (n from to : ℕ) (old now : ℕ → ℕ → Bool) where
         ∙ is i j same))))
   ]
 
-  -- where the lines from here on have no such bit, all have moved
+  -- if the lines from here on have no such bit, all have moved
   pub all_moved : ((i : ℕ) → n ≤ i → now i from ≡ false) → MovedBefore n from to old now → (i j : ℕ) → now i j ≡ moved from to (old i) j
   all_moved past h i j = elim (cases_lt i n) [
     | inl lt ↦ h i j ∙ ap (λ b. if b then moved from to (old i) j else old i j) (below i n lt)
@@ -147,7 +147,7 @@ module _ (n from to : ℕ) (old now : ℕ → ℕ → Bool) where
       stays : (k : ℕ) → n ≤ i → now i k ≡ old i k
       stays k ge = h i k ∙ ap (λ b. if b then moved from to (old i) k else old i k) (not_below i n ge)
 
--- the same in a row of rows of this many words: where the next row's words are, and that no row was put behind the last one
+-- the same for rows of `width` words: where the next row's words begin, and that no row was added after the last one
 pub record MovedTo (r width from to at target : ℕ) (old now : List ℕ) : Type 0 where
   pub here : at ≡ width * r + from / 64
   pub goes : target ≡ 64 * (width * r) + to
@@ -162,9 +162,9 @@ nowhere_moved width from to at target words a t = record {
   moved = none_moved from to (bit width words);
 }
 
--- one row more: it is one of the rows, so what is put in lies before their end
+-- one more row: it is one of the rows, so the new bit lies before their end
 module _ (r width from to at target : ℕ) (old now next : List ℕ) (h : MovedTo r width from to at target old now) (f : from < 64 * width) (t : to < 64 * width) where
-  -- a row that has a word is one of this many rows that hold the words
+  -- a row that has a word is among the rows that hold the words
   inside : (many : ℕ) → length now ≤ width * many → at < length now → r < many
   inside many few lt = let here = h.here in lt_of_mul-lt-mul_left width {m = r} {n = many} (omega (arith, here, few, lt))
 
@@ -198,16 +198,16 @@ module _ (r width from to at target : ℕ) (old now next : List ℕ) (h : MovedT
           ap (λ b. nat_lt from (64 * width) && b) (holds-past now (key width i from) (let here = h.here in let more = later i le in omega (arith, here, more, end)))
           ∙ and_false (nat_lt from (64 * width))
 
--- ---- word by word a row's bits move to another row
+-- ---- the bits of a row move to another row, word by word
 
--- those of the columns in words before word n
+-- the bits of the columns in words before word n have moved
 abbrev pub WordsMoved : (n from to : ℕ) → (old now : ℕ → ℕ → Bool) → Type 0
 WordsMoved n from to old now = (r c : ℕ) → now r c ≡ (if nat_lt (c / 64) n then row_moved from to old r c else old r c)
 
 pub no_words_moved : (from to : ℕ) (old : ℕ → ℕ → Bool) → WordsMoved 0 from to old old
 no_words_moved from to old r c = ap (λ b. if b then row_moved from to old r c else old r c) (sym (not_below (c / 64) 0 (omega arith)))
 
--- a column is the same in both
+-- a column that is the same in both moves the same way
 same_column : (from to r c : ℕ) (old now : ℕ → ℕ → Bool) → ((x : ℕ) → now x c ≡ old x c) → row_moved from to now r c ≡ row_moved from to old r c
 same_column from to r c old now same =
     ap (λ x. if to == r then x || now from c else now r c && not (from == r)) (same to)

@@ -1,4 +1,4 @@
--- What a table has when its words have changed, bit by bit.
+-- What a table holds after its words have changed, bit by bit.
 use Rattle.std.proofs.Common.{◌≡◌, ◌≢◌, ℕ, ◌+◌, ◌*◌, ◌/◌, ◌%◌, ◌^◌, get_or, w64, ◌<◌, ◌≤◌, List, length, ◌∙◌, sym, ap, arith, refl, inl, inr, Bool, true, false, ◌==◌, ◌&&◌, ◌||◌, not, nat_lt, if◌then◌else◌, IsTrue, IsFalse}
 use Rattle.std.proofs.lemmas.Bool.{cases_eq, cases_lt, eq-eqb, ne_eqb, eqb-true, and_from}
 use Rattle.std.proofs.lemmas.Bool.Decides.{nat_tests}
@@ -33,7 +33,7 @@ and_true false = refl
 
 -- ---- one bit
 
--- two bits of a table are one where their numbers are
+-- two bits of a table are the same exactly if their numbers are
 same_bit : (w r c i j : ℕ) → c < 64 * w → j < 64 * w → (key w r c == key w i j) ≡ (r == i && c == j)
 same_bit w r c i j h k = elim (cases_eq r i) [
   | inr other ↦ ne_eqb (key w r c) (key w i j) (λ e. other (same_key w r c i j h k e).0) ∙ ap (λ b. b && c == j) (sym (ne_eqb r i other))
@@ -71,7 +71,7 @@ removed_bit w r c old new h takes i j = elim (cases_lt j (64 * w)) [
       ∙ ap (λ b. (b && holds old (key w i j)) && not (r == i && c == j)) (sym (not_below j (64 * w) ge))
 ]
 
--- a bit past the width is none, and need not be removed
+-- a bit past the width is not set, and need not be removed
 pub removed_none : (w r c : ℕ) (words : List ℕ) → 64 * w ≤ c
     → (i j : ℕ) → (nat_lt j (64 * w) && holds words (key w i j)) ≡ ((nat_lt j (64 * w) && holds words (key w i j)) && not (r == i && c == j))
 removed_none w r c words h i j = elim (cases_lt j (64 * w)) [
@@ -84,7 +84,7 @@ removed_none w r c words h i j = elim (cases_lt j (64 * w)) [
 pub past_columns : (w : ℕ) (words : List ℕ) (r c : ℕ) → 64 * w ≤ c → (nat_lt c (64 * w) && holds words (key w r c)) ≡ false
 past_columns w words r c h = ap (λ b. b && holds words (key w r c)) (not_below c (64 * w) h)
 
--- in one row a bit moves to another column, where one number is put in for another
+-- a bit of one row moves to another column if its number is replaced by the other bit's number
 pub moved_bit : (w n from to : ℕ) (old new : List ℕ) → from < 64 * w → to < 64 * w → ((k : ℕ) → holds new k ≡ moved (key w n from) (key w n to) (holds old) k)
     → (i j : ℕ) → bit w new i j ≡ (if n == i then moved from to (bit w old i) j else bit w old i j)
 moved_bit w n from to old new f t moves i j = elim (cases_lt j (64 * w)) [
@@ -132,7 +132,7 @@ joined_bits w new a b h r c = ap (λ x. nat_lt c (64 * w) && x) (h (key w r c)) 
     spread true x y = refl
     spread false x y = refl
 
--- a number that one row holds and the other does not is a bit that one table has and the other has not
+-- a number that one row holds and the other does not is a bit that one table has and the other lacks
 pub risen_bit : (w n : ℕ) (mine theirs : List ℕ) → length theirs ≤ w * n → (k : ℕ) → IsTrue (holds theirs k) → IsFalse (holds mine k)
     → (r c : ℕ) × IsTrue (nat_lt c (64 * w) && holds theirs (key w r c)) × IsFalse (nat_lt c (64 * w) && holds mine (key w r c))
 risen_bit w n mine theirs few k there out =

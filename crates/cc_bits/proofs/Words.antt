@@ -1,4 +1,4 @@
--- The bits of one word of a row moved to another row: each word is one row's, and bit by bit it is as the table says.
+-- Moving the bits of one word of a row to another row: each word belongs to one row, and bit by bit the result is as the table says.
 use Rattle.std.proofs.Common.{◌≡◌, ℕ, ◌+◌, ◌*◌, ◌/◌, ◌%◌, get_or, ◌<◌, List, ◌∙◌, sym, ap, arith, refl, inl, inr, Bool, true, false, ◌==◌, ◌&&◌, ◌||◌, not, nat_lt, if◌then◌else◌}
 use Rattle.std.proofs.lemmas.Bool.{cases_eq, cases_lt, eq-eqb, ne_eqb, eqb-true}
 use Rattle.std.specs.Int.{bit_at}
@@ -7,7 +7,7 @@ use Rattle.cc_bits.specs.Rows.{holds, key, row_moved}
 use Rattle.cc_bits.proofs.Keys.{same_key}
 use Rattle.cc_bits.proofs.Tables.{below, past_columns, or_false, and_false, and_true}
 
--- two words are one where their rows and their places in them are
+-- two words are the same exactly if their rows and their places within the rows are
 same_word : (w from k r c : ℕ) → k < w → c < 64 * w → (w * from + k == key w r c / 64) ≡ (from == r && k == c / 64)
 same_word w from k r c h i = elim (cases_eq from r) [
   | inr other ↦ ne_eqb (w * from + k) (key w r c / 64) (λ e. other (parts e).0) ∙ ap (λ b. b && k == c / 64) (sym (ne_eqb from r other))
@@ -27,7 +27,7 @@ or_same : (b : Bool) → (b || b) ≡ b
 or_same true = refl
 or_same false = refl
 
--- a bit of this word: taken from where it was, and put where it goes
+-- a bit of this word is taken from its old place and put in the new one
 one_bit : (own there held from to : Bool) → (from ≡ true → held ≡ own) → (to ≡ true → there ≡ own)
     → ((own && not (from && true)) || ((to && true) && held)) ≡ (if to then there || held else own && not from)
 one_bit own there held true true h i = ap (λ b. b || held) (and_false own) ∙ (h refl ∙ sym (ap (λ b. b || held) (i refl) ∙ (ap (λ b. own || b) (h refl) ∙ or_same own)))
@@ -54,7 +54,7 @@ module _ (w from to k word : ℕ) (old mid new : List ℕ) (h : k < w) (is : wor
     inside : (x : ℕ) → bit x c ≡ holds old (key w x c)
     inside x = ap (λ b. b && holds old (key w x c)) (below c (64 * w) lt)
 
-    -- what the word says of this column
+    -- the word's bit for this column
     read : k ≡ c / 64 → (bit_at word (key w r c % 64) == 1) ≡ bit from c
     read e =
         let q : w * from + k ≡ key w from c / 64 = omega (arith, e) in

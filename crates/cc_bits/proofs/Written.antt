@@ -1,4 +1,4 @@
--- A word of a row that is written through its slice.
+-- Writing a word of a row through its slice.
 use Rattle.std.proofs.Common.{◌≡◌, ◌∙◌, ap, ℕ, List, length, set, slice_set}
 use Rattle.std.specs.List.{refill}
 use Rattle.std.proofs.lemmas.List.{length-set}

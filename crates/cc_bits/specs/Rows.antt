@@ -1,8 +1,8 @@
--- A row of bits, and rows of bits of one width, one behind the other.
+-- A row of bits, and rows of bits of one width, one after the other.
 use Rattle.std.specs.Prelude.{ℕ, ◌+◌, ◌*◌, ◌/◌, ◌%◌, ◌^◌, List, get_or, Bool, ◌==◌, ◌&&◌, ◌||◌, not, nat_lt, length, if◌then◌else◌, ◌≤◌}
 use Rattle.std.specs.Int.{bit_at}
 
--- a row is a list of words of 64 bits: bit k % 64 of word k / 64 says whether it holds number k; what is past its end it does not hold
+-- a row is a list of words of 64 bits: bit k % 64 of word k / 64 says whether the row holds number k; it holds no number past its end
 abbrev pub holds : (row : List ℕ) → (k : ℕ) → Bool
 holds row k = bit_at (get_or row (k / 64) 0) (k % 64) == 1
 
@@ -15,11 +15,11 @@ pub record Table : Type 0 where
 abbrev pub key : (width r c : ℕ) → ℕ
 key width r c = 64 * (width * r) + c
 
--- bit c of row r; there is none past a row's width, nor past the last row
+-- bit c of row r; there are no bits past a row's width, nor past the last row
 abbrev pub has : Table → (r c : ℕ) → Bool
 has t r c = nat_lt c (64 * t.width) && holds t.words (key t.width r c)
 
--- the most words of a row of a table, the most rows, the most words of all
+-- at most so many words in a row of a table, so many rows, and so many words in all
 abbrev pub most_width : ℕ
 most_width = 16
 
@@ -35,7 +35,8 @@ pub record AreRows (width rows : ℕ) (words : List ℕ) : Type 0 where
   pub low : rows ≤ most_rows
   pub few : length words ≤ width * rows
 
--- a line of bits of which one has moved to another place; bits of which those of one column have, or of one row
+-- a line of bits in which one has moved to another place; a table in whose rows the bit of one column has moved; one in which the bits of
+-- one row have moved
 abbrev pub moved : (from to : ℕ) → (ℕ → Bool) → (place : ℕ) → Bool
 moved from to bit k = if to == k then bit to || bit from else bit k && not (from == k)
 

@@ -1,6 +1,6 @@
 // One row of bits: a set of numbers.
 
-ghost use Rattle.std.specs.Prelude.{◌≡◌, ℕ, ◌+◌, ◌*◌, ◌/◌, ◌%◌, ◌^◌, ◌<◌, ◌≤◌, ◌==◌, ◌||◌, ◌&&◌, not, [], get_or, length, slice_index, IsTrue, IsFalse, IfOk, IfErr};
+ghost use Rattle.std.specs.Prelude.{◌≡◌, ℕ, ◌+◌, ◌*◌, ◌/◌, ◌%◌, ◌<◌, ◌≤◌, ◌==◌, ◌||◌, ◌&&◌, not, [], get_or, length, slice_index, IsTrue, IsFalse, IfOk, IfErr};
 ghost use Rattle.std.specs.Int.{bit_at};
 ghost use Rattle.cc_bits.specs.Rows.{holds, AreRows, moved as moved_of, column_moved, most_words};
 ghost use Rattle.cc_bits.specs.internal.Holding.{bit as bit_of};
@@ -9,7 +9,7 @@ use smallvec::SmallVec;
 use std::alloc::{AllocError, Global};
 use std::marker::Model;
 
-// The words of a row: one is kept in place, so a set of numbers below 64 takes no memory of its own.
+// The words of a row. One word is kept in place, so a set of numbers below 64 takes no memory of its own.
 type Words = SmallVec<u64, 1>;
 
 /// A set of numbers. Contracts see its words.
@@ -30,7 +30,7 @@ impl Model for BitRow {
 }
 
 impl BitRow {
-    /// No number. It takes no memory.
+    /// The empty set. It takes no memory.
     pub fn new(alloc: Global) -> BitRow
         ensures { result ≡ [] }
     {
@@ -39,7 +39,7 @@ impl BitRow {
         }
     }
 
-    /// No number, with memory for exactly this many words.
+    /// The empty set, with memory for exactly this many words. Err: memory ran out.
     pub(crate) fn with_room(alloc: Global, room: usize) -> Result<BitRow, AllocError>
         ensures { IfOk result (λ made. made ≡ []) }
     {
@@ -48,7 +48,7 @@ impl BitRow {
         })
     }
 
-    /// Its words: number k is bit k % 64 of word k / 64, and none past their end is in the set.
+    /// The words of the set: number k is bit k % 64 of word k / 64. No number past their end is in the set.
     pub fn words(&self) -> &[u64]
         ensures words { result.now ≡ self.now }
         ensures few { length self.now ≤ most_words }
@@ -56,21 +56,21 @@ impl BitRow {
         self.words.as_slice()
     }
 
-    /// A word; those past the end are 0.
+    /// The word at an index; 0 past the end.
     pub fn word(&self, at: usize) -> u64
         ensures { result ≡ get_or self.now at 0 }
     {
         word_at(self.words.as_slice(), at)
     }
 
-    /// Whether a number is in it.
+    /// Whether a number is in the set.
     pub fn contains(&self, k: usize) -> bool
         ensures { result ≡ holds self.now k }
     {
         is_set(word_at(self.words.as_slice(), k / 64), k)
     }
 
-    /// The same set once more.
+    /// A copy of the set. Err: memory ran out.
     pub fn copy(&self, alloc: Global) -> Result<BitRow, AllocError>
         ensures { IfOk result (λ made. made ≡ self.now) }
     {
@@ -79,7 +79,7 @@ impl BitRow {
         })
     }
 
-    /// The same set once more, with memory for this many words behind its end.
+    /// A copy of the set, with memory for this many more words after its end. Err: memory ran out.
     pub(crate) fn copy_with_room(&self, alloc: Global, room: usize) -> Result<BitRow, AllocError>
         requires { room ≤ most_words }
         ensures { IfOk result (λ made. made ≡ self.now) }
@@ -90,7 +90,7 @@ impl BitRow {
         Ok(BitRow { words })
     }
 
-    /// Puts a number in. Without memory the set stays as it was.
+    /// Adds a number. If memory runs out, the set stays as it was.
     pub fn insert(&mut self, k: usize) -> Result<(), AllocError>
         requires { k / 64 < most_words }
         ensures added { IfOk result (λ _. (i : ℕ) → holds self.new i ≡ (k == i || holds self.old i)) }
@@ -103,7 +103,7 @@ impl BitRow {
         Ok(())
     }
 
-    /// Takes a number out.
+    /// Removes a number, if it is in the set.
     pub fn remove(&mut self, k: usize)
         ensures removed { (i : ℕ) → holds self.new i ≡ (holds self.old i && not (k == i)) }
         ensures long { length self.new ≡ length self.old }
@@ -114,7 +114,7 @@ impl BitRow {
         }
     }
 
-    /// Moves the bit of each row, of this many words each, from one column to another. Where memory runs out, some may have moved.
+    /// In each row of this many words, moves the bit of one column to another column. If memory runs out, some rows may have been changed.
     pub(crate) fn move_column(
         &mut self,
         width: usize,
@@ -137,7 +137,7 @@ impl BitRow {
         Ok(())
     }
 
-    /// Puts in one number for that of a word's bit, where that one is in. Where memory runs out, that one may be out.
+    /// If the number of this bit of this word is in the set, replaces it by another number. If memory runs out, it may be missing.
     fn move_bit(&mut self, at: usize, bit: usize, to: usize) -> Result<(), AllocError>
         requires at { at < length self.old }
         requires bit { bit < 64 }
@@ -153,7 +153,7 @@ impl BitRow {
         Ok(())
     }
 
-    /// Takes out the numbers of one word.
+    /// Removes all numbers of one word.
     pub(crate) fn clear_word(&mut self, at: usize)
         ensures cleared { (i : ℕ) → holds self.new i ≡ (holds self.old i && not (at == i / 64)) }
         ensures long { length self.new ≡ length self.old }
@@ -163,7 +163,7 @@ impl BitRow {
         }
     }
 
-    /// Puts in the numbers whose bits are set in a word, as those of the word at that place. Without memory the set stays as it was.
+    /// Adds the numbers of the word at this index whose bits are set in `word`. If memory runs out, the set stays as it was.
     pub(crate) fn put_word(&mut self, at: usize, word: u64) -> Result<(), AllocError>
         requires { at < most_words }
         ensures put { IfOk result (λ _. (i : ℕ) → holds self.new i ≡ (holds self.old i || (at == i / 64 && bit_at word (i % 64) == 1))) }
@@ -175,7 +175,7 @@ impl BitRow {
         Ok(())
     }
 
-    /// Puts in what another set holds, and answers whether anything of it was missing. Without memory the set stays as it was.
+    /// Adds all numbers of another set, and answers whether any of them was missing. If memory runs out, the set stays as it was.
     pub fn join(&mut self, other: &BitRow) -> Result<bool, AllocError>
         ensures both { IfOk result (λ _. (k : ℕ) → holds self.new k ≡ (holds self.old k || holds other.now k)) }
         ensures unchanged { IfOk result (λ rose. IsFalse rose → self.new ≡ self.old) }
@@ -191,14 +191,14 @@ impl BitRow {
     }
 }
 
-/// Whether a word has the bit of a number.
+/// Whether the bit of a number is set in its word.
 fn is_set(word: u64, k: usize) -> bool
     ensures { result ≡ (bit_at word (k % 64) == 1) }
 {
     (word >> (k % 64)) & 1 == 1
 }
 
-/// A word of a row; those past its end are 0.
+/// The word of a row at an index; 0 past its end.
 fn word_at(words: &[u64], at: usize) -> u64
     ensures { result ≡ slice_index words.now at }
 {
@@ -208,7 +208,7 @@ fn word_at(words: &[u64], at: usize) -> u64
     }
 }
 
-/// Makes a row no shorter than this many words. Without memory it stays as it was.
+/// Makes a row at least this many words long. If memory runs out, it stays as it was.
 fn grow(words: &mut Words, least: usize) -> Result<(), AllocError>
     ensures same { (k : ℕ) → slice_index words.new.items k ≡ slice_index words.old.items k }
     ensures long { IfOk result (λ _. least ≤ length words.new.items) }
@@ -221,7 +221,7 @@ fn grow(words: &mut Words, least: usize) -> Result<(), AllocError>
     Ok(())
 }
 
-/// Makes memory for exactly this many words, where there is less. Without memory the row stays as it was.
+/// Reserves memory for exactly this many words, if the row is shorter. The row stays as it was, also if memory runs out.
 fn make_room(words: &mut Words, least: usize) -> Result<(), AllocError>
     ensures { words.new.items ≡ words.old.items }
 {
@@ -231,7 +231,7 @@ fn make_room(words: &mut Words, least: usize) -> Result<(), AllocError>
     Ok(())
 }
 
-/// Whether one row holds nothing that the other does not.
+/// Whether every number of one row is in the other.
 fn lies_within(some: &[u64], all: &[u64]) -> bool
     ensures within { IsTrue result → (k : ℕ) → IsTrue (holds some.now k) → IsTrue (holds all.now k) }
     ensures not_within { IsFalse result → (k : ℕ) × IsTrue (holds some.now k) × IsFalse (holds all.now k) }
@@ -246,7 +246,7 @@ fn lies_within(some: &[u64], all: &[u64]) -> bool
     true
 }
 
-/// Puts what one row holds into another. Without memory that one stays as it was.
+/// Puts the numbers of one row into another. If memory runs out, the other one stays as it was.
 fn put_words(into: &mut Words, from: &[u64]) -> Result<(), AllocError>
     ensures both { IfOk result (λ _. (k : ℕ) → holds into.new.items k ≡ (holds into.old.items k || holds from.now k)) }
     ensures few { (most : ℕ) → length into.old.items ≤ most → length from.now ≤ most → length into.new.items ≤ most }
@@ -262,7 +262,7 @@ fn put_words(into: &mut Words, from: &[u64]) -> Result<(), AllocError>
     Ok(())
 }
 
-/// Puts what one row holds into another that is no shorter.
+/// Puts the numbers of one row into another that is at least as long.
 fn put_all(into: &mut Words, from: &[u64])
     requires { length from.now ≤ length into.old.items }
     ensures long { length into.new.items ≡ length into.old.items }

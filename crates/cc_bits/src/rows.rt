@@ -1,22 +1,22 @@
-// Rows of bits of one width, one behind the other: a set of pairs.
+// Rows of bits of equal width, one after the other: a set of pairs.
 
-ghost use Rattle.std.specs.Prelude.{◌≡◌, ℕ, ◌+◌, ◌*◌, ◌/◌, ◌^◌, ◌<◌, ◌≤◌, ◌==◌, ◌||◌, ◌&&◌, not, false, if◌then◌else◌, IsTrue, IsFalse, IfOk, IfErr};
+ghost use Rattle.std.specs.Prelude.{◌≡◌, ℕ, ◌+◌, ◌*◌, ◌/◌, ◌<◌, ◌≤◌, ◌==◌, ◌||◌, ◌&&◌, not, false, if◌then◌else◌, IsTrue, IsFalse, IfOk, IfErr};
 ghost use Rattle.cc_bits.specs.Rows.{has, most_width, most_rows, column_moved, row_moved};
 
 use crate::row::BitRow;
 use std::alloc::{AllocError, Global};
 use std::marker::Model;
 
-// How many rows more a copy has room for.
+// A copy has room for this many more rows.
 const ROOM: usize = 4;
 
-/// Rows of bits: the pairs of a row and a column. Contracts see how many words a row has, and all words.
+/// A set of pairs of a row and a column. Contracts see the number of words in a row, and all words.
 #[derive(Drop)]
 pub struct BitRows {
     alloc: Global,
-    // How many words a row has.
+    // The number of words in a row.
     width: usize,
-    // Past how many rows there is no word.
+    // From this row on there are no words.
     rows: usize,
     bits: BitRow,
 }
@@ -32,7 +32,7 @@ impl Model for BitRows {
 }
 
 impl BitRows {
-    /// No row. It takes no memory.
+    /// No bits. They take no memory.
     pub fn new(alloc: Global) -> BitRows
         ensures { (r c : ℕ) → has result r c ≡ false }
     {
@@ -44,7 +44,7 @@ impl BitRows {
         }
     }
 
-    /// Past how many rows there is no bit.
+    /// From this row on no bit is set.
     pub fn rows(&self) -> usize
         ensures few { result ≤ most_rows }
         ensures past { (r c : ℕ) → result ≤ r → has self.now r c ≡ false }
@@ -52,7 +52,7 @@ impl BitRows {
         self.rows
     }
 
-    /// How many columns its rows have room for.
+    /// The number of columns for which the rows have room.
     pub fn columns(&self) -> usize
         ensures few { result ≤ 64 * most_width }
         ensures past { (r c : ℕ) → result ≤ c → has self.now r c ≡ false }
@@ -68,7 +68,7 @@ impl BitRows {
         c < 64 * self.width && self.bits.contains(64 * (self.width * r) + c)
     }
 
-    /// Sets a bit. Without memory the bits stay as they were.
+    /// Sets a bit. If memory runs out, the bits stay as they were.
     pub fn insert(&mut self, r: usize, c: usize) -> Result<(), AllocError>
         requires row { r < most_rows }
         requires column { c < 64 * most_width }
@@ -82,7 +82,7 @@ impl BitRows {
         self.put(r, c)
     }
 
-    /// Sets a bit of a column for which the rows have room.
+    /// Sets a bit in a column for which the rows have room. If memory runs out, the bits stay as they were.
     fn put(&mut self, r: usize, c: usize) -> Result<(), AllocError>
         requires row { r < most_rows }
         requires column { c < 64 * self.old.width }
@@ -105,7 +105,7 @@ impl BitRows {
         }
     }
 
-    /// The same once more, with rows of this many words at least, and with memory for some rows more.
+    /// A copy, with rows of at least this many words, and with memory for some more rows. Err: memory ran out.
     pub fn copy(&self, width: usize) -> Result<BitRows, AllocError>
         requires { width ≤ most_width }
         ensures { IfOk result (λ made. (r c : ℕ) → has made r c ≡ has self.now r c) }
@@ -121,7 +121,7 @@ impl BitRows {
         })
     }
 
-    /// The same with wider rows.
+    /// A copy with wider rows.
     fn widened(&self, width: usize) -> Result<BitRows, AllocError>
         requires wider { self.now.width ≤ width }
         requires most { width ≤ most_width }
@@ -140,7 +140,7 @@ impl BitRows {
         Ok(made)
     }
 
-    /// Sets the bits of one row in rows that are no narrower.
+    /// Sets the bits of one row in a table whose rows are at least as wide.
     fn put_row(&self, r: usize, into: &mut BitRows) -> Result<(), AllocError>
         requires row { r < most_rows }
         requires wider { self.now.width ≤ into.old.width }
@@ -155,7 +155,7 @@ impl BitRows {
         Ok(())
     }
 
-    /// Moves each row's bit from one column to another. Where memory runs out, some may have moved.
+    /// Moves the bit of one column to another in each row. If memory runs out, some may have moved.
     pub fn move_column(&mut self, from: usize, to: usize) -> Result<(), AllocError>
         requires { to < 64 * most_width }
         ensures { IfOk result (λ _. (r c : ℕ) → has self.new r c ≡ column_moved from to (has self.old) r c) }
@@ -167,7 +167,7 @@ impl BitRows {
         self.move_within(from, to)
     }
 
-    /// The same to a column for which the rows have room.
+    /// Does the same to a column for which the rows have room.
     fn move_within(&mut self, from: usize, to: usize) -> Result<(), AllocError>
         requires { to < 64 * self.old.width }
         ensures { IfOk result (λ _. (r c : ℕ) → has self.new r c ≡ column_moved from to (has self.old) r c) }
@@ -179,7 +179,7 @@ impl BitRows {
         Ok(())
     }
 
-    /// Moves the bits of one row to another. Where memory runs out, some may have moved.
+    /// Moves the bits of one row to another. If memory runs out, some may have moved.
     pub fn move_row(&mut self, from: usize, to: usize) -> Result<(), AllocError>
         requires from { from < most_rows }
         requires to { to < most_rows }
@@ -191,7 +191,7 @@ impl BitRows {
         Ok(())
     }
 
-    /// The same of one word of the row alone.
+    /// Does the same for one word of the row alone.
     fn move_word(&mut self, from: usize, to: usize, k: usize) -> Result<(), AllocError>
         requires from { from < most_rows }
         requires to { to < most_rows }
@@ -236,7 +236,8 @@ impl BitRows {
         true
     }
 
-    /// Sets the bits that another has, and answers whether any of them was missing. Without memory the bits stay as they were.
+    /// Sets the bits that are set in another table, and answers whether any of them was missing. If memory runs out, the bits stay as they
+    /// were.
     pub fn join(&mut self, other: &BitRows) -> Result<bool, AllocError>
         ensures both { IfOk result (λ _. (r c : ℕ) → has self.new r c ≡ (has self.old r c || has other.now r c)) }
         ensures unchanged { IfOk result (λ rose. IsFalse rose → (r c : ℕ) → has self.new r c ≡ has self.old r c) }
@@ -250,7 +251,7 @@ impl BitRows {
         self.join_wider(other)
     }
 
-    /// Where there is no row, the width is another.
+    /// Changes the width, if there are no rows.
     fn take_width(&mut self, width: usize)
         requires { width ≤ most_width }
         ensures { (r c : ℕ) → has self.new r c ≡ has self.old r c }
@@ -260,7 +261,7 @@ impl BitRows {
         }
     }
 
-    /// The same where the rows of both are equally wide.
+    /// Joins another table whose rows have the same width.
     fn join_same(&mut self, other: &BitRows) -> Result<bool, AllocError>
         requires { self.old.width ≡ other.now.width }
         ensures both { IfOk result (λ _. (r c : ℕ) → has self.new r c ≡ (has self.old r c || has other.now r c)) }
@@ -274,7 +275,7 @@ impl BitRows {
         Ok(rose)
     }
 
-    /// The same where one has wider rows than the other.
+    /// Joins another table whose rows have another width.
     fn join_wider(&mut self, other: &BitRows) -> Result<bool, AllocError>
         ensures both { IfOk result (λ _. (r c : ℕ) → has self.new r c ≡ (has self.old r c || has other.now r c)) }
         ensures unchanged { IfOk result (λ rose. IsFalse rose → (r c : ℕ) → has self.new r c ≡ has self.old r c) }

@@ -1,4 +1,4 @@
--- The name of an array in a unit is that of an object.
+-- The name of an array in a unit is the name of an object.
 use Rattle.std.proofs.Common.{◌≡◌, ℕ, suc, ◌+◌, Bool, true, false, true≢false, ◌||◌, if◌then◌else◌, List, [], ◌∷◌, ◌++◌, ◌⊎◌, inl, inr, Some, option_map, refl, sym, ap, ◌∙◌}
 use Rattle.cc_resolve.specs.scalar.Scalar.{Scalar}
 use Rattle.cc_resolve.specs.scalar.Scalar.TheVariants.{Int}
@@ -9,12 +9,12 @@ use Rattle.cc_resolve.specs.Types.{object_elements}
 use Rattle.cc_resolve.specs.Limits.{objects, object_name}
 use Rattle.cc_resolve.specs.Layout.{laid_from, object_number}
 
--- some objects have a name among them
+-- one of some objects has this name
 abbrev is_named : List Object → List ℕ → Bool
 is_named [] x = false
 is_named (o ∷ rest) x = same_name (object_name o).text x || is_named rest x
 
--- an array was there, or is declared now
+-- an array was there before, or is declared now
 now_by : (f : FileScope) (y x : List ℕ) (e : Entity) (t : Scalar) (b c : Bool) → same_name y x ≡ c
     → (if b then found f.bindings x else (if c then Some e else found f.bindings x)) ≡ Some (Elements t) → (found f.bindings x ≡ Some (Elements t)) ⊎ ((c ≡ true) × (e ≡ Elements t))
 now_by f y x e t true c p h = inl h

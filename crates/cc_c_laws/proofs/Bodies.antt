@@ -1,4 +1,4 @@
--- The functions of a typed unit: what their names take, `main` among them, and the scope in which each body begins.
+-- The functions of a typed unit: how many words each name takes, `main` among them, and the scope in which each body begins.
 use Rattle.std.proofs.Common.{◌≡◌, ℕ, Bool, true, false, true≢false, ◌||◌, ◌&&◌, ◌==◌, if◌then◌else◌, List, [], ◌∷◌, ◌++◌, length, map, inr, Option, Some, None, codes, refl, sym, ap, ◌∙◌, subst}
 use Rattle.std.proofs.lemmas.List.{length-map}
 use Rattle.std.proofs.lemmas.Bool.{eqb-true}
@@ -22,7 +22,7 @@ use Rattle.cc_c_laws.proofs.Scopes.{found_same, keeps_externals, signature_takes
 use Rattle.cc_c_laws.proofs.Arrays.{array_object}
 use Rattle.cc_c_laws.proofs.Scoped.{Scoped, scoped_parameters}
 
--- what a name takes: a builtin none or one word, a function that is defined as many as it has parameters
+-- how many words a name takes: a builtin none or one, a defined function as many as it has parameters
 pub data Takes (names : List (List ℕ)) (fs : List Function) (x : List ℕ) (count : ℕ) : Type 0 where
   Writes : same_name x (codes "write_word") ≡ true → count ≡ 1 → Takes names fs x count
   Reads : same_name x (codes "write_word") ≡ false → same_name x (codes "read_word") ≡ true → count ≡ 0 → Takes names fs x count
@@ -44,7 +44,7 @@ or_none : (a : Bool) → a ≡ true → (a || false) ≡ true
 or_none true e = refl
 or_none false e = e
 
--- a name that is defined is that of a function of the unit, or was defined before
+-- a defined name is that of a function of the unit, or was defined before
 defined_names : (ds : List External) (f : FileScope) (x : List ℕ) → has_name (file_scope_behind_all ds f).defined x ≡ true → (has_name f.defined x || has_name (names_in ds) x) ≡ true
 defined_names [] f x e = or_none (has_name f.defined x) e
 defined_names (Declaration s ∷ rest) f x e = defined_names rest (file_scope_behind (Declaration s) f) x e
@@ -151,7 +151,7 @@ main_named (Objects t os ∷ rest) d = main_named rest d
 abbrev pub final_scope : List External → FileScope
 final_scope unit = file_scope_behind_all unit first_file_scope
 
--- what a name takes, by what it stands for at the end of the unit
+-- how many words a name takes, by what it denotes at the end of the unit
 takes_by : (unit : List External) → IsTyped unit → (x : List ℕ) (r : Option Scalar) (ts : List Scalar) (writes reads : Bool) → same_name x (codes "write_word") ≡ writes → same_name x (codes "read_word") ≡ reads
     → found (final_scope unit).bindings x ≡ Some (scope.Function r ts) → has_name (final_scope unit).defined x ≡ true → Takes (names_in unit) (functions unit) x (length ts)
 takes_by unit typed x r ts true reads w d e has =
@@ -183,7 +183,7 @@ no_variables y u e = none (same_name (codes "write_word") y) (same_name (codes "
     none false true e = let z : Some (scope.Function (Some Int) []) ≡ Some (scope.Variable u) = e in cc
     none false false e = let z : None ≡ Some (scope.Variable u) = e in cc
 
--- nor an array
+-- no array either
 no_arrays : (y : List ℕ) (u : Scalar) → found first_file_scope.bindings y ≡ Some (scope.Elements u) → ⊥
 no_arrays y u e = none (same_name (codes "write_word") y) (same_name (codes "read_word") y) e
   where

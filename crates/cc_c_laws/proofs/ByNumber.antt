@@ -1,4 +1,4 @@
--- The meaning of a typed unit by number has what the passes ask of a meaning.
+-- The meaning of a typed unit by number satisfies the laws that the passes require of a meaning.
 use Rattle.std.proofs.Common.{◌≡◌, ℕ, ◌+◌, ◌-◌, ◌≤◌, Bool, true, false, if◌then◌else◌, List, [], ◌∷◌, length, refl, sym, ap, ◌∙◌, subst, arith}
 use Rattle.cc_resolve.specs.Tree.{External}
 use Rattle.cc_resolve.specs.Typed.{IsTyped}
@@ -63,12 +63,12 @@ wrong_written : (b : Bool) (o : List ℕ) → o ≡ written_by (if b then Unfini
 wrong_written true o = refl
 wrong_written false o = refl
 
--- with more steps what went wrong is the same, and what goes on for ever shows the same
+-- with more steps, what went wrong stays the same, and what runs for ever shows the same
 wrong_later : (b : Bool) (more : ℕ) (o : List ℕ) (z : Effect) → z ≡ (if b then Unfinished o else Failed o) → Later more (if b then Unfinished o else Failed o) z
 wrong_later true more o z e = subst (λ y. IsPrefixOf o (written_by y)) (sym e) (begins_refl o)
 wrong_later false more o z e = e
 
--- in each mode too many open calls go wrong
+-- in each mode, a call with too many open calls goes wrong
 too_deep_fails : (mode : Mode) (o : List ℕ) → gone_wrong mode Depth o ≡ Failed o
 too_deep_fails Plain o = refl
 too_deep_fails Checked o = refl

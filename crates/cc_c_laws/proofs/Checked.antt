@@ -1,4 +1,5 @@
--- A checked program beside its source: by how the source stops, and, with more steps, since a run that went wrong does the same.
+-- A checked program compared with its source: by how the source stops, and also with more steps, because a run that went wrong
+-- stays the same.
 use Rattle.std.proofs.Common.{◌≡◌, ℕ, ◌+◌, Bool, true, false, if◌then◌else◌, List, refl, sym, ap, ◌∙◌, subst}
 use Rattle.cc_simulation.specs.Behavior as runs
 use Rattle.cc_simulation.specs.Behavior.{IsPrefixOf, EndsAlike, Shows, Follows}
@@ -17,7 +18,7 @@ same_stop Going ok = refl
 same_stop (Ended w) ok = refl
 same_stop (Wrong cause) ok = absurd ok
 
--- with more steps, what went wrong is the same
+-- with more steps, what went wrong stays the same
 same_wrong : (s : Stop ℕ) (cause : Cause) (a z : Outcome ℕ) → s ≡ Wrong cause → GoesOn s a z → z ≡ a
 same_wrong Going cause a z e h = absurd (let f : ◌≡◌ {A = Stop ℕ} Going (Wrong cause) = e in cc)
 same_wrong (Ended w) cause a z e h = h
@@ -53,7 +54,7 @@ same_shown Going ok = refl
 same_shown (Ended w) ok = refl
 same_shown (Wrong cause) ok = absurd ok
 
--- what follows b follows a that is b as long as it is right
+-- what follows b follows a, if b is a as long as a is right
 follows_right : {B C R : Type 0} (a b : B → runs.Outcome R) (z : C → runs.Outcome R) → ((n : B) → runs.IsRight (a n).stop → b n ≡ a n) → Follows b z → Follows a z
 follows_right {B} {C} {R} a b z same f =
     let right : (n : B) → runs.IsRight (a n).stop → runs.IsRight (b n).stop = λ n ok. subst (λ (o : runs.Outcome R). runs.IsRight o.stop) (sym (same n ok)) ok in

@@ -1,4 +1,4 @@
--- What it says that a list of errors is empty.
+-- What follows if a list of errors is empty.
 use Rattle.std.proofs.Common.{◌≡◌, ℕ, Bool, true, false, not, ◌||◌, ◌==◌, List, [], ◌∷◌, ◌++◌, length, Option, Some, None, refl, ap, ◌∙◌}
 use Rattle.std.proofs.lemmas.Bool.{eqb-true}
 use Rattle.cc_resolve.specs.scalar.Scalar.{Scalar}
@@ -51,7 +51,7 @@ is_defined defined f rest e =
     not_false (has_name defined f.text)
     (not_broken (not (has_name defined f.text)) Undefined f.at (nil_left (broken_if (not (has_name defined f.text)) Undefined f.at) (undefined_among defined rest) e))
 
--- a name where a variable must stand is one
+-- a name in a variable's place is a variable
 pub variable_found : (r : Rule) (o : Option Entity) (at : ℕ) → variable_errors r o at ≡ [] → (t : Scalar) × (o ≡ Some (Variable t))
 variable_found r None at e = absurd (let o : RuleError = record { rule = Unknown; at = at } in let f : o ∷ [] ≡ [] = e in cc)
 variable_found r (Some (Variable t)) at e = (t, refl)

@@ -49,7 +49,7 @@ get_past (x ∷ xs) (suc i) h = get_past xs i (omega arith)
 pub reverse_cons : {A : Type 0} (x : A) (xs : List A) → reverse (x ∷ xs) ≡ reverse xs ++ (x ∷ [])
 reverse_cons x xs = reverse-append (x ∷ []) xs
 
--- the newest of some words is after all others
+-- the newest of some words comes after all others
 pub newest_last : {A : Type 0} (x : A) (xs junk : List A) → reverse (x ∷ xs) ++ junk ≡ reverse xs ++ (x ∷ junk)
 newest_last x xs junk = ap (λ (l : List _). l ++ junk) (reverse_cons x xs) ∙ append_assoc (reverse xs) (x ∷ []) junk
 
@@ -64,7 +64,7 @@ words_in ls = map (λ (l : Local). l.word) ls
 pub length_words : (ls : List Local) → length (reverse (words_in ls)) ≡ length ls
 length_words ls = length-reverse (words_in ls) ∙ length-map ls (λ (l : Local). l.word)
 
--- what is read as a local is the variable of its number
+-- reading a local is reading the variable with its number
 pub record ReadsLocal (ls : List Local) (junk : List ℕ) (x : List ℕ) (i : ℕ) : Type 0 where
   pub word : ℕ
   pub by_name : local_word ls x ≡ Some word
@@ -99,12 +99,12 @@ no_local_by : (l : Local) (behind : List Local) (x : List ℕ) (b : Bool) → sa
 no_local_by l behind x true eq e ih = absurd (let f : Some (length (names_of behind)) ≡ None = e in cc)
 no_local_by l behind x false eq e ih = ih e
 
--- a name that is no local has no word among them
+-- a name that is not a local has no word among them
 pub no_local : (ls : List Local) (x : List ℕ) → number_in (names_of ls) x ≡ None → local_word ls x ≡ None
 no_local [] x e = refl
 no_local (l ∷ behind) x e = no_local_by l behind x (same_name l.name x) refl e (no_local behind x)
 
--- writing a local is writing the variable of its number
+-- writing a local is writing the variable with its number
 pub record WritesLocal (ls : List Local) (junk : List ℕ) (x : List ℕ) (i w : ℕ) : Type 0 where
   pub names : names_of (with_local_word x w ls) ≡ names_of ls
   pub words : slice_set (reverse (words_in ls) ++ junk) i w ≡ reverse (words_in (with_local_word x w ls)) ++ junk
@@ -138,12 +138,12 @@ writes_local (l ∷ behind) junk x i w e = writes_local_by l behind junk x i w (
 
 -- ---- globals
 
--- the words of all objects, one after the other
+-- the words of all objects, one object after another
 abbrev pub all_of : List Global → List ℕ
 all_of [] = []
 all_of (g ∷ rest) = g.words ++ all_of rest
 
--- where their words are, of which the first begins at a place
+-- where the objects' words are, with the first object at this offset
 abbrev pub layout_from : ℕ → List Global → List LaidObject
 layout_from at [] = []
 layout_from at (g ∷ rest) = record { name = g.name; extent = record { offset = at; length = length g.words; width = g.width } } ∷ layout_from (at + length g.words) rest
@@ -154,7 +154,7 @@ pub record Finds (prefix : List ℕ) (gs : List Global) (x : List ℕ) (ext : Ex
   pub within : (i : ℕ) → i < ext.length → ext.offset + i < length (prefix ++ all_of gs)
   pub writes : (i w : ℕ) → i < ext.length → slice_set (prefix ++ all_of gs) (ext.offset + i) (kept ext.width w) ≡ prefix ++ all_of (with_element x i w gs)
 
--- after the words of one object more
+-- after the words of one more object
 finds_behind : (prefix : List ℕ) (g : Global) (rest : List Global) (x : List ℕ) (ext : Extent) → same_name g.name x ≡ false → Finds (prefix ++ g.words) rest x ext → Finds prefix (g ∷ rest) x ext
 finds_behind prefix g rest x ext eq h =
     let words : global_words (g ∷ rest) x ≡ global_words rest x = ap (λ c. if c then g.words else global_words rest x) eq in

@@ -1,4 +1,4 @@
--- After a call the objects have the names and the sizes that they had.
+-- After a call the objects have the same names and sizes.
 use Rattle.std.proofs.Common.{◌≡◌, ℕ, zero, suc, ◌+◌, Bool, true, false, if◌then◌else◌, List, [], ◌∷◌, length, nat_lt, Option, Some, None, is_some, slice_get, slice_set, codes, refl, ap, ◌∙◌}
 use Rattle.cc_simulation.specs.Widths.{kept}
 use Rattle.cc_resolve.specs.scalar.Scalar.{Scalar}

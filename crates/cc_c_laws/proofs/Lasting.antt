@@ -1,6 +1,6 @@
--- A part of a run with more steps, and with a larger bound on its recursion. Three facts of each part: it only adds to the
--- output; an answer takes just the steps that it spends, whatever the bound; what had no step left goes on, and what went
--- wrong goes wrong the same. Here for the ways in which parts are put together.
+-- A part of a run with more steps, and with a larger bound on its recursion. Three facts hold of each part: it only adds to the
+-- output; an answer takes just the steps that it spends, for any bound; what had no step left continues, and what went wrong goes
+-- wrong in the same way. This file shows them for the ways of combining parts.
 use Rattle.std.proofs.Common.{◌≡◌, ℕ, zero, suc, ◌+◌, ◌<◌, ◌≤◌, List, [], ◌++◌, Option, Some, None, refl, sym, ap, ◌∙◌, subst, arith, append_assoc, append-nil}
 use Rattle.cc_c_laws.specs.Meaning.{Local, State, Run, Gives, Going, Wrong, Flow, Falls, Breaks, Continues, Returns, then_do, choose, spend_of, behind_flow, behind_body, begin_body, turns, unless_decided}
 use Rattle.cc_simulation.specs.Behavior.{IsPrefixOf}
@@ -61,15 +61,15 @@ begins_begin body go s f g =
 
 -- ---- the steps of a part of a run
 
--- from k steps a part comes to r. At a bound b, `go b j` is that part from j steps, where `Within j b` says that the bound is
--- large enough
+-- a part gives r within k steps. At a bound b, `go b j` is that part within j steps; `Within j b` says that the bound is large
+-- enough.
 abbrev pub Lasts : {A B : Type 0} → (ℕ → B → Type 0) → ℕ → Run A → (B → ℕ → Run A) → Type 0
 Lasts {A} {B} Within k (Gives x t) go =
     (spent : ℕ) × (k ≡ spent + t.steps) × ((j : ℕ) (b : B) → Within (spent + j) b → go b (spent + j) ≡ Gives x (at t j))
 Lasts {A} {B} Within k (Going output) go = (j : ℕ) (b : B) → Within (k + j) b → IsPrefixOf output (written (go b (k + j)))
 Lasts {A} {B} Within k (Wrong cause output) go = (j : ℕ) (b : B) → Within (k + j) b → go b (k + j) ≡ Wrong cause output
 
--- a bound that is large enough for some steps is so for fewer
+-- a bound that is large enough for some steps is large enough for fewer
 pub record Lowers {B : Type 0} (Within : ℕ → B → Type 0) : Type 0 where
   pub lower : (j k : ℕ) (b : B) → j ≤ k → Within k b → Within j b
 
@@ -84,7 +84,7 @@ lasts_by V W f k (Going output) go other within same h = λ j c v.
     subst (λ r. IsPrefixOf output (written r)) (sym (same (k + j) c v)) (h j (f c) (within (k + j) c v))
 lasts_by V W f k (Wrong cause output) go other within same h = λ j c v. same (k + j) c v ∙ h j (f c) (within (k + j) c v)
 
--- after a first part that gives something, the rest
+-- the rest, after a first part that gives a value
 lasts_behind : {A C B : Type 0} (W : ℕ → B → Type 0) → Lowers W → (k spent : ℕ) (x : A) (t : State) (first : B → ℕ → Run A) (later : A → B → State → Run C) (r : Run C)
     → k ≡ spent + t.steps → ((j : ℕ) (b : B) → W (spent + j) b → first b (spent + j) ≡ Gives x (at t j))
     → Lasts W t.steps r (λ b j. later x b (at t j)) → Lasts W k r (λ b j. then_do (first b j) (λ y u. later y b u))
@@ -164,7 +164,7 @@ lasts_body W Breaks go s later h = lasts_gives W Falls s
 lasts_body W Continues go s later h = h
 lasts_body W (Returns w) go s later h = lasts_gives W (Returns w) s
 
--- the body of a loop, which spends a step where it begins
+-- the body of a loop, which spends a step when it begins
 pub lasts_begin : {B : Type 0} (V W : ℕ → B → Type 0) → Lowers W → (s : State) (body go : State → Run Flow) (bodies later : B → State → Run Flow)
     → ((j : ℕ) (b : B) → V (suc j) b → W j b)
     → ((i : ℕ) → suc i ≡ s.steps → Lasts W i (body (at s i)) (λ b j. bodies b (at s j)))
@@ -177,7 +177,7 @@ lasts_begin V W low s body go bodies later within f g grows grows' =
     (λ flow u le. lasts_body W flow go u later (g u (omega arith))) (λ flow b u. begins_body flow (later b) u (grows' b u)))
     (λ b u. begins_then u.output (bodies b u) (λ flow v. behind_body flow (later b) v) (grows b u) (λ flow v. begins_body flow (later b) v (grows' b v)))
 
--- ---- parts that are so from each state
+-- ---- parts for which this holds from every state
 
 pub record Steady {A B : Type 0} (W : ℕ → B → Type 0) (part : B → State → Run A) : Type 0 where
   pub grows : (b : B) (s : State) → IsPrefixOf s.output (written (part b s))
@@ -186,7 +186,7 @@ pub record Steady {A B : Type 0} (W : ℕ → B → Type 0) (part : B → State 
 pub steady_gives : {A B : Type 0} (W : ℕ → B → Type 0) (x : A) → Steady W (λ (b : B) s. Gives x s)
 steady_gives W x = record { grows = λ b s. begins_refl s.output; lasts = λ b s w. lasts_gives W x s }
 
--- one part, then another, which may see the locals from before
+-- one part, then another, which may use the earlier locals
 pub steady_then : {A C B : Type 0} (W : ℕ → B → Type 0) → Lowers W → (first : B → State → Run A) (rest : List Local → A → B → State → Run C)
     → Steady W first → ((ls : List Local) (x : A) → Steady W (rest ls x)) → Steady W (λ b s. then_do (first b s) (λ x t. rest s.locals x b t))
 steady_then W low first rest p q = record {

@@ -26,14 +26,14 @@ names_from (Objects t os ∷ rest) f = names_from rest (file_scope_behind (Objec
 pub functions_are_numbered : FunctionsAreNumbered
 functions_are_numbered unit = names_from unit first_file_scope
 
--- there are as many names, and as many numbers of parameters
+-- there are as many names as functions, and as many numbers of parameters
 pub as_many_names : (unit : List External) → length (layout_of unit).functions ≡ length (functions unit)
 as_many_names unit = sym (ap (λ (xs : List (List ℕ)). length xs) (functions_are_numbered unit)) ∙ length-map (functions unit) (λ (g : Function). g.name)
 
 pub as_many_arities : (unit : List External) → length (arities unit) ≡ length (functions unit)
 as_many_arities unit = length-map (functions unit) (λ (g : Function). length g.parameters)
 
--- an element after the first
+-- an element other than the first
 pub get_next : {A : Type 0} (x : A) (xs : List A) (k : ℕ) → slice_get (x ∷ xs) (1 + k) ≡ slice_get xs k
 get_next x xs k = ap (λ n. slice_get (x ∷ xs) n) (let z : 1 + k ≡ suc k = omega arith in z)
 
@@ -52,7 +52,7 @@ name_of_number unit x lt =
     ap (λ (xs : List (List ℕ)). unwrap_or (slice_get xs (names_before (layout_of unit).functions x)) []) (functions_are_numbered unit)
     ∙ named_number (layout_of unit).functions x (omega (arith, lt, as_many_names unit))
 
--- a name that is there has a number below the end
+-- a name in the list has a number below the length
 below_by : (y : List ℕ) (rest : List (List ℕ)) (x : List ℕ) (b : Bool) → (b || has_name rest x) ≡ true → (has_name rest x ≡ true → names_before rest x < length rest) → (if b then 0 else 1 + names_before rest x) < suc (length rest)
 below_by y rest x true e ih = omega arith
 below_by y rest x false e ih = let h = ih e in omega arith
@@ -61,7 +61,7 @@ pub number_below : (xs : List (List ℕ)) (x : List ℕ) → has_name xs x ≡ t
 number_below [] x e = absurd (true≢false (sym e))
 number_below (y ∷ rest) x e = below_by y rest x (same_name y x) e (number_below rest x)
 
--- the function of a name is the one with the name's number
+-- the function with a name is the one with the name's number
 function_by : (f : Function) (fs : List Function) (x : List ℕ) (b : Bool) → (k : ℕ) → slice_get fs k ≡ function_named fs x
     → slice_get (f ∷ fs) (if b then 0 else 1 + k) ≡ (if b then Some f else function_named fs x)
 function_by f fs x true k ih = refl
@@ -79,7 +79,7 @@ arity_of_number unit x g e =
     slice_get-map (λ (h : Function). length h.parameters) (functions unit) (names_before (layout_of unit).functions x)
     ∙ ap (option_map (λ (h : Function). length h.parameters)) (function_of_number unit x ∙ e)
 
--- a name that is there is that of a function
+-- a name in the list is that of a function
 there_by : (f : Function) (fs : List Function) (x : List ℕ) (b : Bool) → (b || has_name (map (λ (g : Function). g.name) fs) x) ≡ true
     → (has_name (map (λ (g : Function). g.name) fs) x ≡ true → (g : Function) × (function_named fs x ≡ Some g)) → (g : Function) × ((if b then Some f else function_named fs x) ≡ Some g)
 there_by f fs x true e ih = (f, refl)

@@ -1,4 +1,4 @@
--- In a typed unit each name in the body of a function leads to what the body needs.
+-- In a typed unit each name in the body of a function refers to what the body needs.
 use Rattle.std.proofs.Common.{◌≡◌, ℕ, zero, suc, ◌<◌, false, if◌then◌else◌, List, [], ◌∷◌, ◌++◌, length, map, inl, inr, Option, Some, None, slice_get, codes, refl, sym, ap, ◌∙◌, subst, arith}
 use Rattle.cc_resolve.specs.scalar.Scalar.{Scalar}
 use Rattle.cc_resolve.specs.Tree as tree
@@ -29,7 +29,7 @@ is_variable v x r =
       | inr q ↦ subst (λ o. IsPlaced o v x) (sym q.0) (sized_number v.layout.objects x q.1.0, q.1)
     ]
 
--- by what a name takes
+-- by how many words a name takes
 is_called_by : (unit : List External) (x : List ℕ) (count : ℕ) → Takes (layout_of unit).functions (functions unit) x count → IsCalled (arities unit) (callee (layout_of unit) x) count
 is_called_by unit x count (Writes is one) =
     subst (λ b. IsCalled (arities unit) (if b then WriteWord else (if same_name (codes "read_word") x then ReadWord else Defined (names_before (layout_of unit).functions x))) count)
@@ -210,7 +210,7 @@ module _ (layout : Layout) (defined : List (List ℕ)) (Taken : List ℕ → ℕ
 
 -- ---- functions
 
--- the function of a number among some external declarations
+-- the function with a number among some external declarations
 record Found (unit ds : List External) (f : FileScope) (i : ℕ) : Type 0 where
   signature : Signature
   body : Stmts

@@ -1,4 +1,4 @@
--- What names in scope lead to, in an environment and behind declarations, statements and parameters.
+-- What names in scope refer to, in an environment and after declarations, statements and parameters.
 use Rattle.std.proofs.Common.{◌≡◌, ℕ, ◌+◌, ◌≤◌, Bool, true, false, if◌then◌else◌, List, [], ◌∷◌, ◌++◌, length, ◌⊎◌, inl, inr, Option, Some, None, refl, sym, ap, ◌∙◌, subst, arith, append_assoc}
 use Rattle.cc_resolve.specs.scalar.Scalar.{Scalar}
 use Rattle.cc_resolve.specs.Names.{same_name}
@@ -16,7 +16,7 @@ use Rattle.cc_resolve.specs.Limits.{locals_of}
 abbrev pub Readable : Environment → List ℕ → Type 0
 Readable v x = ((i : ℕ) × (number_in v.locals x ≡ Some i)) ⊎ ((number_in v.locals x ≡ None) × IsOneWord (extent_of v.layout.objects x))
 
--- what names in scope lead to; `Takes f n` says that f is called with n words
+-- what names in scope refer to; `Takes f n` means that f is called with n words
 pub record Scoped (layout : Layout) (defined : List (List ℕ)) (Takes : List ℕ → ℕ → Type 0) (v : Environment) : Type 0 where
   pub laid : v.layout ≡ layout
   pub variable : (x : List ℕ) (t : Scalar) → found (types_in v) x ≡ Some (scope.Variable t) → Readable v x

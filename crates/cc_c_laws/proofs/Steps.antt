@@ -1,5 +1,5 @@
--- Each part of a program is steady: expressions and statements by recursion on the tree, calls by recursion on how many may
--- still be opened.
+-- The facts of Lasting hold of each part of a program: of expressions and statements by recursion on the tree, of calls by
+-- recursion on how many may still be opened.
 use Rattle.std.proofs.Common.{◌≡◌, ℕ, zero, suc, ◌+◌, ◌-◌, ◌<◌, ◌≤◌, List, [], ◌∷◌, ◌++◌, Bool, true, false, if◌then◌else◌, length, nat_lt, Option, Some, None, is_some, slice_get, codes, refl, sym, ◌∙◌, arith, inl, inr, true≢false}
 use Rattle.std.proofs.lemmas.Bool.Decides.{leb_tells}
 use Rattle.cc_resolve.specs.scalar.Scalar.{Scalar}
@@ -71,7 +71,7 @@ given_steady op (Some w) = steady_gives Under w
 variable_steady : (x : List ℕ) → Steady Under (λ (n : ℕ) s. Gives (variable_word x s) s)
 variable_steady x = record { grows = λ n s. begins_refl s.output; lasts = λ n s w. lasts_gives Under (variable_word x s) s }
 
--- ---- expressions, assignments, statements, where each call is steady
+-- ---- expressions, assignments, statements, if they hold of each call
 
 module _ (call : ℕ → Calls) (steady : (f ws : List ℕ) → Steady Under (λ n s. call n f ws s)) where
   mutual
@@ -151,7 +151,7 @@ module _ (call : ℕ → Calls) (steady : (f ws : List ℕ) → Steady Under (λ
   optional_steady None bs = steady_gives Under Falls
   optional_steady (Some a) bs = perform_steady a bs
 
-  -- with a new local, which is 0
+  -- with a new local, whose word is 0
   behind_local : {A : Type 0} (x : List ℕ) (part : ℕ → State → Run A) → Steady Under part → Steady Under (λ n s. part n (with_local x s))
   behind_local x part p = record { grows = λ n s. p.grows n (with_local x s); lasts = λ n s w. p.lasts n (with_local x s) w }
 
@@ -243,7 +243,7 @@ module _ (call : ℕ → Calls) (steady : (f ws : List ℕ) → Steady Under (λ
 
 -- ---- calls
 
--- a call after the tests of its name and of how many are open, with what its body does
+-- a call after the tests of its name and of how many are open, given what its body does
 abbrev pub begun : (writes reads allowed : Bool) → (ℕ → State → Run ℕ) → List ℕ → ℕ → State → Run ℕ
 begun writes reads allowed body ws n s =
     elim writes [
@@ -254,7 +254,7 @@ begun writes reads allowed body ws n s =
       ]
     ]
 
--- a bound of a body, of which a call has one more
+-- a bound of a body; a call has one more
 abbrev UpTo : ℕ → ℕ → Type 0
 UpTo k n = k < suc n
 

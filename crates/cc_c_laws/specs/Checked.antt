@@ -1,5 +1,6 @@
--- What a program shows in each mode. A plain one shows what its source does. A checked one does so too until the source goes wrong: then it
--- goes on for ever with the output so far, and never writes or ends any more. So for every cause but depth, after which nothing is owed.
+-- What a program shows in each mode. A plain program shows what its source does. So does a checked one until the source goes
+-- wrong: then it runs for ever with the output so far, without writing more and without ending. This holds for every cause but
+-- depth, after which nothing is owed.
 use Rattle.std.specs.Prelude.{◌≡◌, ℕ, ◌+◌, Bool, true, false, if◌then◌else◌, List}
 use Rattle.cc_resolve.specs.Tree.{Source}
 use Rattle.cc_c_laws.specs.Outcome.{Stop, Going, Ended, Wrong, Outcome}
@@ -9,13 +10,13 @@ use Rattle.cc_c_laws.specs.declared.cause.Cause.TheVariants.{Depth}
 use Rattle.cc_c_laws.specs.declared.mode.Mode.{Mode}
 use Rattle.cc_c_laws.specs.declared.mode.Mode.TheVariants.{Plain, Checked}
 
--- whether a program that goes wrong for this cause goes on for ever
+-- whether a program that goes wrong for this cause runs for ever
 abbrev pub stays : Mode → Cause → Bool
 stays Plain cause = false
 stays Checked Depth = false
 stays Checked cause = true
 
--- how a checked program stops if its source stops so
+-- how a checked program stops if its source stops in this way
 abbrev pub checked_stop : Stop ℕ → Stop ℕ
 checked_stop Going = Going
 checked_stop (Ended w) = Ended w
@@ -33,17 +34,18 @@ behavior mode source input n = shown mode (source_behavior source input n)
 abbrev pub checked_behavior : Source → List ℕ → ℕ → Outcome ℕ
 checked_behavior source input n = behavior Checked source input n
 
--- it has not gone wrong
+-- the run has not gone wrong
 abbrev pub IsRight : Stop ℕ → Type 0
 IsRight Going = Unit {0}
 IsRight (Ended w) = Unit {0}
 IsRight (Wrong cause) = ⊥
 
--- what a checked program shows beside its source
+-- how a checked program compares with its source
 pub record ChecksSource (source : Source) (input : List ℕ) : Type 0 where
-  -- as long as the source is right the two are the same
+  -- as long as the source is right the two show the same
   pub right : (n : ℕ) → IsRight (source_behavior source input n).stop → checked_behavior source input n ≡ source_behavior source input n
-  -- if the source goes wrong, but not for depth, the checked program goes on with that output, at each bound from there on
+  -- if the source goes wrong, but not for depth, the checked program keeps running with that output, at every larger number of
+  -- steps
   pub still : (n more : ℕ) (cause : Cause) → (source_behavior source input n).stop ≡ Wrong cause → stays Checked cause ≡ true
       → checked_behavior source input (n + more) ≡ record { stop = Going; output = (source_behavior source input n).output }
   -- it goes wrong only if the source is too deep

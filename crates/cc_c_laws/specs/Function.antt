@@ -1,4 +1,4 @@
--- The meaning of one function, as every later pass cites it: what a call of it does, its body after the step of the call,
+-- The meaning of one function, in the form that the passes use: what a call of it does, what its body does after the call's step,
 -- and what holds of both in each typed unit.
 use Rattle.std.specs.Prelude.{◌≡◌, ℕ, suc, ◌+◌, ◌-◌, ◌<◌, ◌≤◌, List, [], length, map, unwrap_or, slice_get}
 use Rattle.cc_resolve.specs.Tree.{External, Source}
@@ -10,18 +10,18 @@ use Rattle.cc_c_laws.specs.Meaning.{Global, State, Run, Gives, Going, Wrong, Fun
 use Rattle.cc_c_laws.specs.declared.cause.Cause.{Cause}
 use Rattle.cc_c_laws.specs.declared.cause.Cause.TheVariants.{Depth}
 
--- what the functions of a unit share: the globals, the input that is left, the output so far
+-- what the functions of a unit share: the globals, the rest of the input, the output so far
 pub record Shared : Type 0 where
   pub globals : List Global
   pub input : List ℕ
   pub output : List ℕ
 
--- what a call gives: its word, and what is shared after it
+-- the answer of a call: its word, and what is shared after it
 pub record Answer : Type 0 where
   pub word : ℕ
   pub shared : Shared
 
--- what a call comes to: an answer with the number of steps left, no step left, or a cause
+-- the effect of a call: an answer with the number of steps left, no step left, or a cause
 pub data Effect (A : Type 0) : Type 0 where
   Answers : A → ℕ → Effect A
   Unfinished : List ℕ → Effect A
@@ -32,11 +32,11 @@ effect_of (Gives w s) = Answers (record { word = w; shared = record { globals = 
 effect_of (Going output) = Unfinished output
 effect_of (Wrong cause output) = Failed cause output
 
--- the state in which a call begins, within n steps; its own locals are all that it sees
+-- the state in which a call begins, within n steps; it sees no locals but its own
 abbrev pub state_within : ℕ → Shared → State
 state_within n h = record { locals = []; globals = h.globals; input = h.input; output = h.output; steps = n }
 
--- the name of a function by its number, in the order of definitions
+-- the name of the function with this number, in the order of definitions
 abbrev pub name_of_function : List External → ℕ → List ℕ
 name_of_function unit f = unwrap_or (slice_get (map (λ (g : Function). g.name) (functions unit)) f) []
 
@@ -44,12 +44,12 @@ name_of_function unit f = unwrap_or (slice_get (map (λ (g : Function). g.name) 
 abbrev pub call_function : List External → (n opened f : ℕ) → List ℕ → Shared → Effect Answer
 call_function unit n opened f ws h = effect_of (calls (suc n) (functions unit) opened (name_of_function unit f) ws (state_within n h))
 
--- its body within n steps, while this many calls were open before
+-- the function's body within n steps, if this many calls were open before
 abbrev pub body_of_function : List External → (n opened f : ℕ) → List ℕ → Shared → Effect Answer
 body_of_function unit n opened f ws h =
     effect_of (run_optional (slice_get (functions unit) f) (suc n) (calls (suc n) (functions unit) (opened + 1)) ws (state_within n h))
 
--- an answer that left some steps is the same with exactly the steps that it spent, and with any more
+-- an answer that left some steps over is the same with exactly the steps that it spent, and with any more
 abbrev pub SpendsExactly : (ℕ → Effect Answer) → Type 0
 SpendsExactly effect = (n left : ℕ) (a : Answer) → effect n ≡ Answers a left → (left ≤ n) × ((more : ℕ) → effect (n - left + more) ≡ Answers a more)
 
@@ -58,27 +58,27 @@ pub record HasMeaning (unit : List External) : Type 0 where
   -- with no step left a call is unfinished
   pub none_left : (opened f : ℕ) (ws : List ℕ) (h : Shared) → f < length (functions unit) →
       call_function unit 0 opened f ws h ≡ Unfinished h.output
-  -- where the most calls are open, a call spends a step and goes wrong
+  -- while the most calls are open, a call spends a step and goes wrong
   pub too_deep : (n f : ℕ) (ws : List ℕ) (h : Shared) → f < length (functions unit) →
       call_function unit (suc n) most_open f ws h ≡ Failed Depth h.output
-  -- below that a call of n + 1 steps is the body within n
+  -- otherwise a call of n + 1 steps is the body within n
   pub spends : (n opened f : ℕ) (ws : List ℕ) (h : Shared) → f < length (functions unit) → opened < most_open →
       call_function unit (suc n) opened f ws h ≡ body_of_function unit n opened f ws h
 
--- each typed unit has it
+-- each function of a typed unit has its meaning
 abbrev pub TypedUnitsHaveMeaning : Type 0
 TypedUnitsHaveMeaning = (unit : List External) → IsTyped unit → HasMeaning unit
 
 -- ---- more steps
 
--- a run goes on from one that had fewer steps: it is the same where that one had ended or gone wrong, else that one's
--- output begins its own
+-- a run continues one that had fewer steps: it is the same if that one had ended or gone wrong; otherwise that one's output
+-- begins its own
 abbrev pub GoesOn : Stop ℕ → Outcome ℕ → Outcome ℕ → Type 0
 GoesOn outcome.Going a z = IsPrefixOf a.output z.output
 GoesOn (outcome.Ended w) a z = z ≡ a
 GoesOn (outcome.Wrong cause) a z = z ≡ a
 
--- with more steps each run only goes on
+-- with more steps each run continues
 abbrev pub RunsGoOn : Type 0
 RunsGoOn = (source : Source) (input : List ℕ) (n more : ℕ) →
     GoesOn (source_behavior source input n).stop (source_behavior source input n) (source_behavior source input (n + more))

@@ -1,4 +1,4 @@
--- how a run comes out
+-- the outcome of a run
 pub mod Outcome
 -- what a program does: the meaning of C
 pub mod Meaning
@@ -6,12 +6,13 @@ pub mod Meaning
 pub mod Checked
 -- the meaning of one function
 pub mod Function
--- what the names in a function's body lead to
+-- what the names in a function's body refer to
 pub mod Resolved
 -- what holds of every call
 pub mod Calls
--- the same by number, as the passes speak of it
+-- the same by number, in the form that the passes use
 pub mod Numbered
+-- worked examples
 pub mod rows
--- Pages of crates below that clauses here cite, handed on.
+-- Modules of the crates below that clauses here use, passed on.
 pub use Rattle.cc_resolve.specs.Layout

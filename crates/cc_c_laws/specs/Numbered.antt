@@ -1,5 +1,5 @@
--- The meaning of a unit by number in a mode, as the passes of the compiler speak of it: functions and objects by their numbers, and no
--- causes.
+-- The meaning of a unit by number in a mode, in the form that the compiler's passes use: functions and objects by their numbers,
+-- and no causes.
 use Rattle.std.specs.Prelude.{◌≡◌, ℕ, if◌then◌else◌, List, [], ◌∷◌, length, map, unwrap_or, slice_get}
 use Rattle.cc_resolve.specs.Tree.{External, Source}
 use Rattle.cc_resolve.specs.Typed.{IsTyped}
@@ -45,11 +45,11 @@ objects_in unit = map size_of (objects_of (initial_globals unit))
 
 -- ---- calls by number
 
--- a call that goes wrong: if it goes on for ever it is never finished
+-- a call that goes wrong; if the program then runs for ever, the call is never finished
 abbrev pub gone_wrong : Mode → Cause → (output : List ℕ) → Effect
 gone_wrong mode cause output = if stays mode cause then Unfinished output else Failed output
 
--- what a call comes to, without names and cause
+-- the effect of a call, without names and cause
 abbrev pub numbered : Mode → by_name.Effect by_name.Answer → Effect
 numbered mode (by_name.Answers a left) = Gives (record { value = a.word; world = world_of a.shared }) left
 numbered mode (by_name.Unfinished output) = Unfinished output
@@ -68,7 +68,7 @@ arity_in unit f = unwrap_or (slice_get (arities unit) f) 0
 
 -- ---- a unit's meaning
 
--- a meaning as the passes know one is that of a unit in a mode
+-- a meaning, in the passes' sense, is that of a unit in a mode
 pub record IsMeaning (mode : Mode) (unit : List External) (meaning : Meaning) : Type 0 where
   pub functions : meaning.functions ≡ length (functions unit)
   pub arity : meaning.arity ≡ arity_in unit
@@ -76,11 +76,11 @@ pub record IsMeaning (mode : Mode) (unit : List External) (meaning : Meaning) : 
   pub call : meaning.call ≡ call_in mode unit
   pub body : meaning.body ≡ body_in mode unit
 
--- each typed unit has one in each mode
+-- each typed unit has a meaning in each mode
 abbrev pub TypedUnitsHaveMeanings : Type 0
 TypedUnitsHaveMeanings = (mode : Mode) (unit : List External) → IsTyped unit → (meaning : Meaning) × IsMeaning mode unit meaning
 
--- by number a call and a body do what they do by name, where the objects have the names of the unit's
+-- by number a call and a body do what they do by name, if the objects have the names of the unit's objects
 abbrev pub CallsAreNumbered : Type 0
 CallsAreNumbered = (mode : Mode) (unit : List External) (n opened f : ℕ) (ws : List ℕ) (h : Shared) → names_of h.globals ≡ names_of (initial_globals unit)
     → (call_in mode unit n opened f ws (world_of h) ≡ numbered mode (call_function unit n opened f ws h))
@@ -97,7 +97,7 @@ stop_without_cause (outcome.Wrong cause) = runs.Wrong
 abbrev pub without_cause : outcome.Outcome ℕ → runs.Outcome ℕ
 without_cause o = record { stop = stop_without_cause o.stop; output = o.output }
 
--- how the call of main comes out, by its word alone
+-- the outcome of the call of main, with its word as the only result
 abbrev pub outcome_by_number : Effect → runs.Outcome ℕ
 outcome_by_number (Gives a left) = record { stop = runs.Ended a.value; output = a.world.output }
 outcome_by_number (Unfinished output) = record { stop = runs.Going; output = output }
@@ -108,7 +108,7 @@ abbrev pub ProgramsAreNumbered : Type 0
 ProgramsAreNumbered = (mode : Mode) (source : Source) → HasMain source.externals → (input : List ℕ) (n : ℕ)
     → without_cause (behavior mode source input n) ≡ outcome_by_number (call_in mode source.externals n 0 (main_of source.externals) [] (world_of (first_shared source.externals input)))
 
--- what follows a checked program follows its source
+-- whatever follows a checked program follows its source
 abbrev pub CheckedFollows : Type 0
 CheckedFollows = (source : Source) (input : List ℕ) (z : ℕ → runs.Outcome ℕ)
     → runs.Follows (λ n. without_cause (checked_behavior source input n)) z → runs.Follows (λ n. without_cause (source_behavior source input n)) z

@@ -1,4 +1,4 @@
--- How a run comes out, whatever its result is.
+-- The outcome of a run, for any type of result.
 use Rattle.std.specs.Prelude.{ℕ, List}
 use Rattle.cc_c_laws.specs.declared.cause.Cause.{Cause}
 
@@ -8,7 +8,7 @@ pub data Stop (R : Type 0) : Type 0 where
   Ended : R → Stop R
   Wrong : Cause → Stop R
 
--- how a run stops, and its output up to there
+-- how a run stops, and its output until then
 pub record Outcome (R : Type 0) : Type 0 where
   pub stop : Stop R
   pub output : List ℕ

@@ -1,6 +1,6 @@
--- What the names in the bodies of a typed unit lead to: a variable that is read or assigned is a local in scope or an object of one
--- word, a name that is indexed is an object, and a call is one of a builtin or of a function of the unit, with as many arguments as
--- it has parameters.
+-- What the names in the bodies of a typed unit refer to: a variable that is read or assigned is a local in scope or an object of
+-- one word, a name that is indexed is an object, and a call is one of a builtin or of a function of the unit, with as many
+-- arguments as it has parameters.
 use Rattle.std.specs.Prelude.{◌≡◌, ℕ, ◌<◌, List, [], ◌∷◌, length, map, Option, Some, None, slice_get}
 use Rattle.cc_simulation.specs.operators.Width.TheVariants.{Word}
 use Rattle.cc_resolve.specs.scalar.Scalar.{Scalar}
@@ -37,13 +37,13 @@ IsPlaced (Some number) v x = Unit {0}
 abbrev pub IsVariable : Environment → List ℕ → Type 0
 IsVariable v x = IsPlaced (number_in v.locals x) v x
 
--- this many arguments are those of a builtin, or of a function of the unit, where the functions have these numbers of parameters
+-- this many arguments are right for a builtin, or for a function of the unit, given the functions' numbers of parameters
 abbrev pub IsCalled : (arities : List ℕ) → Callee → (count : ℕ) → Type 0
 IsCalled arities WriteWord count = count ≡ 1
 IsCalled arities ReadWord count = count ≡ 0
 IsCalled arities (Defined f) count = slice_get arities f ≡ Some count
 
--- ---- each name of an expression, an action, a statement
+-- ---- every name in an expression, an action, a statement
 
 abbrev mutual
   pub ExprResolved : List ℕ → Environment → Expr → Type 0
@@ -113,7 +113,8 @@ abbrev mutual
 
 -- ---- functions
 
--- function f of a unit: its definition, the environment in which its body begins, and that each name of the body is resolved
+-- function f of a unit: its definition, the environment in which its body begins, and the fact that each name of the body is
+-- resolved
 pub record IsResolved (unit : List External) (f : ℕ) : Type 0 where
   pub signature : Signature
   pub body : Stmts
@@ -122,7 +123,7 @@ pub record IsResolved (unit : List External) (f : ℕ) : Type 0 where
   pub begins : slice_get (environments unit) f ≡ Some environment
   pub locals : environment.locals ≡ parameter_names signature.parameters []
   pub layout : environment.layout ≡ layout_of unit
-  -- the function as the meaning has it
+  -- the function in the sense of the meaning
   pub function : slice_get (functions unit) f
       ≡ Some (record { name = signature.name.text; parameters = map (λ (p : Parameter). text_of p.name) signature.parameters; body = body; visible = environment.visible })
   pub resolved : StmtsResolved (arities unit) environment body

@@ -1,8 +1,9 @@
-//! The meaning of C: what a typed unit does on an input within a number of steps. It stands in `specs/`, and nothing here runs a
-//! program: `cc_meaning` has the interpreter, which is exactly it, and the passes follow it.
+//! The meaning of C: what a typed unit does on an input within a number of steps. It is defined in `specs/`. Nothing in this
+//! crate runs a program: `cc_meaning` has the interpreter, whose results are exactly this meaning, and the passes follow it.
 //!
-//! `cause` has why a program goes wrong, `mode` what a compiled program then owes; `laws` has what holds of every program: the
-//! functions there do nothing, and the contract of each is a law of these definitions.
+//! - `cause`: why a program goes wrong.
+//! - `mode`: what a compiled program then owes.
+//! - `laws`: what holds of every program. These functions do nothing; the contract of each is a law of the definitions.
 #![tactic(auto)]
 
 mod cause;

@@ -1,4 +1,4 @@
--- What a call of a unit of a library answers.
+-- The answer to a call of a library's unit.
 use Rattle.std.specs.Prelude.{◌≡◌, ℕ, Bool, List, [], ◌++◌, Option, Some, None, codes}
 use Rattle.std.specs.Io.KnownBytes.{Appends}
 use Rattle.cc_rv32.specs.declared.image.Image.{Image}
@@ -14,11 +14,11 @@ use Rattle.cc_runs.specs.Written.{counted_text}
 use Rattle.cc_call.specs.declared.lines.LineEnd.{LineEnd}
 use Rattle.cc_call.specs.declared.lines.LineEnd.TheVariants.{Answered, BadLine, OutOfMemory}
 
--- the disk's bytes recover to a map, in which the name has this unit
+-- the disk's bytes recover to a map in which the name has this unit
 abbrev pub IsUnitOn : (seen name : List ℕ) → StoredUnit → Type 0
 IsUnitOn seen name unit = (units : Units) × Recovers seen units × IsFound units name unit
 
--- it is what the image of that unit does on the input words within the bound, with its count exactly if that is asked for
+-- the run is what the image of that unit does on the input words within the bound, with its count exactly if that is asked for
 abbrev pub IsCallOn : (seen name : List ℕ) (counted : Bool) (steps : ℕ) (words : List ℕ) → CountedRun → Type 0
 IsCallOn seen name counted steps words run = (unit : StoredUnit) × IsUnitOn seen name unit × IsCounted unit.image counted steps words run
 
@@ -32,7 +32,7 @@ answer_text run = counted_text run ++ codes "\n"
 abbrev pub refusal_text : (number : ℕ) → List ℕ
 refusal_text number = fault_line number [] ++ codes "\n"
 
--- the run of the image on the words of a line was written; or 50 exactly if it is no list of words; or memory was refused
+-- the run of the image on the words of a line was written; or 50, exactly if the line is not a list of words; or memory was refused
 abbrev pub AnswersLine : Image → (counted : Bool) (steps : ℕ) (line : List ℕ) (old new : Option (List ℕ)) → LineEnd → Type 0
 AnswersLine image counted steps line old new Answered =
     (words : List ℕ) × (input_in line ≡ Some words) × ((run : CountedRun) × IsCounted image counted steps words run × Appends old new (answer_text run))

@@ -1,4 +1,8 @@
--- What a call of a unit answers.
+-- The answer to a call of a unit.
 pub mod Call
+-- What is answered to line after line.
+pub mod Lines
 -- What the image of a unit takes.
 pub mod Measured
+-- What only private contracts speak of.
+pub mod internal

@@ -1,10 +1,9 @@
-// Running the image of a unit of a library on input words.
+// Running the image of a library's unit on input words.
 
-ghost use Rattle.std.specs.Prelude.{◌≡◌, IfOk, IfErr, IsTrue};
+ghost use Rattle.std.specs.Prelude.{IfOk, IfErr, IsTrue};
 ghost use Rattle.std.specs.Arc.{arc_value};
 ghost use Rattle.cc_disk.specs.Images.{OnlyReads};
 ghost use Rattle.cc_tasks.specs.Part.{IsFound, IsNoPartIn, IsNoPartOn};
-ghost use Rattle.cc_runs.specs.Count.{IsCounted};
 ghost use Rattle.cc_call.specs.Call.{IsCallOn, IsUnitOn};
 
 use cc_disk::Disk;
@@ -16,9 +15,9 @@ use std::alloc::Global;
 use std::io::Write;
 use std::sync::Arc;
 
-/// The unit that has this name in a map.
+/// The unit with this name in a map.
 ///
-/// Refusals, in this order: 33 where the bytes are no name, 32 where no unit has it.
+/// Refusals, in this order: 33 if the bytes are not a name, 32 if no unit has the name.
 pub fn unit_in(units: &UnitMap, name: &[u8]) -> Result<Arc<StoredUnit>, PartFault>
     ensures found { IfOk result (λ unit. IsFound units.now name.now (arc_value unit)) }
     ensures refused { IfErr result (λ fault. IsNoPartIn units.now name.now fault) }
@@ -35,8 +34,8 @@ pub fn unit_in(units: &UnitMap, name: &[u8]) -> Result<Arc<StoredUnit>, PartFaul
     }
 }
 
-/// The unit that the library on a disk keeps under this name; the disk is handed back, and nothing is written to it. Of a name that no unit has
-/// it is written to `explanations` which one is near.
+/// The unit that the library on a disk keeps with this name. The disk is handed back, and nothing is written to it. If no unit has the
+/// name, a similar name is written to `explanations`.
 ///
 /// Refusals: first those of `Library::open`, 35, 38, 37 and 40; then those of `unit_in`.
 pub fn unit_on<D: Disk + Drop, E: Write>(
@@ -45,7 +44,7 @@ pub fn unit_on<D: Disk + Drop, E: Write>(
     name: &[u8],
     explanations: &mut E,
 ) -> (Result<Arc<StoredUnit>, PartFault>, D)
-    // Of an honest disk it is the unit of the map to which the disk recovers.
+    // On an honest disk it is the unit of the map to which the disk recovers.
     ensures found { IfOk result.0 (λ unit. IsTrue D.honest → IsUnitOn (D.seen disk) name.now (arc_value unit)) }
     ensures refused { IfErr result.0 (λ fault. IsNoPartOn D.honest (D.seen disk) (D.failures disk) (D.failures result.1) name.now fault) }
     ensures reads { IsTrue D.honest → OnlyReads D.seen D.may_leave D.moment D.left_since disk result.1 }
@@ -62,10 +61,10 @@ pub fn unit_on<D: Disk + Drop, E: Write>(
     }
 }
 
-/// What the stored image of the unit of this name does on the input words within this many instructions, and the least number of instructions
-/// with that end, if that is asked for. Nothing is compiled, and nothing is written to the disk.
+/// What the stored image of the unit with this name does on the input words within this many instructions, and, if `is_counted`, the least
+/// number of instructions with that result. Nothing is compiled, and nothing is written to the disk.
 ///
-/// Refusals: those of `unit_on`; 40 where memory was refused as it ran.
+/// Refusals: those of `unit_on`; 40 if memory was refused during the run.
 pub fn call<D: Disk + Drop, E: Write>(
     alloc: Global,
     disk: D,
@@ -75,7 +74,7 @@ pub fn call<D: Disk + Drop, E: Write>(
     is_counted: bool,
     explanations: &mut E,
 ) -> (Result<CountedRun, PartFault>, D)
-    // Of an honest disk the answer is that of the unit of the map to which the disk recovers.
+    // On an honest disk the answer is that of the unit of the map to which the disk recovers.
     ensures run { IfOk result.0 (λ run. IsTrue D.honest → IsCallOn (D.seen disk) name.now is_counted steps words.now run) }
     ensures refused { IfErr result.0 (λ fault. IsNoPartOn D.honest (D.seen disk) (D.failures disk) (D.failures result.1) name.now fault) }
     ensures reads { IsTrue D.honest → OnlyReads D.seen D.may_leave D.moment D.left_since disk result.1 }

@@ -1,8 +1,11 @@
 // Runs of one image, each on the words of a line.
 
-ghost use Rattle.std.specs.Prelude.{IfOk, OnOk};
+ghost use Rattle.std.specs.Prelude.{◌≡◌, IfOk, IfSome, OnOk};
 ghost use Rattle.std.specs.Io.KnownBytes.{Appends};
+ghost use Rattle.std.specs.Io.BufRead.{strip_last};
 ghost use Rattle.cc_call.specs.Call.{AnswersLine, answer_text, refusal_text};
+ghost use Rattle.cc_call.specs.Lines.{CallsLines};
+ghost use Rattle.cc_call.specs.internal.Reading.{IsNextLine, IsToldUnread, end_after};
 
 use cc_answers::{Stands, write_fault_line};
 use cc_runs::{CountedRun, run_words, words_in, write_counted_run};
@@ -10,29 +13,29 @@ use cc_rv32::image::Image;
 use std::alloc::Global;
 use std::io::{self, BufRead, ErrorKind, Write};
 
-/// What was answered to a line.
+/// How a line was answered.
 #[derive(Clone, Copy, Debug, Drop, PartialEq, Eq)]
 pub enum LineEnd {
-    /// The run on its words.
+    /// With the run on its words.
     Answered,
-    /// 50: it is no list of words.
+    /// 50: it is not a list of words.
     BadLine,
     /// 40: memory was refused.
     OutOfMemory,
 }
 
-/// What has become of the lines.
+/// How the lines ended.
 #[derive(Clone, Copy, Debug, Drop, PartialEq, Eq)]
 pub enum LinesEnd {
-    /// Each was a list of words, and its run was answered.
+    /// Each line was a list of words, and its run was answered.
     Answered,
-    /// A line was no list of words, or could not be read (53), or memory was refused (40): it is written so.
+    /// A line was not a list of words, or could not be read (53), or memory was refused (40): the answers say so.
     Refused,
     /// 54: an answer could not be written.
     Unwritten,
 }
 
-// Writes the line of a fault, and an empty one.
+// Writes the line of a fault, and an empty line.
 #[tactic(auto, using(cc_answers::proofs::Writing::written_on))]
 fn write_refusal<W: Write>(number: u32, writer: &mut W) -> io::Result<()>
     ensures { OnOk result (Appends (W.contents writer.old) (W.contents writer.new) (refusal_text number)) }
@@ -50,8 +53,8 @@ fn write_answer<W: Write>(run: &CountedRun, writer: &mut W) -> io::Result<()>
     writer.write_all(b"\n")
 }
 
-/// Runs an image on the words of a line, which is given without its newline, and writes what `run` would, and an empty line; the line of 50
-/// and an empty one where it is no list of words, that of 40 where memory was refused.
+/// Runs an image on the words of a line, which is given without its newline. Writes what `run` would write, and an empty line. If it is not
+/// a list of words, writes the line of fault 50 and an empty one; if memory was refused, that of fault 40.
 pub fn answer_line<W: Write>(
     alloc: Global,
     image: &Image,
@@ -86,14 +89,18 @@ pub fn answer_line<W: Write>(
 }
 
 // A line without its newline.
-fn without_newline(line: &[u8]) -> &[u8] {
-    match line.split_last() {
-        Some((b'\n', rest)) => rest,
-        _ => line,
+fn without_newline(line: &[u8]) -> &[u8]
+    ensures { result.now ≡ strip_last 10 line.now }
+{
+    let count = line.len();
+    if 0 < count && line[count - 1] == b'\n' {
+        return &line[..count - 1];
     }
+    line
 }
 
 // Answers one line, and flushes the answer.
+#[tactic(auto, using(crate::proofs::Turns::answered_on))]
 fn tell_line<W: Write>(
     alloc: Global,
     image: &Image,
@@ -101,35 +108,56 @@ fn tell_line<W: Write>(
     is_counted: bool,
     line: &[u8],
     writer: &mut W,
-) -> io::Result<LineEnd> {
-    let end = answer_line(
-        alloc,
-        image,
-        steps,
-        is_counted,
-        without_newline(line),
-        writer,
-    )?;
+) -> io::Result<LineEnd>
+    ensures { IfOk result (AnswersLine image.now is_counted steps (strip_last 10 line.now) (W.contents writer.old) (W.contents writer.new)) }
+{
+    let line = without_newline(line);
+    let end = answer_line(alloc, image, steps, is_counted, line, writer)?;
     writer.flush()?;
     Ok(end)
 }
 
 // Says why the next line could not be read.
-fn tell_unread<W: Write>(error: io::Error, writer: &mut W) -> LinesEnd {
+fn tell_unread<W: Write>(error: io::Error, writer: &mut W) -> LinesEnd
+    ensures { IsToldUnread (W.contents writer.old) (W.contents writer.new) result }
+{
     let number = if error.kind() == ErrorKind::OutOfMemory {
         40
     } else {
         53
     };
     drop(error);
-    if write_refusal(number, writer).is_err() || writer.flush().is_err() {
-        return LinesEnd::Unwritten;
+    match write_refusal(number, writer) {
+        Ok(()) => match writer.flush() {
+            Ok(()) => LinesEnd::Refused,
+            Err(_) => LinesEnd::Unwritten,
+        },
+        Err(_) => LinesEnd::Unwritten,
     }
-    LinesEnd::Refused
 }
 
-/// Runs an image on the words of each line of a reader, as `answer_line` does, and flushes each answer before it reads the next line. A line
-/// that is no list of words doesn't end it; lack of memory does.
+// Reads the next line with its newline, in place of what is in the buffer: whether there is one.
+fn next_line<R: BufRead>(reader: &mut R, line: &mut Vec<u8>) -> io::Result<bool>
+    ensures { IfOk result (IsNextLine (R.remaining reader.old) (R.remaining reader.new) line.new.items) }
+{
+    line.clear();
+    let count = reader.read_until(b'\n', line)?;
+    Ok(0 < count)
+}
+
+// How the lines so far end with one more; none if no other follows it.
+fn end_after(end: LinesEnd, line: LineEnd) -> Option<LinesEnd>
+    ensures { result ≡ end_after end line }
+{
+    match line {
+        LineEnd::Answered => Some(end),
+        LineEnd::BadLine => Some(LinesEnd::Refused),
+        LineEnd::OutOfMemory => None,
+    }
+}
+
+/// Runs an image on the words of each line of a reader, as `answer_line` does, and flushes each answer before it reads the next line. A
+/// line that is not a list of words does not end it; lack of memory does.
 pub fn call_lines<R: BufRead, W: Write>(
     alloc: Global,
     image: &Image,
@@ -137,22 +165,29 @@ pub fn call_lines<R: BufRead, W: Write>(
     is_counted: bool,
     reader: &mut R,
     writer: &mut W,
-) -> LinesEnd {
+) -> LinesEnd
+    // Of a reader whose bytes are known.
+    ensures lines { IfSome (R.remaining reader.old) (λ input.
+        CallsLines image.now is_counted steps input (W.contents writer.old) (W.contents writer.new) result) }
+{
     let mut end = LinesEnd::Answered;
     let mut line = Vec::new(alloc);
     for _ in 0..u64::MAX {
-        line.clear();
-        match reader.read_until(b'\n', &mut line) {
-            Ok(0) => return end,
-            Ok(_) => {}
+        match next_line(reader, &mut line) {
+            Ok(true) => {}
+            Ok(false) => return end,
             Err(error) => return tell_unread(error, writer),
         }
-        match tell_line(alloc, image, steps, is_counted, line.as_slice(), writer) {
-            Ok(LineEnd::Answered) => {}
-            Ok(LineEnd::BadLine) => end = LinesEnd::Refused,
-            Ok(LineEnd::OutOfMemory) => return LinesEnd::Refused,
+        let bytes = line.as_slice();
+        let answered = match tell_line(alloc, image, steps, is_counted, bytes, writer) {
+            Ok(answered) => answered,
             Err(_) => return LinesEnd::Unwritten,
+        };
+        match end_after(end, answered) {
+            Some(next) => end = next,
+            None => return LinesEnd::Refused,
         }
     }
-    end
+    // There were more lines than a number counts.
+    LinesEnd::Refused
 }

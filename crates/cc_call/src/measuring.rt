@@ -1,4 +1,4 @@
-// What the image of a unit of a library takes.
+// How much memory the image of a library's unit takes.
 
 ghost use Rattle.std.specs.Prelude.{IfOk, IfErr, IsTrue};
 ghost use Rattle.cc_disk.specs.Images.{OnlyReads};
@@ -14,16 +14,16 @@ use cc_unit::StoredUnit;
 use std::alloc::{AllocError, Global};
 use std::io::Write;
 
-/// What the image of a stored unit takes.
+/// How much memory the image of a stored unit takes.
 #[derive(Drop)]
 pub enum StoredSize {
-    /// What it takes, of the unit made again along its certificate.
+    /// The measure of the unit, which was rebuilt from its certificate.
     Confirmed(Measure),
-    /// An audit does not confirm the unit: what it says.
+    /// An audit does not confirm the unit; this is its result.
     Left(Audit),
 }
 
-// What the image of a unit takes.
+// How much memory the image of a unit takes.
 fn size_of_unit(alloc: Global, mode: Mode, unit: &StoredUnit) -> Result<StoredSize, AllocError>
     ensures { IfOk result (IsSizeOf mode unit.now) }
 {
@@ -40,10 +40,10 @@ fn size_of_unit(alloc: Global, mode: Mode, unit: &StoredUnit) -> Result<StoredSi
     }
 }
 
-/// What the image of the unit of this name takes, made again along its certificate in a mode; what an audit says of it if that does not confirm
-/// it. Nothing is written to the disk.
+/// How much memory the image of the unit with this name takes, rebuilt from its certificate in a mode; or the result of the audit, if that
+/// does not confirm the unit. Nothing is written to the disk.
 ///
-/// Refusals: those of `unit_on`; 40 where memory was refused.
+/// Refusals: those of `unit_on`; 40 if memory was refused.
 pub fn size_on<D: Disk + Drop, E: Write>(
     alloc: Global,
     disk: D,
@@ -51,7 +51,7 @@ pub fn size_on<D: Disk + Drop, E: Write>(
     mode: Mode,
     explanations: &mut E,
 ) -> (Result<StoredSize, PartFault>, D)
-    // Of an honest disk the answer is of the unit of the map to which the disk recovers.
+    // On an honest disk the answer is about the unit of the map to which the disk recovers.
     ensures size { IfOk result.0 (λ size. IsTrue D.honest → IsSizeOn mode (D.seen disk) name.now size) }
     ensures refused { IfErr result.0 (IsUnmeasured D.honest (D.seen disk) (D.failures disk) (D.failures result.1) name.now) }
     ensures reads { IsTrue D.honest → OnlyReads D.seen D.may_leave D.moment D.left_since disk result.1 }

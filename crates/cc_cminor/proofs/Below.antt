@@ -1,4 +1,4 @@
--- Numbers below a limit are below a greater one.
+-- Numbers below a limit are below a larger one.
 use Rattle.std.proofs.Common.{ℕ, ◌<◌, ◌≤◌, List, [], ◌∷◌, Option, Some, None, arith}
 use Rattle.cc_cminor.specs.Cminor.{Expression, Constant, Local, Unary, Binary, Load, Statement, Skip, Set, Store, Call, Read, Write, Sequence, If, Loop, Block, Exit, Return}
 use Rattle.cc_cminor.specs.Numbers.{ExpressionBelow, ExpressionsBelow, ResultBelow, StatementBelow}

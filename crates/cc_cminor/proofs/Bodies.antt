@@ -1,4 +1,4 @@
--- The code of a function keeps up with its body, from what the meaning hands out.
+-- The code of a function keeps up with its body, by the laws of the meaning.
 use Rattle.std.proofs.Common.{◌≡◌, ◌⊎◌, inl, inr, ℕ, suc, ◌+◌, ◌<◌, Bool, true, false, if◌then◌else◌, List, [], ◌∷◌, length, map, option_map, Option, Some, None, unwrap_or, get_or, slice_get, refl, sym, ap, ◌∙◌, subst, arith}
 use Rattle.std.proofs.lemmas.List.{length-map}
 use Rattle.std.proofs.lemmas.Option.{slice_get-get_or, slice_get-map}
@@ -58,7 +58,7 @@ other_names (x ∷ xs) = xs
 abbrev unnamed : NamedSize → world.Size
 unnamed z = record { width = z.width; elements = z.elements }
 
--- objects of a world with the names of the layout
+-- the objects of a world, with the names of the layout
 sized_named : (ps : List LaidObject) (xs : List (List ℕ)) (os : List world.Object) → xs ≡ map (λ (p : LaidObject). p.name) ps → map world.size_of os ≡ map unnamed (laid_sizes ps)
     → (sizes (named xs os) ≡ laid_sizes ps) × (objects_of (named xs os) ≡ os)
 sized_named [] [] [] e f = (refl, refl)
@@ -84,11 +84,11 @@ sized_named (p ∷ ps) (x ∷ xs) (o ∷ os) e f =
 
 -- ---- the end of a run
 
--- some cut keeps what is owed
+-- some cut shows what is required
 abbrev pub Kept : Calling → ℕ → Effect → Config → Type 0
 Kept effect n source c = (most : ℕ) × (most_steps : ℕ) × Keeping cminor_move cminor_output effect.does 1 n source c most most_steps
 
--- or, in a mode in which a program that goes wrong goes on for ever, the run breaks
+-- otherwise, in a mode in which a program that goes wrong runs for ever, the run breaks
 abbrev Broken : Mode → (ℕ → Question → Effect) → Effect → Config → Type 0
 Broken Plain does source c = ⊥
 Broken Checked does source c = BreaksAt cminor_move cminor_output does source c
@@ -101,7 +101,7 @@ IsNotFailed (world.Gives a left) = Unit {0}
 IsNotFailed (world.Unfinished o) = Unit {0}
 IsNotFailed (world.Failed o) = ⊥
 
--- and if the source goes wrong the run does
+-- if the source goes wrong the run does too
 abbrev Owed : Calling → ℕ → Effect → Config → Type 0
 Owed effect n source c = KeptOrBroken effect n source c × ((o : List ℕ) → source ≡ world.Failed o → Lost effect c o)
 
@@ -251,7 +251,7 @@ module _ (effects : CallsAreEffects) (keep : CallsKeepObjects) (functions_are : 
   lowered_keeps_up unit typed f r = λ m is opened below ws h call n.
       elim (lowered_kept Plain unit typed f r m is opened ws h call n).0 [ inl x ↦ x | inr x ↦ absurd x ]
 
-  -- and it goes wrong as its function does
+  -- the code goes wrong as its function does
   pub lowered_fails_alike : (unit : List External) → IsTyped unit → (f : ℕ) (r : IsResolved unit f) → FailsAlike unit f (body_code (layout_of unit) r.environment r.body)
   lowered_fails_alike unit typed f r = λ m is opened below ws h call n. (lowered_kept Checked unit typed f r m is opened ws h call n).0
 

@@ -1,4 +1,5 @@
--- What a branch tests goes the way that the value of its expression goes: where the one is 0 the other is, or, exchanged, is not.
+-- What a branch tests decides in the same way as the value of its expression: one is 0 exactly if the other is, or, if the
+-- branches are exchanged, exactly if it is not.
 use Rattle.std.proofs.Common.{◌≡◌, ◌⊎◌, inl, inr, ℕ, zero, suc, ◌-◌, ◌==◌, not, Bool, true, false, if◌then◌else◌, Option, Some, None, bit_xor, refl, sym, ap, ◌∙◌, subst, arith}
 use Rattle.std.proofs.Math.Bool.{not-not}
 use Rattle.std.proofs.lemmas.Bool.{ne_eqb}
@@ -20,7 +21,7 @@ abbrev flipped : (reversed holds : Bool) → Bool
 flipped true b = not b
 flipped false b = b
 
--- an expression is tested in place of one whose value is w
+-- a branch tests this in place of an expression with value w
 record Tests (e : Expression) (reversed : Bool) (l : ℕ → ℕ) (h : World) (w : ℕ) : Type 0 where
   word : ℕ
   is : value e l h ≡ Some word
@@ -60,7 +61,7 @@ nothing_is (Unary op a) l h b e is = absurd (cc)
 nothing_is (Binary op a c) l h b e is = absurd (cc)
 nothing_is (Load width o a) l h b e is = absurd (cc)
 
--- `==` and `!=`: the left operand where the right one is 0, else a word that is 0 where they are equal
+-- `==` and `!=`: the left operand if the right one is 0, else a word that is 0 exactly if they are equal
 equality_tests : (x y : Expression) (r : Bool) (l : ℕ → ℕ) (h : World) (a b w : ℕ) → value x l h ≡ Some a → value y l h ≡ Some b → not (a == b) ≡ flipped r (is_true w)
     → Tests (if is_nothing y then x else Binary two.Xor x y) r l h w
 equality_tests x y r l h a b w p q e = by (is_nothing y) refl

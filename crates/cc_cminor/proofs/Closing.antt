@@ -1,4 +1,4 @@
--- At the end of a scope its locals are taken back, and all is as it was before.
+-- At the end of a scope its locals are removed, and everything is as before it.
 use Rattle.std.proofs.Common.{◌≡◌, ℕ, zero, suc, ◌+◌, ◌-◌, ◌≤◌, ◌<◌, List, [], ◌∷◌, ◌++◌, length, take, drop, refl, sym, ap, ◌∙◌, subst, arith}
 use Rattle.cc_tokens.specs.declared.scalar.Scalar.{Scalar}
 use Rattle.cc_ast.specs.Tree as tree
@@ -11,7 +11,7 @@ use Rattle.std.proofs.Math.Seq.{take-append_seam, drop-append_seam}
 use Rattle.cc_resolve.specs.Environment.{Environment, inner, with_local, with_locals, behind, behind_beginning}
 use Rattle.cc_cminor.specs.internal.Lowering.{behind_all}
 
--- some of the newest locals taken back, but none of the first so many
+-- some of the newest locals are removed, but none of this many first ones
 pub record Closing (locals : ℕ) (v w : Environment) : Type 0 where
   pub taken : ℕ
   pub few : taken ≤ length v.locals - locals
@@ -38,7 +38,7 @@ closing-next locals number v w u h n lt e =
       layout = ap (λ (x : Environment). x.layout) e ∙ h.layout;
     }
 
--- a scope begun in v goes on in w: more locals may stand in front
+-- a scope opened in v continues in w, possibly with more locals
 pub record Within (v w : Environment) : Type 0 where
   pub newer : List (List ℕ)
   pub names : w.locals ≡ newer ++ v.locals
@@ -87,7 +87,7 @@ drop-newer (x ∷ newer) old =
     longer [] old = omega arith
     longer (x ∷ newer) old = let h = longer newer old in omega arith
 
--- closing the scope gives what was before it
+-- closing the scope restores what was before it
 closed-again : (v w : Environment) → Within (inner v) w
     → record w { visible = closed (length v.visible.inner) w.visible; locals = drop (length w.locals - length v.locals) w.locals } ≡ v
 closed-again v w h =
@@ -104,7 +104,7 @@ closed-again v w h =
     at : List Binding → List Binding → List (List ℕ) → Layout → Environment
     at a b l g = record { visible = record { inner = a; outer = b }; locals = l; layout = g }
 
--- the same of numbers that were asked before the scope
+-- the same for the numbers noted before the scope
 pub closed-back : (v w u : Environment) (around locals : ℕ) → Within (inner v) w → around ≡ length v.visible.inner → locals ≡ length v.locals
     → u ≡ record w { visible = closed around w.visible; locals = drop (length w.locals - locals) w.locals } → u ≡ v
 closed-back v w u around locals h a b e =
@@ -116,7 +116,7 @@ around-fits v w around h a =
     let e : length w.visible.outer ≡ length v.visible.inner + length v.visible.outer = ap (λ (l : List Binding). length l) h.outer ∙ length-append v.visible.inner v.visible.outer in
     omega arith
 
--- what a scope goes on in
+-- what a scope continues in
 pub in-statement : (s : Stmt) (v u w : Environment) → u ≡ inner v → w ≡ behind s u → Within (inner v) w
 in-statement s v u w e f = subst (λ x. Within (inner v) x) (sym (f ∙ ap (behind s) e)) (within-behind s (inner v) (inner v) (within-same (inner v)))
 

@@ -1,4 +1,4 @@
--- The Cminor of what the code puts together.
+-- The Cminor that the code's functions build.
 use Rattle.std.proofs.Common.{rules, ◌≡◌, List, [], ◌∷◌, ◌++◌, Result, Ok, Err, IfOk, OnOk, refl, ap}
 use Rattle.cc_cminor.specs.Code.{expression_of, expressions_of, statement_of, statements_in, in_sequence}
 use Rattle.cc_cminor.specs.internal.Statements.{statements_of}

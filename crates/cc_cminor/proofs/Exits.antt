@@ -1,4 +1,4 @@
--- Each exit in the code of a body leaves blocks that there are: a loop's body is inside two, and only in a loop is there an exit.
+-- Each exit in the code of a body leaves blocks that exist: a loop's body is inside two, and an exit occurs only in a loop.
 use Rattle.std.proofs.Common.{ℕ, suc, ◌<◌, ◌≤◌, ◌&&◌, Bool, true, false, if◌then◌else◌, List, [], ◌∷◌, ◌++◌, Option, Some, None, arith}
 use Rattle.cc_tokens.specs.declared.scalar.Scalar.{Scalar}
 use Rattle.cc_tokens.specs.declared.scalar.Scalar.TheVariants.{Int}

@@ -1,5 +1,5 @@
--- What is known of the names of a body, over one layout. It is what the meaning hands out of a typed unit's functions, without the
--- numbers of arguments.
+-- What is known about the names of a body, over one layout. It is what the meaning's laws say about a typed unit's functions,
+-- without the numbers of arguments.
 use Rattle.std.proofs.Common.{◌≡◌, ℕ, ◌<◌, List, [], ◌∷◌, length, Option, Some, None, slice_get, refl, sym, ◌∙◌, subst, arith}
 use Rattle.std.proofs.lemmas.Option.{slice_get_within}
 use Rattle.cc_tokens.specs.declared.scalar.Scalar.{Scalar}
@@ -88,7 +88,7 @@ abbrev mutual
   AllKnownIn g v end = Unit {0}
   AllKnownIn g v (next first rest) = KnownIn g v first × AllKnownIn g (behind first v) rest
 
--- ---- of what the meaning hands out
+-- ---- by the laws of the meaning
 
 same_layout : (t : Scalar) (ds : List Declarator) (v : Environment) → (with_locals t ds v).layout ≡ v.layout
 same_layout t [] v = refl

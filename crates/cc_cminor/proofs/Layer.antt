@@ -1,5 +1,5 @@
--- Cminor is a layer: outputs grow, a call hands over the output so far and goes on from the answer's. So a run that keeps up with the
--- source follows it.
+-- Cminor is a layer: outputs grow, and a call passes on the output so far and continues from the answer's. So a run that keeps up
+-- with the source follows it.
 use Rattle.std.proofs.Common.{◌≡◌, ℕ, zero, suc, List, [], ◌∷◌, ◌++◌, Option, Some, None, option_map, refl, sym, ap, subst}
 use Rattle.cc_ast.specs.Tree.{External}
 use Rattle.cc_c_laws.specs.declared.mode.Mode.{Mode}
@@ -20,7 +20,7 @@ stored_case : (P : Move Config → Type 0) (h : World) (o : Option ℕ) (f : ℕ
 stored_case P h None f go p q = p
 stored_case P h (Some w) f go p q = q w
 
--- where a move goes on
+-- what a move leads to, if the run continues
 abbrev reached : World → Move Config → World
 reached h (Goes d) = d.world
 reached h m = h
@@ -56,7 +56,7 @@ moves_grow (Block a) κ l h = begins_refl h.output
 moves_grow (Exit i) κ l h = exits_grow i κ l h
 moves_grow (Return e) κ l h = tried_case (Grows h) (value e l h) _ (begins_refl h.output) (λ w. begins_refl h.output)
 
--- what a move hands over, and what it goes on with
+-- what a move passes on, and what it continues with
 abbrev handed : World → Move Config → World
 handed h (Calls q resume) = q.world
 handed h m = h
@@ -103,6 +103,6 @@ cminor_is_layer = record {
   resumes = λ c q resume e a. (subst (Asks c.world) e (moves_ask c.statement c.next c.variables c.world)).1 a;
 }
 
--- what keeps up follows
+-- a run that keeps up follows
 pub follows_of : (mode : Mode) (unit : List External) (f : ℕ) (s : Statement) → KeepsUp mode unit f s → FollowsFunction mode unit f s
 follows_of mode unit f s keeps meaning is opened below ws h call = tracks_follow meaning cminor_move cminor_output cminor_is_layer f 1 _ (keeps meaning is) opened below ws h call

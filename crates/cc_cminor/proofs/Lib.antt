@@ -1,38 +1,69 @@
--- How Cminor is shown to keep up with C. A function's locals are known by depth (how many are older), and values that wait are above
--- them. The state of C and the variables of Cminor fit where each local's word is in its variable and the objects are the same by number
--- (Fits of Variables). Each part of C is a path of Cminor's moves that ends with what the part gives (Paths, PutExpressions,
--- LoweredStatements). A path makes at least one move for each of the source's steps, so the rate is 1, and a loop that does nothing is
--- still a loop that moves. A call owes the same question, its arguments in order in an equal world, and for every answer the relation
--- again with the result in its variable (CallFacts of Bodies, from what the meaning hands out). The code writes just what the definition
--- of the lowering says, in one walk (specs/internal/Lowering; Taking, Trees, Closing); Pairs puts the laws of the meaning at its unit
--- together. Twelve statements and expressions a token: an expression's code has at most 12 a token less 3, a statement's 12 a token less
--- 1, so what joins them is paid for (Counts); a tree's tokens are at most those that spell it (Tokens). Numbers below their limits: a
--- unit's text says that a full expression has at most 512 tokens (Longest), the limits that a function has at most 8 parameters and 256
--- locals, a unit 64 functions and 65,536 words of objects (Limits); a value that waits is above the locals in scope, fewer above them
--- than its expression has tokens (Fits).
+-- How Cminor is shown to keep up with C. A function's locals are numbered by depth (how many are older), and values that wait are
+-- above them. The state of C and the variables of Cminor fit together if each local's word is in its variable and the objects are
+-- the same by number (Fits of Variables). Each part of C becomes a path of Cminor's moves that ends with the part's value (Paths,
+-- PutExpressions, LoweredStatements). A path makes at least one move for each of the source's steps, so the rate is 1, and a loop
+-- that does nothing is still a loop that moves. A call must pass the same question, with its arguments in order in an equal
+-- world, and for every answer be related again with the result in its variable (CallFacts of Bodies, by the laws of the meaning).
+--
+-- The code writes exactly what the definition of the lowering says, in one walk (specs/internal/Lowering; Taking, Trees,
+-- Closing). Pairs applies the laws of the meaning to its unit.
+--
+-- Twelve statements and expressions for each token: an expression's code has at most 12 for each token minus 3, a statement's 12
+-- for each token minus 1, so what joins them is covered (Counts); a tree needs at most as many tokens as those that spell it
+-- (Tokens).
+--
+-- Numbers below their limits: a unit's text has at most 512 tokens in a full expression (Longest); by the limits a function has
+-- at most 8 parameters and 256 locals, and a unit 64 functions and 65,536 words of objects (Limits). A value that waits is above
+-- the locals in scope, with fewer above them than its expression has tokens (Fits).
+-- a break is a cut at which the run goes wrong
 pub mod Breaks
+-- paths of a run, and what the code must do for a part of the source
 pub mod Paths
+-- what is known about the names of a body
 pub mod Known
+-- variables and objects by number; plain expressions
 pub mod Variables
+-- what a branch tests decides like its expression
 pub mod Branches
+-- code that puts the value of an expression into a variable
 pub mod PutExpressions
+-- assignments, increments and declarations
 pub mod PerformedActions
+-- the code of statements does what they do
 pub mod LoweredStatements
+-- the code of a function keeps up with its body
 pub mod Bodies
+-- Cminor is a layer
 pub mod Layer
+-- each call has its function's number of arguments
 pub mod LoweredCalls
+-- the least number of tokens that spell a tree
 pub mod Tokens
+-- at most 12 statements and expressions for each token
 pub mod Counts
+-- a full expression has at most 512 tokens
 pub mod Longest
+-- a typed unit has few parameters, locals, functions and objects
 pub mod Limits
+-- the numbers in lowered code
 pub mod Fits
+-- numbers below a limit are below a larger one
 pub mod Below
+-- each exit leaves blocks that exist
 pub mod Exits
+-- at most one operation without a value for each token
 pub mod Operations
+-- what a pair guarantees
 pub mod Pairs
+-- the Cminor that the code's functions build
 pub mod Codes
+-- the variables of a sequence are those of its list
 pub mod Counting
+-- the end of a scope
 pub mod Closing
+-- the value of an expression from its parts
 pub mod Taking
+-- the trees of calls and blocks
 pub mod Trees
+-- declarations and statements, one by one
 pub mod Listing

@@ -1,4 +1,4 @@
--- What the limits of a typed unit say: its parameters, locals, functions and objects are few.
+-- What the limits of a typed unit say: it has few parameters, locals, functions and objects.
 use Rattle.std.proofs.Common.{◌≡◌, ℕ, zero, suc, ◌+◌, ◌/◌, ◌<◌, ◌≤◌, Bool, true, false, if◌then◌else◌, nat_lt, List, [], ◌∷◌, ◌++◌, length, map, take, drop, Option, Some, None, is_some, not, option_map, unwrap_or, slice_get, refl, sym, ap, ◌∙◌, arith}
 use Rattle.std.proofs.lemmas.Bool.{ltb-false}
 use Rattle.cc_tokens.specs.declared.scalar.Scalar.{Scalar}
@@ -47,7 +47,7 @@ kept_within (Definition g b ∷ rest) zero s body h e =
     sym (ap external_excesses is) ∙ left_empty (external_excesses (Definition g b)) (externals_excesses rest) h
 kept_within (Definition g b ∷ rest) (suc f) s body h e = kept_within rest f s body (right_empty (external_excesses (Definition g b)) (externals_excesses rest) h) e
 
--- at most 8 parameters, and 256 locals
+-- at most 8 parameters and 256 locals
 pub few_names : (unit : List External) → IsWithinLimits unit → (f : ℕ) (s : Signature) (body : Stmts) → slice_get (definitions unit) f ≡ Some (Definition s body) → (length s.parameters ≤ 8) × (length (locals body) ≤ 256)
 few_names unit h f s body e =
     let one = kept_within unit f s body (left_empty (externals_excesses unit) (past 64 (function_names unit) ++ word_excesses 0 (objects unit)) h) e in
@@ -60,7 +60,7 @@ few_functions unit h =
 
 -- ---- objects
 
--- each object has a word
+-- each object has at least one word
 abbrev HaveWords : List Object → Type 0
 HaveWords [] = Unit {0}
 HaveWords (o ∷ rest) = (1 ≤ object_words o) × HaveWords rest

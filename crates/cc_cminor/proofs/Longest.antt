@@ -44,7 +44,7 @@ abbrev mutual
   longest_in end = 0
   longest_in (next first rest) = larger (longest first) (longest_in rest)
 
--- ---- what the limits say of tokens
+-- ---- what the limits say about tokens
 
 -- no token is past the 512th of a full expression
 abbrev Counted : List Measured → Type 0

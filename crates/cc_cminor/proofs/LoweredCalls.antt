@@ -32,7 +32,7 @@ many_locals k zero = refl
 many_locals k (suc n) = ap suc (many_locals (suc k) n)
 
 module _ (unit : List External) (g : Layout) where
-  -- so in each statement of a list
+  -- the same in each statement of a list
   abbrev AllAreCalls : List Statement → Type 0
   AllAreCalls [] = Unit {0}
   AllAreCalls (s ∷ rest) = AreCalls unit s × AllAreCalls rest

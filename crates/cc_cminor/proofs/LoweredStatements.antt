@@ -26,7 +26,7 @@ then_gives (Gives x s) = refl
 then_gives (meaning.Going o) = refl
 then_gives (meaning.Wrong cause o) = refl
 
--- ---- what is in scope behind a statement
+-- ---- what is in scope after a statement
 
 declared_extends : (t : Scalar) (ds : List Declarator) (v : Environment) → (extra : List (List ℕ)) × ((with_locals t ds v).locals ≡ extra ++ v.locals)
 declared_extends t [] v = ([], refl)
@@ -54,7 +54,7 @@ beginning_visible : (first : Beginning) (v : Environment) → (behind_beginning 
 beginning_visible (Declares t ds) v = declared_visible t ds v
 beginning_visible (Performs a) v = refl
 
--- the oldest locals alone
+-- only the oldest locals
 dropped : (extra ns : List (List ℕ)) (ls : List meaning.Local) (m : ℕ → ℕ) → names_of ls ≡ extra ++ ns → Holds ls m
     → (names_of (drop (length ls - length ns) ls) ≡ ns) × Holds (drop (length ls - length ns) ls) m
 dropped [] ns ls m e h =
@@ -73,7 +73,7 @@ dropped (x ∷ extra) ns (y ∷ rest) m e h =
     subst (λ k. (names_of (drop k (y ∷ rest)) ≡ ns) × Holds (drop k (y ∷ rest)) m) (sym k) (dropped extra ns rest m tail h.1)
 
 module _ (effect : Calling) (g : Layout) where
-  -- the same, with locals that stand above these
+  -- the same, with newer locals above these
   pub record StopsBehind (code : Statement) (κ : Continuation) (ns : List (List ℕ)) (s : State) (d : Config) : Type 0 where
     pub extra : List (List ℕ)
     pub stops : Stops effect g code κ (extra ++ ns) s d
@@ -90,7 +90,7 @@ module _ (effect : Calling) (g : Layout) where
   Leaves true i leave s d = leave i s d
   Leaves false i leave s d = GivesBack 0 s d
 
-  -- by how a statement is left; a loop's blocks make `break` Exit 1 and `continue` Exit 0
+  -- by how a statement ends; a loop's blocks make `break` Exit 1 and `continue` Exit 0
   abbrev pub Flowing : Bool → (State → Config → Type 0) → (ℕ → State → Config → Type 0) → Flow → State → Config → Type 0
   Flowing b after leave Falls s d = after s d
   Flowing b after leave Breaks s d = Leaves b 1 leave s d
@@ -115,11 +115,11 @@ module _ (effect : Calling) (g : Layout) where
   flowing_as false after after' leave leave' Continues s d f k q = q
   flowing_as b after after' leave leave' (Returns w) s d f k q = q
 
-  -- no local above
+  -- no newer local
   same_behind : (code : Statement) (κ : Continuation) (ns : List (List ℕ)) (s : State) (d : Config) → Stops effect g code κ ns s d → StopsBehind code κ ns s d
   same_behind code κ ns s d q = record { extra = []; stops = q }
 
-  -- some locals above
+  -- some newer locals
   more_behind : (code : Statement) (κ : Continuation) (extra after ns : List (List ℕ)) (s : State) (d : Config) → after ≡ extra ++ ns → Stops effect g code κ after s d → StopsBehind code κ ns s d
   more_behind code κ extra after ns s d e q = record { extra = extra; stops = subst (λ xs. Stops effect g code κ xs s d) e q }
 
@@ -151,7 +151,7 @@ module _ (effect : Calling) (g : Layout) where
       comes_then effect (Loosely b κ ns) (Exactly b κ ns) c s.steps (part s) (λ flow t. Gives flow (left_scope (length s.locals) t)) h
       (λ flow t d le q. comes_here effect (Exactly b κ ns) d flow (left_scope (length s.locals) t) (left_flow b κ ns (length s.locals) flow t d (fits_length g ns s l fits) q))
 
-  -- ---- one after the other
+  -- ---- one after another
 
   exit_then : (b : Bool) (flow : Flow) (i : ℕ) (X : List Statement) (κ : Continuation) (ns : List (List ℕ)) (t : State) (d : Config) → StopsBehind (Exit i) (after_list X κ) ns t d → ((d : Config) → StopsBehind (Exit i) κ ns t d → Loosely b κ ns flow t d)
       → Comes effect (Loosely b κ ns) d t.steps (Gives flow t)
@@ -173,7 +173,7 @@ module _ (effect : Calling) (g : Layout) where
 
   -- ---- loops
 
-  -- where a loop's condition leads: out of it, or to the body's block
+  -- where a loop's condition leads: out of the loop, or to the body's block
   abbrev pub TestedBy : List (List ℕ) → Continuation → Continuation → Statement → ℕ → State → Config → Type 0
   TestedBy ns κ turn c zero s d = Stops effect g Skip κ ns s d
   TestedBy ns κ turn c (suc w) s d = Stops effect g (Block c) turn ns s d
@@ -215,7 +215,7 @@ module _ (effect : Calling) (g : Layout) where
     module _ (tests : (m : ℕ → ℕ) (s : State) → s.steps < n → Fits g ns s m → Comes effect Tested (config p around m (world_at s)) s.steps (test s))
         (bodies : (m : ℕ → ℕ) (s : State) → s.steps < n → Fits g ns s m → Comes effect (Exactly true (Leaving turn) ns) (config c (Leaving turn) m (world_at s)) s.steps (body s))
         (steps : (m : ℕ → ℕ) (s : State) → s.steps < n → Fits g ns s m → Comes effect Back (config Skip turn m (world_at s)) s.steps (step s)) where
-      -- the body begins: its step is paid by the move into the block
+      -- the body begins: the move into the block pays for its step
       begun : (j : ℕ) (m : ℕ → ℕ) (s : State) (more : State → Run Flow) → s.steps ≡ j → s.steps < n → Fits g ns s m
           → ((m : ℕ → ℕ) (u : State) → u.steps < s.steps → Fits g ns u m → Comes effect R (config Skip turn m (world_at u)) u.steps (more u))
           → Comes effect R (config (Block c) turn m (world_at s)) j (spend_of j (λ t. then_do (body t) (λ flow u. behind_body flow more u)) s)
@@ -276,7 +276,7 @@ module _ (effect : Calling) (g : Layout) where
         (λ f s d le q. flowing_as b (λ s d. Stops effect g Skip κ after s d) (λ s d. StopsBehind Skip κ v.locals s d) (λ i s d. StopsBehind (Exit i) κ v.locals s d) (λ i s d. StopsBehind (Exit i) κ v.locals s d) f s d
         (λ x. more_behind Skip κ e.0 after v.locals s d e.1 x) (λ i x. x) q))
 
-    -- a loop's condition, with A where it holds
+    -- a loop's condition, with A if it holds
     cond_by : (w : ℕ) (x : Expression) (ns : List (List ℕ)) (A : Statement) (κ : Continuation) (T X c : Statement) (m : ℕ → ℕ) (u : State) → value x m (world_at u) ≡ Some w → Fits g ns u m
         → ((w : ℕ) → Comes effect (TestedBy ns κ (Then X (Again T (Leaving κ))) c) (config A (Again T (Leaving κ)) m (world_at u)) u.steps (Gives (suc w) u))
         → Comes effect (TestedBy ns κ (Then X (Again T (Leaving κ))) c) (config (branch x A (Exit 0)) (Again T (Leaving κ)) m (world_at u)) u.steps (Gives w u)
@@ -311,7 +311,7 @@ module _ (effect : Calling) (g : Layout) where
         comes_moved effect Q (config (Sequence (Block c) X) (Again T (Leaving κ)) m (world_at u)) (config (Block c) turn m (world_at u)) u.steps (Gives (suc w) u) refl
         (comes_here effect Q (config (Block c) turn m (world_at u)) (suc w) u (record { variables = m; at = refl; fits = fits }))
 
-    -- a loop with its condition first
+    -- a loop that tests its condition first
     loop_comes : (cnd : Option Expr) (a : Option Action) (X c : Statement) (b : Bool) (v : Environment) (κ : Continuation) (l : ℕ → ℕ) (s : State) (body : State → Run Flow) → KnownOr g v cnd → s.steps < n → Fits g v.locals s l
         → ((κ : Continuation) (m : ℕ → ℕ) (s : State) → s.steps < n → Fits g v.locals s m → Comes effect (Exactly true κ v.locals) (config c κ m (world_at s)) s.steps (body s))
         → ((κ : Continuation) (m : ℕ → ℕ) (s : State) → s.steps < n → Fits g v.locals s m → Comes effect (Falling effect g κ v.locals) (config X κ m (world_at s)) s.steps (perform_optional a (types_in v) call s))
@@ -336,7 +336,7 @@ module _ (effect : Calling) (g : Layout) where
         (comes_here effect Back (config T around q.stops.variables (world_at t)) f t (record { variables = q.stops.variables; at = refl; fits = q.stops.fits })))))))
         (suc n) l s (omega arith) lt h))
 
-    -- a loop with its condition last
+    -- a loop that tests its condition last
     do_comes : (e : Expr) (c : Statement) (b : Bool) (v : Environment) (κ : Continuation) (l : ℕ → ℕ) (s : State) (body : State → Run Flow) → Known g v e → s.steps < n → Fits g v.locals s l
         → ((κ : Continuation) (m : ℕ → ℕ) (s : State) → s.steps < n → Fits g v.locals s m → Comes effect (Exactly true κ v.locals) (config c κ m (world_at s)) s.steps (body s))
         → Comes effect (Exactly b κ v.locals) (config (Block (Loop (Sequence (Block c) (tested (using g v (free v) e))))) κ l (world_at s)) s.steps

@@ -1,4 +1,4 @@
--- What a pair keeps, and how small its code is, from what the meaning hands out of a typed unit.
+-- What a pair guarantees, and how small its code is, by the laws of the meaning for typed units.
 use Rattle.std.proofs.Common.{◌≡◌, ℕ, ◌+◌, ◌*◌, ◌<◌, ◌≤◌, List, [], length, map, Some, slice_get, refl, sym, ap, subst, ◌∙◌, arith}
 use Rattle.std.proofs.lemmas.List.{length-map}
 use Rattle.cc_ast.specs.Tree.{Name, External, Definition}
@@ -33,7 +33,7 @@ use Rattle.cc_cminor.proofs.Operations.{body_ops}
 use Rattle.cc_cminor.proofs.Bodies.{lowered_keeps_up, lowered_fails_alike, lowered_goes_wrong}
 
 module _ (functions_are : FunctionsAreNumbered) (resolved : FunctionsAreResolved) where
-  -- a function that is defined has its meaning's number
+  -- a defined function has its number in the meaning
   numbered : (unit : List External) (f n : ℕ) → n ≡ length (layout_of unit).functions → f < n → f < length (functions unit)
   numbered unit f n e below =
       let many : length (functions unit) ≡ length (layout_of unit).functions =

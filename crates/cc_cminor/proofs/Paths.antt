@@ -1,4 +1,4 @@
--- Paths of a Cminor run, and what the code at a configuration owes a part of the source's run.
+-- Paths of a Cminor run, and what the code at a configuration must do for a part of the source's run.
 use Rattle.std.proofs.Common.{◌≡◌, ◌⊎◌, inl, inr, ℕ, suc, ◌+◌, ◌-◌, ◌≤◌, Bool, true, false, List, [], ◌∷◌, Option, Some, refl, ap, ◌∙◌, arith, add_assoc}
 use Rattle.cc_c_laws.specs.Meaning as meaning
 use Rattle.cc_c_laws.specs.Meaning.{State, Run, Gives, then_do}
@@ -18,7 +18,7 @@ use Rattle.cc_cminor.specs.Code.{in_sequence}
 abbrev pub world_at : State → world.World
 world_at s = record { globals = objects_of s.globals; input = s.input; output = s.output }
 
--- what is to be done after the first of some statements
+-- what remains to be done after the first of some statements
 abbrev pub after_list : List Statement → Continuation → Continuation
 after_list [] κ = κ
 after_list (a ∷ rest) κ = Then (in_sequence (a ∷ rest)) κ
@@ -27,7 +27,7 @@ after_list (a ∷ rest) κ = Then (in_sequence (a ∷ rest)) κ
 abbrev pub Exact : (ℕ → Question → Effect) → Type 0
 Exact effect = (q : Question) (n left : ℕ) (a : Answer) → effect n q ≡ world.Gives a left → (left ≤ n) × ((j : ℕ) → effect (n - left + j) q ≡ world.Gives a j)
 
--- what the calls of a run do, in a mode
+-- the effects of a run's calls, in a mode
 pub record Calling : Type 0 where
   pub mode : Mode
   pub does : ℕ → Question → Effect
@@ -83,7 +83,7 @@ module _ (effect : Calling) where
     pub same : runs k j c ≡ record { stop = Going; output = o }
     pub enough : n ≤ works k j c
 
-  -- a cut at which the run comes to what it cannot do, with this output
+  -- a cut at which the run reaches something it cannot do, with this output
   pub record Breaks (c : Config) (o : List ℕ) : Type 0 where
     pub k : ℕ
     pub j : ℕ
@@ -95,7 +95,7 @@ module _ (effect : Calling) where
     pub j : ℕ
     pub wrong : runs k j c ≡ record { stop = Wrong; output = o }
 
-  -- from c with n steps left the run gets to d, and the steps that are gone are paid by moves and by calls
+  -- from c with n steps left the run reaches d, and moves and calls pay for the steps that are gone
   pub record Reaches (c : Config) (n left : ℕ) (d : Config) : Type 0 where
     pub m : ℕ
     pub t : ℕ
@@ -122,7 +122,7 @@ module _ (effect : Calling) where
   pub one : (c d : Config) (n : ℕ) → cminor_move c ≡ Goes d → Reaches c n n d
   one c d n e = record { m = 1; t = 0; way = one_move c d e; fewer = omega arith; paid = omega arith }
 
-  -- a move that pays a step
+  -- a move that pays for a step
   pub one_paid : (c d : Config) (n : ℕ) → cminor_move c ≡ Goes d → Reaches c (suc n) n d
   one_paid c d n e = record { m = 1; t = 0; way = one_move c d e; fewer = omega arith; paid = omega arith }
 
@@ -135,15 +135,15 @@ module _ (effect : Calling) where
     paid = let a = p.paid in let b = q.paid in omega arith;
   }
 
-  -- ---- what is owed
+  -- ---- what is required
 
   pub record Arrives {A : Type 0} (Q : A → State → Config → Type 0) (c : Config) (n : ℕ) (x : A) (s : State) : Type 0 where
     pub to : Config
     pub reaches : Reaches c n s.steps to
     pub is : Q x s to
 
-  -- If the source goes wrong the run does. If the source then goes on for ever, the run goes on with the same output and at least n of work, in
-  -- a call that goes on for ever, or it breaks.
+  -- If the source goes wrong the run does. If the source then runs for ever, the run continues with the same output and at least
+  -- n of work, in a call that runs for ever, or it breaks.
   abbrev pub Stuck : (stays : Bool) → Config → ℕ → List ℕ → Type 0
   Stuck true c n o = Cut c n o ⊎ Breaks c o
   Stuck false c n o = Lost c o
@@ -156,12 +156,12 @@ module _ (effect : Calling) where
   pub stuck_moved : (b : Bool) (c d : Config) (n : ℕ) (o : List ℕ) → cminor_move c ≡ Goes d → Stuck b d n o → Stuck b c n o
   stuck_moved b c d n o e h = stuck_after b c d n n o (one c d n e) h
 
-  -- it breaks here
+  -- the run breaks here
   pub stuck_here : (b : Bool) (c : Config) (n : ℕ) (o : List ℕ) → cminor_move c ≡ Fails → cminor_output c ≡ o → Stuck b c n o
   stuck_here true c n o e f = inr (record { k = 1; j = 0; broke = ap (λ x. broken_act effect.does x (cminor_output c) 0 (breaks 0)) e ∙ ap (λ x. Some x) f })
   stuck_here false c n o e f = record { k = 1; j = 0; wrong = ap (λ x. act effect.does x (cminor_output c) 0 (runs 0)) e ∙ ap (λ x. record { stop = Wrong; output = x }) f }
 
-  -- from c, with n steps left, the run does what the source does: where that gives something it gets to such a configuration
+  -- from c, with n steps left, the run does what the source does: if that gives a value, it reaches such a configuration
   abbrev pub Comes : {A : Type 0} → (A → State → Config → Type 0) → Config → ℕ → Run A → Type 0
   Comes Q c n (Gives x s) = Arrives Q c n x s
   Comes Q c n (meaning.Going o) = Cut c n o
@@ -187,11 +187,11 @@ module _ (effect : Calling) where
   comes_as Q R c n (meaning.Going o) h f = h
   comes_as Q R c n (meaning.Wrong cause o) h f = h
 
-  -- it is there already
+  -- the run is there already
   pub comes_here : {A : Type 0} (Q : A → State → Config → Type 0) (c : Config) (x : A) (s : State) → Q x s c → Comes Q c s.steps (Gives x s)
   comes_here Q c x s q = record { to = c; reaches = reaches_refl c s.steps; is = q }
 
-  -- ---- one statement after the other
+  -- ---- one statement after another
 
   pub comes_first : {A : Type 0} (Q : A → State → Config → Type 0) (a : Statement) (rest : List Statement) (κ : Continuation) (l : ℕ → ℕ) (h : world.World) (n : ℕ) (r : Run A)
       → Comes Q (config a (after_list rest κ) l h) n r → Comes Q (config (in_sequence (a ∷ rest)) κ l h) n r

@@ -34,7 +34,7 @@ use Rattle.cc_cminor.proofs.Paths.{world_at, after_list, Calling, stuck_here, Co
 use Rattle.cc_cminor.proofs.Variables.{name_is_itself, holds_same, put_here, put_below, reads, writes, written_names, size_object, stored_object, binary_value, binary_none, PlainIs, plain_then, plain_given, plain_read, Fits, fits_length, object_is, variable_value, element_value, plain_is}
 use Rattle.cc_cminor.proofs.PutExpressions.{CallFacts, NeedsValue, set_needs, Puts, used_comes, puts}
 
--- the operator takes both operands
+-- the operator needs both operands
 abbrev TakesBoth : Option BinaryOperator → Type 0
 TakesBoth None = Unit {0}
 TakesBoth (Some op) = kind op ≡ Strict
@@ -78,7 +78,7 @@ combined_none None t u old x l h both e = e
 combined_none (Some op) t u old x l h both e = binary_none op (working_type op t u) old x l h both e
 
 module _ (effect : Calling) (g : Layout) where
-  -- such code is next, and the variables stand for the state
+  -- this code is next, and the variables represent the state
   pub record Stops (code : Statement) (κ : Continuation) (ns : List (List ℕ)) (s : State) (d : Config) : Type 0 where
     pub variables : ℕ → ℕ
     pub at : d ≡ config code κ variables (world_at s)
@@ -164,7 +164,7 @@ module _ (effect : Calling) (g : Layout) where
   element_comes ns x k i e κ l s (meaning.Wrong cause o) known at h p =
       stuck_here effect (stays effect.mode cause) (config (Store (width_of g x) (object_of g x) (Local k) e) κ l (world_at s)) s.steps o (store_needs (width_of g x) (object_of g x) k (λ y. y) (λ y m z missing. missing) e κ l (world_at s) p.0) (sym p.1)
 
-  -- the new value, of the old one and the right side's
+  -- the new value, from the old one and the right side's
   new_by : (aop : Option BinaryOperator) (t u : Scalar) (d : Destination) (old e : Expression) (w : ℕ) (l : ℕ → ℕ) (s : State) → TakesBoth aop → PlainIs (old_value d s) s (value old l (world_at s)) → value e l (world_at s) ≡ Some w
       → PlainIs (new_value aop t u d w s) s (value (combined aop t u old e) l (world_at s))
   new_by None t u d old e w l s both p is = (refl, is)
@@ -174,7 +174,7 @@ module _ (effect : Calling) (g : Layout) where
       (λ x. subst (λ o. PlainIs (given op (binary_word op (working_type op t u) x w) s) s (then_value o (λ y. binary_word op (working_type op t u) x y))) (sym is) (plain_given op (binary_word op (working_type op t u) x w) s)))
 
   module _ (call : meaning.Calls) (n : ℕ) (facts : CallFacts effect g call n) where
-    -- an expression of Cminor for the value, or code in front of it
+    -- an expression of Cminor for the value, or code before it
     pub using_comes : {A : Type 0} (R : A → State → Config → Type 0) (e : Expr) (v : Environment) (k : ℕ) (f : Expression → Statement) (κ : Continuation) (l : ℕ → ℕ) (s : State) (go : ℕ → State → Run A)
         → NeedsValue f → Known g v e → free v ≤ k → s.steps < n → Fits g v.locals s l
         → ((x : Expression) (m : ℕ → ℕ) (u : State) (w : ℕ) → u.steps ≤ s.steps → Fits g v.locals u m → ((i : ℕ) → i < k → m i ≡ l i) → value x m (world_at u) ≡ Some w → Comes effect R (config (f x) κ m (world_at u)) u.steps (go w u))

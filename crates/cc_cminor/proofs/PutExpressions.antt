@@ -1,4 +1,4 @@
--- Code that puts the value of an expression into a variable, or hands on one expression of Cminor.
+-- Code that puts the value of an expression into a variable, or passes on one expression of Cminor.
 use Rattle.std.proofs.Common.{◌≡◌, inl, ℕ, zero, suc, ◌-◌, ◌<◌, ◌≤◌, ◌&&◌, ◌||◌, not, Bool, true, false, if◌then◌else◌, List, [], ◌∷◌, ◌++◌, length, Option, Some, None, refl, sym, ap, ◌∙◌, subst, arith}
 use Rattle.std.proofs.lemmas.Bool.{ne_eqb}
 use Rattle.cc_tokens.specs.declared.scalar.Scalar.{Scalar}
@@ -31,14 +31,15 @@ use Rattle.cc_cminor.proofs.Paths.{world_at, Exact, Calling, Cut, one_call, Stuc
 use Rattle.cc_cminor.proofs.Branches.{branch_moves, branch_fails}
 use Rattle.cc_cminor.proofs.Variables.{put_here, put_below, unary_value, binary_value, unary_none, binary_none, truth_none, strict_undecided, is_conjunction, is_disjunction, PlainIs, plain_given, plain_read, Fits, fits_put, variable_value, element_value, plain_is, all_plain_is, truth_is}
 
--- what a call of function f on some words does: the caller goes on as the effect says, which the unit's meaning gives by number
+-- what a call of function f with some words does: the caller continues as the effect says, which the unit's meaning gives by
+-- number
 pub record CallIs (effect : Calling) (call : meaning.Calls) (x ws : List ℕ) (f : ℕ) (s : State) : Type 0 where
   pub what : by_name.Effect by_name.Answer
   pub does : call x ws s ≡ after_call s.locals what
   pub same : effect.does s.steps (record { function = f; arguments = ws; world = world_at s }) ≡ numbered effect.mode what
   pub keeps : KeepsObjects (shared_of s) what
 
--- what is known of calls, where fewer than n steps are left
+-- what is known about calls, if fewer than n steps are left
 pub record CallFacts (effect : Calling) (g : Layout) (call : meaning.Calls) (n : ℕ) : Type 0 where
   pub exact : Exact effect.does
   pub writes : (x ws : List ℕ) (s : State) → callee g x ≡ WriteWord → s.steps < n → call x ws s ≡ Gives 0 (record s { output = s.output ++ ws })
@@ -56,7 +57,7 @@ pub branch_needs : (a b : Statement) → NeedsValue (λ x. branch x a b)
 branch_needs a b = λ x κ l h e. branch_fails x a b κ l h e
 
 module _ (effect : Calling) (g : Layout) where
-  -- the word is in variable k, those below are kept, and κ goes on
+  -- the word is in variable k, the variables below are preserved, and κ is next
   pub record Puts (k : ℕ) (κ : Continuation) (ns : List (List ℕ)) (l : ℕ → ℕ) (w : ℕ) (s : State) (d : Config) : Type 0 where
     pub variables : ℕ → ℕ
     pub at : d ≡ config Skip κ variables (world_at s)
@@ -83,7 +84,7 @@ module _ (effect : Calling) (g : Layout) where
   set_comes k e κ ns l s (meaning.Wrong cause o) le h p =
       stuck_here effect (stays effect.mode cause) (config (Set k e) κ l (world_at s)) s.steps o (ap (λ x. tried x (λ w. Goes (config Skip κ (put l k w) (world_at s)))) p.0) (sym p.1)
 
-  -- code that takes a value goes on with it
+  -- code that takes a value continues with it
   pub used_comes : {A : Type 0} (R : A → State → Config → Type 0) (b : Bool) (e : Expression) (code : Statement) (j : ℕ) (f : Expression → Statement) (κ : Continuation) (ns : List (List ℕ)) (l : ℕ → ℕ) (s : State) (r : Run ℕ) (go : ℕ → State → Run A)
       → NeedsValue f → Fits g ns s l → (b ≡ true → PlainIs r s (value e l (world_at s))) → ((κ : Continuation) → Comes effect (Puts j κ ns l) (config code κ l (world_at s)) s.steps r)
       → ((x : Expression) (m : ℕ → ℕ) (u : State) (w : ℕ) → u.steps ≤ s.steps → Fits g ns u m → ((i : ℕ) → i < j → m i ≡ l i) → value x m (world_at u) ≡ Some w → Comes effect R (config (f x) κ m (world_at u)) u.steps (go w u))
@@ -189,7 +190,7 @@ module _ (effect : Calling) (g : Layout) where
         ap (λ p. tried p (λ vs. Calls (record { function = f; arguments = vs; world = world_at s }) resume)) ps in
         record { k = 1; j = s.steps; wrong = ap (λ m. act effect.does m s.output s.steps (runs effect 0)) here ∙ ap (λ y. layer.resumed y resume (runs effect 0)) e }
 
-    -- a call on some words
+    -- a call with some words
     call_comes : (k f : ℕ) (us : List Expression) (ws : List ℕ) (κ : Continuation) (ns : List (List ℕ)) (l : ℕ → ℕ) (s : State) (x : by_name.Effect by_name.Answer) → length ns ≤ k → Fits g ns s l → values us l (world_at s) ≡ Some ws
         → effect.does s.steps (record { function = f; arguments = ws; world = world_at s }) ≡ numbered effect.mode x → KeepsObjects (shared_of s) x
         → Comes effect (Puts k κ ns l) (config (Call (Some k) f us) κ l (world_at s)) s.steps (after_call s.locals x)
@@ -293,7 +294,7 @@ module _ (effect : Calling) (g : Layout) where
     PutsValue e = (v : Environment) (k : ℕ) (κ : Continuation) (l : ℕ → ℕ) (s : State) → Known g v e → free v ≤ k → s.steps < n → Fits g v.locals s l
         → Comes effect (Puts k κ v.locals l) (config (put_expr g v k e) κ l (world_at s)) s.steps (evaluate e (types_in v) call s)
 
-    -- the right operand of && and || alone
+    -- the right operand of && and ||
     truth_comes : (b : Expr) (v : Environment) (k : ℕ) (κ : Continuation) (l : ℕ → ℕ) (s : State) → PutsValue b → Known g v b → free v ≤ k → s.steps < n → Fits g v.locals s l
         → Comes effect (Puts k κ v.locals l) (config (used (is_plain b) (plain g v b) (put_expr g v k b) k (λ y. Set k (truth_of y))) κ l (world_at s)) s.steps (then_do (evaluate b (types_in v) call s) (λ y t. Gives (truth_value (is_true y)) t))
     truth_comes b v k κ l s hb known le lt h =
@@ -302,7 +303,7 @@ module _ (effect : Calling) (g : Layout) where
         (λ y m u w less fits same is. puts_from k κ v.locals l m _ u.steps (Gives (truth_value (is_true w)) u) same
         (set_gives k (truth_value (is_true w)) (truth_of y) κ v.locals m u le fits (truth_is y m (world_at u) w is)))
 
-    -- behind the left operand of &&, and of ||
+    -- after the left operand of &&, and of ||
     and_comes : (w : ℕ) (x : Expression) (t : Scalar) (b : Expr) (v : Environment) (k : ℕ) (κ : Continuation) (l : ℕ → ℕ) (s : State) → value x l (world_at s) ≡ Some w → PutsValue b → Known g v b → free v ≤ k → s.steps < n → Fits g v.locals s l
         → Comes effect (Puts k κ v.locals l) (config (branch x (used (is_plain b) (plain g v b) (put_expr g v k b) k (λ y. Set k (truth_of y))) (Set k (Constant 0))) κ l (world_at s)) s.steps
         (unless_decided (decided source.LogicalAnd w) (λ u. then_do (evaluate b (types_in v) call u) (λ y z. given source.LogicalAnd (binary_word source.LogicalAnd t w y) z)) s)

@@ -1,4 +1,4 @@
--- What is made of the values of an expression's parts is the expression's value.
+-- The value built from the values of an expression's parts is the expression's value.
 use Rattle.std.proofs.Common.{◌≡◌, ℕ, suc, ◌+◌, ◌<◌, ◌&&◌, Bool, true, false, List, [], ◌∷◌, length, drop, get_or, Option, Some, None, refl, sym, ap, ◌∙◌, arith, drop-cons}
 use Rattle.cc_tokens.specs.declared.scalar.Scalar.{Scalar}
 use Rattle.cc_ast.specs.declared.ast.BinaryOperator.{BinaryOperator}
@@ -56,7 +56,7 @@ module _ (g : Layout) (v : Environment) where
       and_plain (kind op) (is_plain a) (is_plain b) op (working_type op (value_type (types_in v) a) (value_type (types_in v) b)) (plain g v a) (plain g v b) (put_expr g v k a) (put_expr g v (suc k) b) (put_expr g v k b) k h
   plain-put k (Conditional c a b) h = absurd (let q : false ≡ true = h in cc)
 
-  -- a value as it is put, and as it is used
+  -- a value as it is put into a variable, and as it is used
   pub put-is : (k : ℕ) (e : Expr) → put_in k (taken g v k e).before (taken g v k e).value ≡ put_expr g v k e
   put-is k e = by (is_plain e) refl
     where

@@ -1,4 +1,4 @@
--- How many tokens spell a part of a tree at least, from the tree alone: an argument's comma is left out.
+-- The least number of tokens that spell a part of a tree, from the tree alone; an argument's comma is not counted.
 use Rattle.std.proofs.Common.{◌≡◌, ℕ, suc, ◌+◌, ◌≤◌, List, [], ◌∷◌, ◌++◌, length, map, Option, Some, None, ◌⊎◌, inl, inr, refl, sym, ap, ◌∙◌, arith}
 use Rattle.std.proofs.lemmas.List.{length-append, length-map}
 use Rattle.cc_tokens.specs.Token.{Lexeme}

@@ -1,4 +1,4 @@
--- Variables and objects by number, and expressions that are one expression of Cminor.
+-- Variables and objects by number, and expressions that become one expression of Cminor.
 use Rattle.std.proofs.Common.{◌≡◌, ℕ, suc, ◌<◌, ◌≤◌, ◌==◌, ◌&&◌, ◌||◌, not, Bool, true, false, if◌then◌else◌, List, [], ◌∷◌, length, map, Option, Some, None, option_map, unwrap_or, get_or, set, slice_get, slice_set, int_lt, int_le, nat_lt, nat_le, refl, sym, ap, ◌∙◌, subst, arith}
 use Rattle.std.proofs.lemmas.Bool.{eq-eqb, ne_eqb, lt-ltb}
 use Rattle.std.proofs.lemmas.Option.{slice_get-get_or}
@@ -50,7 +50,7 @@ pub length_names : (ls : List meaning.Local) → length (names_of ls) ≡ length
 length_names [] = refl
 length_names (z ∷ rest) = ap suc (length_names rest)
 
--- each local's word is in the variable of its number
+-- each local's word is in the variable with its number
 abbrev pub Holds : List meaning.Local → (ℕ → ℕ) → Type 0
 Holds [] l = Unit {0}
 Holds (x ∷ older) l = (l (length older) ≡ x.word) × Holds older l
@@ -133,7 +133,7 @@ abbrev other_sizes : List NamedSize → List NamedSize
 other_sizes [] = []
 other_sizes (z ∷ zs) = zs
 
--- an object of such elements
+-- an object with elements of this width
 abbrev object : Width → List ℕ → Object
 object u ws = record { width = u; words = ws }
 
@@ -203,7 +203,7 @@ width_by : (b : Bool) (k u : Width) (p : LaidObject) (ps : List LaidObject) (x :
 width_by true k u p ps x e f = e
 width_by false k u p ps x e f = f
 
--- how wide they are
+-- how wide an object's elements are
 width_object : (gs : List Global) (ps : List LaidObject) (x : List ℕ) → sizes gs ≡ laid_sizes ps → width_by_name gs x ≡ (extent_of ps x).width
 width_object [] [] x e = refl
 width_object [] (p ∷ ps) x e = absurd (let q : ◌≡◌ {A = List NamedSize} [] (laid_sizes (p ∷ ps)) = e in cc)
@@ -327,7 +327,7 @@ binary_value source.Or t a b l h s = refl
 binary_value source.LogicalAnd t a b l h s = absurd (cc)
 binary_value source.LogicalOr t a b l h s = absurd (cc)
 
--- ---- what has no value if an operand has none
+-- ---- operations without a value if an operand has none
 
 right_none : (o p : Option ℕ) (f : ℕ → ℕ → Option ℕ) → p ≡ None → then_value o (λ a. then_value p (λ b. f a b)) ≡ None
 right_none None p f e = refl
@@ -374,7 +374,7 @@ and_right false b e = absurd (cc)
 
 -- ---- plain expressions
 
--- a part of a run leaves the state, and gives a word or goes wrong as this says
+-- a part of a run leaves the state as it is, and gives a word or goes wrong, as this says
 abbrev pub PlainIs : {A : Type 0} → Run A → State → Option A → Type 0
 PlainIs (Gives x u) s o = (u ≡ s) × (o ≡ Some x)
 PlainIs (meaning.Going output) s o = ⊥
@@ -397,7 +397,7 @@ pub plain_read : (x : List ℕ) (i : ℕ) (s : State) → PlainIs (read_element 
 plain_read x i s = plain_read_by (slice_get (global_words s.globals x) i) s
 
 module _ (g : Layout) where
-  -- the variables stand for a state with locals of these names
+  -- the variables represent a state with locals of these names
   pub record Fits (ns : List (List ℕ)) (s : State) (l : ℕ → ℕ) : Type 0 where
     pub names : names_of s.locals ≡ ns
     pub holds : Holds s.locals l

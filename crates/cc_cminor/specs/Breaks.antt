@@ -1,5 +1,5 @@
--- Runs that come to what they cannot do (an element, a quotient or a shifted word that there is not), and runs that keep up with a source or
--- break as it goes wrong. A call that goes wrong is not a break: the run can do nothing about it.
+-- Runs that reach something they cannot do (a missing element, quotient or shifted word), and runs that either keep up with a
+-- source or break as it goes wrong. A call that goes wrong is not a break, because the run itself cannot prevent it.
 use Rattle.std.specs.Prelude.{◌≡◌, ◌⊎◌, ℕ, zero, suc, ◌<◌, List, Option, Some, None}
 use Rattle.cc_simulation.specs.World.{World, Question, Answer, Effect, Gives, Unfinished, Failed}
 use Rattle.cc_simulation.specs.Behavior.{Wrong}
@@ -18,7 +18,7 @@ broken_act effect (Calls q resume) output j next = broken_resumed (effect j q) r
 broken_act effect (Returns r) output j next = None
 broken_act effect Fails output j next = Some output
 
--- what is written when the run of at most k moves and j steps comes to what it cannot do, if it does
+-- the output when the run of at most k moves and j steps reaches something it cannot do, if it does
 abbrev pub broken : {C : Type 0} → (move : C → Move C) (output : C → List ℕ) (effect : ℕ → Question → Effect) (k j : ℕ) → C → Option (List ℕ)
 broken move output effect zero j c = None
 broken move output effect (suc k) j c = broken_act effect (move c) (output c) j (broken move output effect k)
@@ -35,8 +35,8 @@ BreaksAt move output effect (Gives a left) start = ⊥
 BreaksAt move output effect (Unfinished o) start = Breaking move output effect start o
 BreaksAt move output effect (Failed o) start = ⊥
 
--- A function's run keeps up with its body in the source, or it breaks with the source's output while the source is not finished. This is for a
--- meaning in which a program that goes wrong goes on for ever: the code does not do that by itself.
+-- A function's run keeps up with its body in the source, or it breaks with the source's output while the source is not finished.
+-- This is for a meaning in which a program that goes wrong runs for ever: the code by itself does not do that.
 abbrev pub TracksOrBreaks : Meaning → (function rate : ℕ) → {C : Type 0} → (C → Move C) → (C → List ℕ) → (start : List ℕ → World → C) → Type 0
 TracksOrBreaks meaning f rate move output start =
     (opened : ℕ) → opened < most_open → (ws : List ℕ) (h : World) → IsCall meaning f ws h → (n : ℕ)

@@ -10,7 +10,7 @@ use Rattle.cc_simulation.specs.Run.{Move, Goes, Calls, Returns, Fails, tried}
 
 -- ---- syntax
 
--- an expression: a word, a variable, an operator on its operands, an element, so wide, of an object
+-- an expression: a word, a variable, an operator with its operands, an element of this width of an object
 pub data Expression : Type 0 where
   Constant : (word : ℕ) → Expression
   Local : (variable : ℕ) → Expression
@@ -18,7 +18,8 @@ pub data Expression : Type 0 where
   Binary : two.Binary → Expression → Expression → Expression
   Load : (width : Width) → (object : ℕ) → (index : Expression) → Expression
 
--- a statement. A call's or a read's result goes to a variable or is dropped; a loop goes on for ever; `Exit k` leaves k + 1 blocks
+-- a statement. The result of a call or a read goes into a variable or is dropped; a loop runs for ever; `Exit k` leaves k + 1
+-- blocks.
 pub data Statement : Type 0 where
   Skip : Statement
   Set : (variable : ℕ) → Expression → Statement
@@ -39,13 +40,13 @@ pub data Statement : Type 0 where
 abbrev pub Variables : Type 0
 Variables = ℕ → ℕ
 
--- one word, where there is one, made to another
+-- continues with a word if there is one
 abbrev pub then_value : {A B : Type 0} → Option A → (A → Option B) → Option B
 then_value None go = None
 then_value (Some a) go = go a
 
--- the value of an expression; none where an operator gives none, where an index lies outside its object, or where the object's elements
--- have another width
+-- the value of an expression; None if an operator has no value, an index is outside its object, or the object's elements have
+-- another width
 abbrev pub value : Expression → Variables → World → Option ℕ
 value (Constant w) l h = Some w
 value (Local i) l h = Some (l i)
@@ -58,25 +59,25 @@ abbrev pub values : List Expression → Variables → World → Option (List ℕ
 values [] l h = Some []
 values (e ∷ rest) l h = then_value (value e l h) (λ w. then_value (values rest l h) (λ ws. Some (w ∷ ws)))
 
--- a word in a variable
+-- the variables with a word put into one
 abbrev pub put : Variables → (variable word : ℕ) → Variables
 put l x w y = if x == y then w else l y
 
--- a result in its variable, where it has one
+-- the variables with a result put into one, if there is a variable for it
 abbrev pub put_result : Variables → Option ℕ → ℕ → Variables
 put_result l None w = l
 put_result l (Some x) w = put l x w
 
 -- ---- moves
 
--- what is to be done after a statement: nothing, another statement, the next turn of a loop, the end of a block
+-- what remains to be done after a statement: nothing, another statement, the next turn of a loop, the end of a block
 pub data Continuation : Type 0 where
   Ends : Continuation
   Then : Statement → Continuation → Continuation
   Again : Statement → Continuation → Continuation
   Leaving : Continuation → Continuation
 
--- what a run is at: a statement, what is to be done after it, the variables, and what the functions share
+-- the state of a run: a statement, what remains to be done after it, the variables, and what the functions share
 pub record Config : Type 0 where
   pub statement : Statement
   pub next : Continuation
@@ -86,26 +87,26 @@ pub record Config : Type 0 where
 abbrev pub config : Statement → Continuation → Variables → World → Config
 config s κ l h = record { statement = s; next = κ; variables = l; world = h }
 
--- a statement is done: the run goes on with what is after it; where the function is done it gives 0
+-- a statement is done: the run continues with what remains; at the function's end the value is 0
 abbrev pub skips : Continuation → Variables → World → Move Config
 skips Ends l h = Returns (record { value = 0; world = h })
 skips (Then s κ) l h = Goes (config s κ l h)
 skips (Again s κ) l h = Goes (config s (Again s κ) l h)
 skips (Leaving κ) l h = Goes (config Skip κ l h)
 
--- what is left to do of an exit when one block is left
+-- what remains of an exit after one block is left
 abbrev pub left_by : ℕ → Statement
 left_by zero = Skip
 left_by (suc k) = Exit k
 
--- an exit leaves one thing after the other; a function has no further block to leave
+-- an exit leaves one part after another; a function has no further block to leave
 abbrev pub exits : ℕ → Continuation → Variables → World → Move Config
 exits k Ends l h = Fails
 exits k (Then s κ) l h = Goes (config (Exit k) κ l h)
 exits k (Again s κ) l h = Goes (config (Exit k) κ l h)
 exits k (Leaving κ) l h = Goes (config (left_by k) κ l h)
 
--- the first where the word is not 0, else the second
+-- the first if the word is not 0, else the second
 abbrev pub chosen : ℕ → Statement → Statement → Statement
 chosen zero a b = b
 chosen (suc w) a b = a

@@ -1,4 +1,4 @@
--- The Cminor that the code keeps, without where it lies in memory.
+-- The Cminor in the code's values, whatever its place in memory.
 use Rattle.std.specs.Prelude.{List, [], ◌∷◌}
 use Rattle.cc_cminor.specs.Cminor as cminor
 use Rattle.cc_cminor.specs.declared.code.Expression.{Expression, Constant, Local, Unary', Binary', Load'}
@@ -17,7 +17,7 @@ abbrev pub expressions_of : List Expression → List cminor.Expression
 expressions_of [] = []
 expressions_of (e ∷ rest) = expression_of e ∷ expressions_of rest
 
--- one statement after the other, without one at the end that does nothing
+-- one statement after another; the last one is not followed by a statement that does nothing
 abbrev pub in_sequence : List cminor.Statement → cminor.Statement
 in_sequence [] = cminor.Skip
 in_sequence (a ∷ []) = a

@@ -1,8 +1,8 @@
--- Each exit leaves blocks that there are.
+-- Each exit leaves blocks that exist.
 use Rattle.std.specs.Prelude.{ℕ, suc, ◌<◌}
 use Rattle.cc_cminor.specs.Cminor.{Statement, Skip, Set, Store, Call, Read, Write, Sequence, If, Loop, Block, Exit, Return}
 
--- in a statement inside so many
+-- in a statement inside this many blocks
 abbrev pub ExitsFit : (blocks : ℕ) → Statement → Type 0
 ExitsFit b Skip = Unit {0}
 ExitsFit b (Set x e) = Unit {0}

@@ -1,19 +1,20 @@
 -- the language: its syntax, and what one move does
 pub mod Cminor
--- the Cminor that the code keeps
+-- the Cminor in the code's values
 pub mod Code
--- the numbers that code names
+-- the numbers in code
 pub mod Numbers
--- runs that come to what they cannot do
+-- runs that reach something they cannot do
 pub mod Breaks
--- each exit leaves blocks that there are
+-- each exit leaves blocks that exist
 pub mod Exits
--- how many variables code takes
+-- how many variables code uses
 pub mod Variables
--- what a pair keeps
+-- what a pair guarantees
 pub mod Pair
--- how many statements and expressions code has, against the tokens of the definition
+-- how many statements and expressions code has, compared with the tokens of the definition
 pub mod Size
 -- the number of the fault
 pub mod Fault
+-- definitions that only private contracts and proofs use
 pub mod internal

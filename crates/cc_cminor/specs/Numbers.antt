@@ -1,4 +1,4 @@
--- The numbers that code names: each is below a limit of its kind.
+-- The numbers in code: each is below the limit for its kind.
 use Rattle.std.specs.Prelude.{ℕ, ◌<◌, List, [], ◌∷◌, Option, Some, None}
 use Rattle.cc_cminor.specs.Cminor.{Expression, Constant, Local, Unary, Binary, Load, Statement, Skip, Set, Store, Call, Read, Write, Sequence, If, Loop, Block, Exit, Return}
 
@@ -6,12 +6,12 @@ use Rattle.cc_cminor.specs.Cminor.{Expression, Constant, Local, Unary, Binary, L
 abbrev pub most_variables : ℕ
 most_variables = 2048
 
--- in code that comes from C they are below this: a function has at most 8 parameters and 256 locals, and a full expression of at most 512
--- tokens makes fewer than 512 values wait
+-- in code that comes from C they are below this: a function has at most 8 parameters and 256 locals, and in a full expression of
+-- at most 512 tokens fewer than 512 values wait
 abbrev pub most_lowered : ℕ
 most_lowered = 1024
 
--- a unit has at most so many objects, since each has a word, and so many functions
+-- a unit has at most this many objects, since each has a word, and at most this many functions
 abbrev pub most_objects : ℕ
 most_objects = 65536
 

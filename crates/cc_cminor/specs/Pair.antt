@@ -1,4 +1,4 @@
--- What a pair of Cminor keeps: the Cminor of one function of a typed unit.
+-- What a pair of Cminor guarantees: the Cminor of one function of a typed unit.
 use Rattle.std.specs.Prelude.{◌≡◌, ℕ, suc, ◌<◌, List, length, Some, slice_get}
 use Rattle.cc_ast.specs.Tree.{External}
 use Rattle.cc_ast.specs.Source.{source}
@@ -54,22 +54,22 @@ AreCalls unit (Return e) = Unit {0}
 abbrev pub KeepsUp : Mode → List External → (function : ℕ) → Statement → Type 0
 KeepsUp mode unit f s = (meaning : Meaning) → IsMeaning mode unit meaning → Tracks meaning f 1 cminor_move cminor_output (cminor_start s)
 
--- the code goes wrong as the function does: its run keeps up with the checked function, or breaks with the same output while that goes on for
--- ever
+-- the code goes wrong as the function does: its run keeps up with the checked function, or breaks with the same output while the
+-- function runs for ever
 abbrev pub FailsAlike : List External → (function : ℕ) → Statement → Type 0
 FailsAlike unit f s = (meaning : Meaning) → IsMeaning Checked unit meaning → TracksOrBreaks meaning f 1 cminor_move cminor_output (cminor_start s)
 
--- and, in each mode, it goes wrong if the function does
+-- in each mode, the code goes wrong if the function does
 abbrev pub GoesWrong : List External → (function : ℕ) → Statement → Type 0
 GoesWrong unit f s = (mode : Mode) (meaning : Meaning) → IsMeaning mode unit meaning → GoesWrongWith meaning f cminor_move cminor_output (cminor_start s)
 
--- so at each number of open calls the code's run follows the function's body
+-- at each number of open calls the code's run follows the function's body
 abbrev pub FollowsFunction : Mode → List External → (function : ℕ) → Statement → Type 0
 FollowsFunction mode unit f s =
     (meaning : Meaning) → IsMeaning mode unit meaning → (opened : ℕ) → opened < most_open → (ws : List ℕ) (h : World) → IsCall meaning f ws h
     → Follows (λ n. answered (meaning.body n opened f ws h)) (λ (b : ℕ × ℕ). run cminor_move cminor_output (call_effect meaning (suc opened)) b.0 b.1 (cminor_start s ws h))
 
--- what a pair's type keeps
+-- what a pair's type guarantees
 pub record IsPair (p : Pair) : Type 0 where
   pub typed : IsTyped (tree_of p)
   pub function : p.function < length (functions (tree_of p))

@@ -1,5 +1,5 @@
--- How many statements and expressions code has, and how many operations that may have no answer, against the tokens of the definition that
--- it comes from.
+-- How many statements and expressions code has, and how many operations that may have no value, compared with the tokens of the
+-- definition that it comes from.
 use Rattle.std.specs.Prelude.{◌≡◌, ℕ, suc, ◌+◌, ◌*◌, ◌≤◌, List, [], ◌∷◌, length, Some, slice_get}
 use Rattle.cc_ast.specs.Tree.{External}
 use Rattle.cc_ast.specs.Grammar.{Measured, SpellsExternal}
@@ -8,7 +8,7 @@ use Rattle.cc_words.specs.declared.operators.Binary as two
 use Rattle.cc_words.specs.declared.operators.Binary.TheVariants.{DivS, DivU, RemS, RemU, Shl, ShrS, ShrU}
 use Rattle.cc_cminor.specs.Cminor.{Expression, Constant, Local, Unary, Binary, Load, Statement, Skip, Set, Store, Call, Read, Write, Sequence, If, Loop, Block, Exit, Return}
 
--- an expression, with the expressions in it
+-- an expression, including the expressions in it
 abbrev pub expression_size : Expression → ℕ
 expression_size (Constant w) = 1
 expression_size (Local i) = 1
@@ -20,7 +20,7 @@ abbrev pub expressions_size : List Expression → ℕ
 expressions_size [] = 0
 expressions_size (e ∷ rest) = expression_size e + expressions_size rest
 
--- a statement, with the statements and expressions in it
+-- a statement, including the statements and expressions in it
 abbrev pub statement_size : Statement → ℕ
 statement_size Skip = 1
 statement_size (Set x e) = suc (expression_size e)
@@ -35,14 +35,14 @@ statement_size (Block a) = suc (statement_size a)
 statement_size (Exit k) = 1
 statement_size (Return e) = suc (expression_size e)
 
--- the code of function f has at most 12 statements and expressions for each token of the function's definition, whichever tokens
--- spell it (those of the text are some that do)
+-- the code of function f has at most 12 statements and expressions for each token of the function's definition, for any tokens
+-- that spell it (those of the text are among them)
 abbrev pub AtMostTwelveAToken : List External → (f : ℕ) → Statement → Type 0
 AtMostTwelveAToken unit f s =
     (definition : External) → slice_get (definitions unit) f ≡ Some definition → (tokens : List Measured) → SpellsExternal tokens definition
     → statement_size s ≤ 12 * length tokens
 
--- ---- operations that may have no answer
+-- ---- operations that may have no value
 
 abbrev pub partial : two.Binary → ℕ
 partial DivS = 1
@@ -54,7 +54,7 @@ partial ShrS = 1
 partial ShrU = 1
 partial op = 0
 
--- in an expression, and those of its elements
+-- in an expression, including its elements
 abbrev pub partials : Expression → ℕ
 partials (Constant w) = 0
 partials (Local x) = 0
@@ -80,7 +80,7 @@ code_partials (Block a) = code_partials a
 code_partials (Exit k) = 0
 code_partials (Return e) = partials e
 
--- the code of function f has at most one for each token of the function's definition, whichever tokens spell it
+-- the code of function f has at most one for each token of the function's definition, for any tokens that spell it
 abbrev pub AtMostOnePartialAToken : List External → (f : ℕ) → Statement → Type 0
 AtMostOnePartialAToken unit f s =
     (definition : External) → slice_get (definitions unit) f ≡ Some definition → (tokens : List Measured) → SpellsExternal tokens definition

@@ -1,8 +1,8 @@
--- The variables of code: how many there are.
+-- How many variables code uses.
 use Rattle.std.specs.Prelude.{ℕ, suc, List, [], ◌∷◌, Option, Some, None, if◌then◌else◌, nat_le}
 use Rattle.cc_cminor.specs.Cminor.{Expression, Constant, Local, Unary, Binary, Load, Statement, Skip, Set, Store, Call, Read, Write, Sequence, If, Loop, Block, Exit, Return}
 
--- the least number that is above a variable and not below so many
+-- the least number that is above a variable and at least this count
 abbrev pub above : (count variable : ℕ) → ℕ
 above count x = if nat_le count x then suc x else count
 
@@ -10,7 +10,7 @@ abbrev pub above_result : (count : ℕ) → Option ℕ → ℕ
 above_result count None = count
 above_result count (Some x) = above count x
 
--- the same for the variables of an expression, of some, of a statement
+-- the same for the variables of an expression, of several, of a statement
 abbrev pub above_expression : (count : ℕ) → Expression → ℕ
 above_expression count (Constant w) = count
 above_expression count (Local x) = above count x

@@ -1,9 +1,9 @@
--- What only private contracts and proofs speak of.
+-- Definitions that only private contracts and proofs use.
 -- the code of a list of statements
 pub mod Statements
 -- how a body becomes Cminor
 pub mod Lowering
--- the code of a function that is resolved
+-- the code of a resolved function
 pub mod Lowered
 -- a value that code takes
 pub mod Taken

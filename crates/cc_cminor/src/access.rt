@@ -1,4 +1,4 @@
-// Variables, which are locals and objects of one word, and elements.
+// Variables, which are locals or objects of one word, and elements.
 
 ghost use Rattle.std.specs.Prelude.{◌≡◌, IfOk};
 ghost use Rattle.cc_types.specs.Scope.{found};
@@ -16,21 +16,21 @@ use cc_resolve::Environment;
 use cc_words::Width;
 use std::alloc::{AllocError, Global};
 
-/// The number of the object of a name; of a name that no object has, 0.
+/// The number of the object with this name; 0 if no object has it.
 pub fn object(names: &Environment<'_>, name: &[u8]) -> usize
     ensures { result ≡ object_of names.now.layout name.now }
 {
     names.object_number(name).unwrap_or(0)
 }
 
-/// How wide the elements of the object of a name are.
+/// How wide the elements of the object with this name are.
 pub fn width(names: &Environment<'_>, name: &[u8]) -> Width
     ensures { result ≡ width_of names.now.layout name.now }
 {
     names.object(name).width
 }
 
-/// What reads a variable.
+/// The expression that reads a variable.
 pub fn read_variable(
     alloc: Global,
     names: &Environment<'_>,
@@ -48,7 +48,7 @@ pub fn read_variable(
     boxed_expression(alloc, expression)
 }
 
-/// What puts a value into a variable.
+/// The statement that puts a value into a variable.
 pub fn set_variable(
     alloc: Global,
     names: &Environment<'_>,
@@ -76,7 +76,7 @@ pub fn variable(alloc: Global, names: &Environment<'_>, name: &[u8]) -> Result<T
     Ok(at_once(names.variable_type(name), expression))
 }
 
-/// The value of an element, which waits in variable `k` where there is code in front of its index.
+/// The value of an element. It waits in variable `k` if there is code before its index.
 pub fn element(
     alloc: Global,
     names: &Environment<'_>,

@@ -1,12 +1,12 @@
-// Assignments, increments and decrements, and expressions whose value is not used: they are put into a variable all the same, since
-// they may go wrong.
+// Assignments, increments and decrements, and expressions whose value is not used. The value of such an expression is still put
+// into a variable, because it may go wrong.
 //
-// Of `a[i] op= e` the order is index, right side, old value, write: the index waits in the first free variable, the right side is
-// used above it, and the old value is read in the store itself.
+// The order of `a[i] op= e` is index, right side, old value, write. The index waits in the first free variable, the right side
+// uses the variables above it, and the store itself reads the old value.
 
 ghost use Rattle.std.specs.Prelude.{◌≡◌, IfOk};
 ghost use Rattle.cc_ast.specs.Tree as tree;
-ghost use Rattle.cc_ast.specs.Erase.{name_tree, expression_tree, target_tree, action_tree, optional_action};
+ghost use Rattle.cc_ast.specs.Erase.{name_tree, target_tree, action_tree, optional_action};
 ghost use Rattle.cc_cminor.specs.Code.{expression_of, statement_of};
 ghost use Rattle.cc_cminor.specs.internal.Lowering.{combined, performed, performed_optional};
 ghost use Rattle.cc_cminor.specs.internal.Taken.{code_before, behind_code, above_target, element_set, assigned_to};
@@ -17,12 +17,12 @@ use super::code::{Expression, Statement};
 use super::expressions::{put, value};
 use super::operators::binary;
 use super::taken::{Taken, behind, word};
-use cc_ast::{Action, BinaryOperator, Expression as Tree, Identifier, Scalar, Target};
+use cc_ast::{Action, BinaryOperator, Identifier, Scalar, Target};
 use cc_resolve::Environment;
 use cc_types::{applied_operator, step_operator, working_type};
 use std::alloc::{AllocError, Global};
 
-// What is written, of an old value in a type and a right side in another.
+// The value to write, given an old value of one type and a right side of another.
 fn combine(
     alloc: Global,
     operator: Option<BinaryOperator>,
@@ -68,7 +68,7 @@ fn assign_variable(
     behind(alloc, before, statement)
 }
 
-// The write of an element whose index waits in variable `k`.
+// The statement that writes an element whose index waits in variable `k`.
 fn store_element(
     alloc: Global,
     names: &Environment<'_>,
@@ -96,7 +96,7 @@ fn store_element(
     behind(alloc, before, store)
 }
 
-// A target is set to a right side that uses only variables above those of the target.
+// Sets a target to a right side that uses only variables above those of the target.
 fn assign(
     alloc: Global,
     names: &Environment<'_>,
@@ -128,7 +128,7 @@ fn above_target(names: &Environment<'_>, target: &Target) -> Result<usize, Alloc
     }
 }
 
-/// What an action does.
+/// The statement that does an action.
 pub fn action(
     alloc: Global,
     names: &Environment<'_>,
@@ -151,7 +151,7 @@ pub fn action(
     }
 }
 
-/// What an action that may be left out does.
+/// The statement that does an action that may be absent.
 pub fn optional_action(
     alloc: Global,
     names: &Environment<'_>,

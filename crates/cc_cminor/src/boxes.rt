@@ -8,7 +8,7 @@ ghost use Rattle.cc_cminor.specs.internal.Statements.{statements_of};
 use super::code::{Expression, Statement};
 use std::alloc::{AllocError, Global};
 
-/// The variable so many above another. Each of them holds a value of the tree, so memory runs out long before numbers do.
+/// The variable this many above another. Each of these holds a value of the tree, so memory runs out long before numbers do.
 pub fn above(variable: usize, count: usize) -> Result<usize, AllocError>
     ensures { IfOk result (λ n. n ≡ variable + count) }
 {
@@ -35,7 +35,7 @@ pub fn boxed_statement(alloc: Global, statement: Statement) -> Result<Box<Statem
     Ok(Box::new(alloc, statement)?)
 }
 
-/// A word.
+/// The expression for a word.
 pub fn constant(alloc: Global, word: u32) -> Result<Box<Expression>, AllocError>
     ensures { IfOk result (λ e. expression_of e.value ≡ cminor.Constant word) }
 {
@@ -74,7 +74,7 @@ pub fn both(
     boxed_statement(alloc, Statement::Sequence(all))
 }
 
-/// Some statements, one after the other.
+/// Some statements, one after another.
 pub fn sequence(alloc: Global, all: Vec<Statement>) -> Result<Box<Statement>, AllocError>
     ensures { IfOk result (λ s. statement_of s.value ≡ in_sequence (statements_of all.items)) }
 {

@@ -1,7 +1,7 @@
-// Branches: what one tests, so that it costs least.
+// Branches: what a branch tests, chosen to cost least.
 //
-// A branch asks only whether a word is 0. So no comparison has to be made to a word of 0 or 1 for it where another word is 0 in the same
-// cases, or in all others: then the two ways are exchanged.
+// A branch only asks whether a word is 0. So a comparison need not be turned into a word of 0 or 1 if another word is 0 in the
+// same cases, or in exactly the others; then the two branches are exchanged.
 
 ghost use Rattle.std.specs.Prelude.{◌≡◌, if◌then◌else◌, IfOk};
 ghost use Rattle.cc_cminor.specs.Cminor as cminor;
@@ -25,7 +25,7 @@ fn is_nothing(expression: &Expression) -> bool
     }
 }
 
-// A word that is 0 where two words are equal.
+// A word that is 0 exactly if two words are equal.
 fn different(
     alloc: Global,
     left: Box<Expression>,
@@ -52,7 +52,7 @@ fn is_constant(expression: &Expression) -> bool
     }
 }
 
-// `<=`, which is the opposite of `<` of the operands exchanged; with a constant at the right it is left.
+// `<=`, which is the opposite of `<` with the operands exchanged. If the right one is a constant, it is left as it is.
 fn at_most(
     alloc: Global,
     operator: Binary,
@@ -89,7 +89,7 @@ fn compared(
     }
 }
 
-// Whether that is 0 where the operator's value is not.
+// Whether the tested word is 0 exactly if the operator's value is not.
 fn is_opposite(operator: Binary, right: &Expression) -> bool
     ensures { result ≡ is_opposite operator (expression_of right.now) }
 {
@@ -100,7 +100,7 @@ fn is_opposite(operator: Binary, right: &Expression) -> bool
     }
 }
 
-// What a branch tests, and whether that is 0 where the value is not.
+// What a branch tests, and whether that is 0 exactly if the value is not.
 fn condition(alloc: Global, test: Box<Expression>) -> Result<(Box<Expression>, bool), AllocError>
     ensures condition { IfOk result (λ t. expression_of t.0.value ≡ condition (expression_of test.value)) }
     ensures reversed { IfOk result (λ t. t.1 ≡ is_reversed (expression_of test.value)) }
@@ -119,7 +119,7 @@ fn condition(alloc: Global, test: Box<Expression>) -> Result<(Box<Expression>, b
     }
 }
 
-/// The first of two statements where a value is not 0, else the second.
+/// The branch that does the first statement if a value is not 0, else the second.
 pub fn branch(
     alloc: Global,
     test: Box<Expression>,

@@ -1,6 +1,6 @@
-// The text of Cminor: a line for each statement, two spaces deeper within an `if`, a `loop` or a `block`. Variables are `v0`, `v1` and so
-// on, objects `o0`, functions `f0`; words are unsigned decimals; `byte` stands in front of an element that is a byte. A sequence is its
-// statements' lines.
+// The text of Cminor: a line for each statement, indented by two more spaces inside an `if`, a `loop` or a `block`. Variables are
+// `v0`, `v1` and so on, objects `o0`, functions `f0`; words are unsigned decimals; `byte` precedes an element that is a byte. A
+// sequence is written as its statements' lines.
 
 use super::code::{Expression, Statement};
 use super::pair::CminorPair;
@@ -56,7 +56,7 @@ fn write_indent<W: fmt::Write>(f: &mut fmt::Formatter<W>, depth: usize) -> fmt::
     Ok(())
 }
 
-// The lines of a statement, so deep.
+// Writes the lines of a statement at this depth.
 fn write_statement<W: fmt::Write>(
     f: &mut fmt::Formatter<W>,
     depth: usize,

@@ -1,8 +1,8 @@
 // Expressions: the value that code takes, in one walk over the tree.
 //
-// The statements that put a value into variable k use those above it alone. Whether arguments are plain is asked at their call, and
-// nowhere else, so each part of an expression is asked once. The recursion is as deep as the tree: at most 512 tokens of a full
-// expression.
+// The statements that put a value into variable k set only k and variables above it. Whether arguments are plain is tested only
+// at their call, so each part of an expression is tested once. The recursion is as deep as the tree, which has at most 512 tokens
+// in a full expression.
 
 ghost use Rattle.std.specs.Prelude.{◌≡◌, true, IfOk};
 ghost use Rattle.cc_ast.specs.Tree as tree;
@@ -58,7 +58,7 @@ fn are_plain(trees: &[Tree]) -> bool
 
 // ---- calls
 
-// So many variables from `k` on.
+// This many variables from `k` on.
 fn locals_from(alloc: Global, k: usize, count: usize) -> Result<Vec<Expression>, AllocError>
     ensures { IfOk result (λ v. code.expressions_of v.items ≡ locals_from k count) }
 {
@@ -69,7 +69,7 @@ fn locals_from(alloc: Global, k: usize, count: usize) -> Result<Vec<Expression>,
     Ok(all)
 }
 
-// The last argument, which is the only one of a call that has one.
+// The last argument, which is the only one of a call with one argument.
 fn last(alloc: Global, mut arguments: Vec<Expression>) -> Result<Box<Expression>, AllocError>
     ensures { IfOk result (λ e. expression_of e.value ≡ last_value (code.expressions_of arguments.items)) }
 {
@@ -81,7 +81,7 @@ fn last(alloc: Global, mut arguments: Vec<Expression>) -> Result<Box<Expression>
     }
 }
 
-// What writes a word; a call of it has the value 0.
+// The statements that write a word; the value of such a call is 0.
 fn write(alloc: Global, k: usize, word: Box<Expression>) -> Result<Box<Statement>, AllocError>
     ensures { IfOk result (λ s. statement_of s.value ≡ cminor.Sequence (cminor.Write (expression_of word.value)) (cminor.Set k (cminor.Constant 0))) }
 {
@@ -91,7 +91,7 @@ fn write(alloc: Global, k: usize, word: Box<Expression>) -> Result<Box<Statement
     both(alloc, write, zero)
 }
 
-// A call on arguments, its result in variable `k`.
+// A call with these arguments; its result goes into variable `k`.
 fn invoke(
     alloc: Global,
     callee: Callee,
@@ -134,7 +134,7 @@ fn all_plain(
     Ok(all)
 }
 
-// The values of arguments in the variables from `k` on.
+// The statements that put the values of arguments into the variables from `k` on.
 #[cycle(values)]
 fn put_all(
     alloc: Global,
@@ -177,7 +177,7 @@ fn call(
 
 // ---- values
 
-/// The value of an expression, which waits in variable `k` where there is code in front of it.
+/// The value of an expression. It waits in variable `k` if there is code before it.
 #[cycle(values)]
 pub fn value(
     alloc: Global,
@@ -222,7 +222,7 @@ pub fn value(
     }
 }
 
-/// What puts the value of an expression into variable `k`.
+/// The statement that puts the value of an expression into variable `k`.
 #[cycle(values)]
 pub fn put(
     alloc: Global,
@@ -236,7 +236,7 @@ pub fn put(
     put_in(alloc, k, taken)
 }
 
-/// The value of an expression that may be left out, and the word without it.
+/// The value of an expression that may be absent, or the given word without it.
 pub fn value_or(
     alloc: Global,
     names: &Environment<'_>,

@@ -1,4 +1,4 @@
-// Why a function has no Cminor.
+// Why a function was not turned into Cminor.
 
 ghost use Rattle.std.specs.Prelude.{◌≡◌};
 ghost use Rattle.cc_cminor.specs.Fault.{fault_number};
@@ -6,7 +6,7 @@ ghost use Rattle.cc_cminor.specs.Fault.{fault_number};
 use std::alloc::AllocError;
 use thiserror::Error;
 
-/// Why a function has no Cminor.
+/// Why a function was not turned into Cminor.
 #[derive(Debug, Drop, Error)]
 pub enum CminorFault {
     /// 40: memory ran out.

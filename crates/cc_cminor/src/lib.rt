@@ -1,10 +1,13 @@
 //! From C to Cminor: numbered word variables, expressions without effect, and structured statements; the first of the compiler's
 //! languages after C.
 //!
-//! `code` has the syntax, `display` its text, `pair` the type that keeps that a function's Cminor does what the function does.
-//! `lower` makes it: `statements` on `actions` on `expressions` write the code, with `taken` (values that code takes), `access`,
-//! `operators` and `boxes` below. How a body becomes Cminor is a definition of `specs/internal`, of which the lemmas of `proofs`
-//! show that it keeps up with the function (`Bodies`), how large it is (`Counts`) and which numbers it names (`Fits`).
+//! - `code`: the syntax; `display`: its text.
+//! - `pair`: the type that guarantees that a function's Cminor does what the function does.
+//! - `lower`: makes a pair. `statements`, on `actions`, on `expressions`, write the code, with `taken` (values that code takes),
+//!   `access`, `operators` and `boxes` below.
+//!
+//! How a body becomes Cminor is a definition in `specs/internal`. Lemmas in `proofs` show that it keeps up with the function
+//! (`Bodies`), how large it is (`Counts`) and which numbers it has (`Fits`).
 #![tactic(auto)]
 
 mod access;

@@ -1,7 +1,7 @@
 // From a function of a typed unit to its Cminor.
 //
-// The code is that of the function's body, from the environment in which the body begins. That such code keeps up with the function,
-// and calls each function with its number of arguments, follows from what the meaning hands out of each typed unit.
+// The code is that of the function's body, from the environment in which the body begins. It keeps up with the function, and
+// calls each function with its number of arguments; both follow from the laws of the meaning for every typed unit.
 
 ghost use Rattle.std.specs.Prelude.{◌≡◌, ◌<◌, length, IfOk};
 ghost use Rattle.std.specs.Arc.{arc_value};
@@ -40,7 +40,7 @@ fn lowered(alloc: Global, unit: &TypedUnit, function: usize) -> Result<Box<State
     code
 }
 
-// The pair of such code: what its type keeps are laws of the meaning, at this unit.
+// Makes the pair of such code. What its type guarantees are laws of the meaning, applied to this unit.
 fn paired(unit: Arc<TypedUnit>, function: usize, code: Box<Statement>) -> CminorPair
     requires function { function < length (defined_names (source (arc_value unit))) }
     requires code { IsLowered (source (arc_value unit)).externals function (statement_of code.value) }
@@ -61,11 +61,12 @@ fn paired(unit: Arc<TypedUnit>, function: usize, code: Box<Statement>) -> Cminor
     CminorPair::new(Mode::Plain, unit, function, code)
 }
 
-/// The Cminor of the function with a number. Functions are numbered from 0 in the order of their definitions. The pair's type keeps
-/// that the code's run follows the meaning of the function. If the function goes wrong, for another cause than depth, the code comes to
-/// what it cannot do, with the same output (`fails_alike`, `goes_wrong`): nothing that may go wrong is left out.
+/// Returns the Cminor of the function with this number. Functions are numbered from 0 in the order of their definitions. The
+/// pair's type guarantees that the code's run follows the meaning of the function. If the function goes wrong for a cause other
+/// than depth, the code reaches something that it cannot do, with the same output (`fails_alike`, `goes_wrong`): nothing that may
+/// go wrong is left out.
 ///
-/// `CminorFault::OutOfMemory` (40) alone, where memory runs out.
+/// Fails only with `CminorFault::OutOfMemory` (40), if memory runs out.
 pub fn to_cminor(
     alloc: Global,
     unit: &Arc<TypedUnit>,

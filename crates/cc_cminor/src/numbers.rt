@@ -1,4 +1,4 @@
-// How many variables code takes.
+// How many variables code uses.
 
 ghost use Rattle.std.specs.Prelude.{◌≡◌, ◌<◌, ◌≤◌};
 ghost use Rattle.cc_cminor.specs.Code.{expression_of, expressions_of, statement_of, in_sequence};
@@ -8,7 +8,7 @@ ghost use Rattle.cc_cminor.specs.Variables.{above, above_result, above_expressio
 
 use super::code::{Expression, Statement};
 
-// So many, or one more than a variable where that is more.
+// The count, or the number after the variable if that is larger.
 fn with_variable(count: u32, variable: usize) -> u32
     requires number { variable < most_variables }
     requires count { count ≤ most_variables }
@@ -63,7 +63,7 @@ fn with_expressions(count: u32, es: &[Expression]) -> u32
     all
 }
 
-/// The least number that is not below `count` and above each variable that a statement reads or sets.
+/// The least number that is at least `count` and above each variable that a statement reads or sets.
 #[cycle(statements)]
 #[tactic(auto, using(crate::proofs::Counting::above_list))]
 pub fn variables_above(count: u32, s: &Statement) -> u32

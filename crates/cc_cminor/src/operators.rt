@@ -1,4 +1,4 @@
-// Operators, in the type in which they work, as those of Cminor.
+// Operators, by the type in which they work, as operators of Cminor.
 
 ghost use Rattle.std.specs.Prelude.{◌≡◌, IfOk};
 ghost use Rattle.cc_cminor.specs.Cminor as cminor;
@@ -23,7 +23,7 @@ fn single_of(operation: UnaryOperation) -> Unary
     }
 }
 
-/// A unary operator on an expression; plus leaves it.
+/// A unary operator applied to an expression; plus leaves it as it is.
 pub fn unary(
     alloc: Global,
     operator: UnaryOperator,
@@ -40,7 +40,7 @@ pub fn unary(
     }
 }
 
-// Whether an operator gives 0 or 1.
+// Whether an operator's value is always 0 or 1.
 fn is_comparison(operator: Binary) -> bool
     ensures { result ≡ is_comparison operator }
 {
@@ -50,7 +50,7 @@ fn is_comparison(operator: Binary) -> bool
     )
 }
 
-// Whether the value of an expression is 0 or 1, by its form.
+// Whether the value of an expression is always 0 or 1, by its form.
 fn is_truth(expression: &Expression) -> bool
     ensures { result ≡ is_truth (expression_of expression.now) }
 {
@@ -61,7 +61,7 @@ fn is_truth(expression: &Expression) -> bool
     }
 }
 
-/// 1 where the value is not 0, else 0: itself where it is one of them already.
+/// An expression that is 1 if the value is not 0, else 0. If the value is always one of them, it is the expression itself.
 pub fn truth(alloc: Global, operand: Box<Expression>) -> Result<Box<Expression>, AllocError>
     ensures { IfOk result (λ e. expression_of e.value ≡ truth_of (expression_of operand.value)) }
 {
@@ -72,7 +72,7 @@ pub fn truth(alloc: Global, operand: Box<Expression>) -> Result<Box<Expression>,
     boxed_expression(alloc, Expression::Unary(Unary::IsZero, zero))
 }
 
-// An operator, and whether it takes the operands exchanged: `>` is `<` of them so.
+// An operator, and whether its operands are exchanged: `>` is `<` with the operands exchanged.
 fn operator_of(operation: BinaryOperation) -> (Binary, bool)
     ensures { (a b : cminor.Expression) → in_order result.1 result.0 a b ≡ operation_of operation a b }
 {
@@ -104,7 +104,7 @@ fn operator_of(operation: BinaryOperation) -> (Binary, bool)
     }
 }
 
-/// A binary operator on two expressions, in the type in which it works.
+/// A binary operator applied to two expressions, in the type in which it works.
 pub fn binary(
     alloc: Global,
     operator: BinaryOperator,

@@ -1,4 +1,4 @@
-// The Cminor of one function of a unit, with the fact that its run keeps up with the function.
+// The Cminor of one function of a unit, with the guarantee that its run keeps up with the function.
 
 ghost use Rattle.std.specs.Prelude.{◌≡◌, ◌<◌, length};
 ghost use Rattle.std.specs.Arc.{arc_value};
@@ -13,8 +13,8 @@ use cc_types::TypedUnit;
 use std::marker::Model;
 use std::sync::Arc;
 
-/// The Cminor of one function of a typed unit. Contracts see the unit, the function's number and the code; that the code's run
-/// follows the function's meaning belongs to the type, so nobody holds a pair of which it is not true.
+/// The Cminor of one function of a typed unit. Contracts see the unit, the function's number and the code. The type guarantees
+/// that the code's run follows the function's meaning, so no pair exists for which this is false.
 pub struct CminorPair {
     mode: Mode,
     unit: Arc<TypedUnit>,
@@ -22,7 +22,7 @@ pub struct CminorPair {
     code: Box<Statement>,
 }
 
-// By hand, so that crates above call it and do not prove anew how each part is dropped.
+// Written by hand, so that the crates above use this proof and need not show again how each part is dropped.
 impl Drop for CminorPair {
     fn drop(self) {
         let CminorPair {
@@ -52,7 +52,8 @@ impl Model for CminorPair {
 }
 
 impl CminorPair {
-    /// The Cminor of the function with a number, of which its maker has shown what the type keeps. The passes to Cminor make pairs so.
+    /// Makes a pair of the Cminor of the function with this number; the caller shows what the type guarantees. The passes to
+    /// Cminor use this.
     pub fn new(
         mode: Mode,
         unit: Arc<TypedUnit>,
@@ -92,9 +93,9 @@ impl CminorPair {
         self.function
     }
 
-    /// The code. Parameter i is variable i; each call in it has its function's number of arguments; variables are below 2,048,
-    /// objects below 65,536, functions below 64; its run keeps up with the function, at rate 1 (each move of the run pays for one
-    /// step of the source at most, so no loop is dropped), and so follows it.
+    /// The code. Parameter i is variable i. Each call in it has its function's number of arguments. Variables are below 2,048,
+    /// objects below 65,536, functions below 64. Its run keeps up with the function at rate 1: each move of the run pays for at
+    /// most one step of the source, so no loop is dropped. So it follows the function.
     pub fn code(&self) -> &Statement
         ensures code { result.now ≡ self.now.statement }
         ensures typed { IsTyped (tree_of self.now) }
@@ -106,7 +107,7 @@ impl CminorPair {
         &self.code
     }
 
-    /// The unit's owner, for the pair of the next language.
+    /// Gives up the pair and returns the unit's owner, for the pair of the next language.
     pub fn into_unit(self) -> Arc<TypedUnit>
         ensures answer { arc_value result ≡ self.unit }
     {

@@ -1,11 +1,11 @@
 // Declarations and statements.
 //
-// Only loops make blocks: `break` leaves the block around the loop, `continue` the block of the body, so a loop's condition and what
-// follows its body stand between the two. The recursion is as deep as the tree: at most 64 levels.
+// Only loops make blocks: `break` leaves the block around the loop, `continue` the block of the body. So a loop's condition and
+// what follows its body are between the two. The recursion is as deep as the tree: at most 64 levels.
 
-ghost use Rattle.std.specs.Prelude.{◌≡◌, ◌≤◌, ◌-◌, ◌∷◌, ◌++◌, true, length, drop, IfOk, OnOk};
+ghost use Rattle.std.specs.Prelude.{◌≡◌, ◌≤◌, ◌-◌, ◌++◌, true, length, drop, IfOk, OnOk};
 ghost use Rattle.cc_ast.specs.Tree as tree;
-ghost use Rattle.cc_ast.specs.Erase.{expression_tree, optional_tree, optional_action, declarator_tree, declarator_trees, beginning_tree, statement_tree, statements_of};
+ghost use Rattle.cc_ast.specs.Erase.{optional_tree, optional_action, declarator_tree, declarator_trees, beginning_tree, statement_tree, statements_of};
 ghost use Rattle.cc_types.specs.Bindings.{closed};
 ghost use Rattle.cc_resolve.specs.Environment.{inner, behind, behind_beginning, with_local, with_locals};
 ghost use Rattle.cc_cminor.specs.Cminor as cminor;
@@ -25,7 +25,8 @@ use cc_ast::{
 use cc_resolve::{Environment, declare_locals};
 use std::alloc::{AllocError, Global};
 
-// Takes all locals back that were declared since so many were in scope, and leaves the scope for one that had declared so many names.
+// Removes all locals declared since this many were in scope, and closes the scope; the scope around it has declared `around`
+// names.
 fn close(names: &mut Environment<'_>, locals: usize, around: usize)
     requires { around ≤ length names.old.visible.outer }
     ensures { names.new ≡ record names.old { visible = closed around names.old.visible; locals = drop (length names.old.locals - locals) names.old.locals } }
@@ -38,7 +39,7 @@ fn close(names: &mut Environment<'_>, locals: usize, around: usize)
 
 // ---- declarations
 
-// The initialiser of the local with a number, in whose scope it is.
+// The initialiser of the local with this number; the local is in scope in it.
 fn initialise(
     alloc: Global,
     names: &Environment<'_>,
@@ -64,7 +65,7 @@ fn initialise(
     }
 }
 
-// A local is set to 0, then to its initialiser.
+// Sets a local to 0, then to its initialiser.
 fn declarator<'a>(
     alloc: Global,
     names: &mut Environment<'a>,
@@ -115,9 +116,9 @@ fn beginning<'a>(
     }
 }
 
-// ---- what becomes of a statement's parts
+// ---- what the parts of a statement become
 
-// `break` and `continue`, which leave so many blocks and one more; outside a loop, where typing allows none, the function is done.
+// `break` and `continue`, which leave this many blocks and one more. Outside a loop, which typing excludes, the function is done.
 fn leave(alloc: Global, in_loop: bool, blocks: usize) -> Result<Box<Statement>, AllocError>
     ensures { IfOk result (λ s. statement_of s.value ≡ leaving in_loop blocks) }
 {
@@ -142,7 +143,7 @@ fn give_back(alloc: Global, given: Taken) -> Result<Box<Statement>, AllocError>
     behind(alloc, before, statement)
 }
 
-// What is done where a value is not 0.
+// What is done if a value is not 0.
 fn held(alloc: Global, test: Taken, held: Box<Statement>) -> Result<Box<Statement>, AllocError>
     ensures { IfOk result (λ s. statement_of s.value ≡ behind_code (code_before test.before) (branch (expression_of test.expression.value) (statement_of held.value) cminor.Skip)) }
 {
@@ -150,7 +151,7 @@ fn held(alloc: Global, test: Taken, held: Box<Statement>) -> Result<Box<Statemen
     choice(alloc, test, held, skip)
 }
 
-// The turns of a loop: of this statement, until a `break` leaves the block around it.
+// The turns of a loop: this statement again and again, until a `break` leaves the block around it.
 fn turns(alloc: Global, turn: Box<Statement>) -> Result<Box<Statement>, AllocError>
     ensures { IfOk result (λ s. statement_of s.value ≡ cminor.Block (cminor.Loop (statement_of turn.value))) }
 {
@@ -158,7 +159,7 @@ fn turns(alloc: Global, turn: Box<Statement>) -> Result<Box<Statement>, AllocErr
     boxed_statement(alloc, Statement::Block(turns))
 }
 
-// A loop with its condition first: the body in its block, then what follows it.
+// A loop that tests its condition first: the body in its block, then what follows it.
 fn test_first(
     alloc: Global,
     test: Taken,
@@ -175,7 +176,7 @@ fn test_first(
     turns(alloc, turn)
 }
 
-// A loop with its condition last.
+// A loop that tests its condition last.
 fn test_last(alloc: Global, body: Box<Statement>, test: Taken) -> Result<Box<Statement>, AllocError>
     ensures { IfOk result (λ s. statement_of s.value ≡ cminor.Block (cminor.Loop (cminor.Sequence (cminor.Block (statement_of body.value))
         (behind_code (code_before test.before) (branch (expression_of test.expression.value) cminor.Skip (cminor.Exit 0)))))) }

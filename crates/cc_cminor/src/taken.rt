@@ -1,9 +1,9 @@
-// A value that code takes: an expression of Cminor, and the code in front of it where there is some.
+// A value that code takes: an expression of Cminor, and the code before it if there is some.
 //
-// An expression in which C asks for no order, one without a call, `&&`, `||` and `?:`, has no effect: it becomes one expression of
-// Cminor, and there is no code in front of it. Every other value waits in a variable k, behind the code that puts it there. Of two
-// operands the left one waits in a variable of its own where one of them has code in front, so the order of C (from left to right)
-// stands in the order of statements.
+// An expression in which C prescribes no order (without a call, `&&`, `||` or `?:`) has no effect. It becomes one expression of
+// Cminor, with no code before it. Every other value waits in a variable k, after the code that puts it there. If one of two
+// operands has code before it, the left one waits in a variable of its own. So C's order, from left to right, is the order of the
+// statements.
 
 ghost use Rattle.std.specs.Prelude.{◌≡◌, false, IfOk};
 ghost use Rattle.cc_types.specs.Operators.{binary_type, common_type, unary_type, working_type};
@@ -20,7 +20,7 @@ use cc_ast::{BinaryOperator, Scalar, UnaryOperator};
 use cc_types::{binary_type, common_type, unary_type, working_type};
 use std::alloc::{AllocError, Global};
 
-/// The type of a value, the code in front of it where there is some, and the expression that has it then.
+/// The type of a value, the code before it if there is some, and the expression that has the value after that code.
 #[derive(Drop)]
 pub struct Taken {
     pub scalar: Scalar,
@@ -28,7 +28,7 @@ pub struct Taken {
     pub expression: Box<Expression>,
 }
 
-/// An expression with no code in front.
+/// An expression without code before it.
 pub fn at_once(scalar: Scalar, expression: Box<Expression>) -> Taken
     ensures scalar { result.scalar ≡ scalar }
     ensures value { taken_of result.before result.expression ≡ at_once (expression_of expression.value) }
@@ -49,7 +49,7 @@ pub fn word(alloc: Global, scalar: Scalar, word: u32) -> Result<Taken, AllocErro
     Ok(at_once(scalar, expression))
 }
 
-/// A value that waits in variable `k`, behind the code that puts it there.
+/// A value that waits in variable `k`, after the code that puts it there.
 pub fn waiting(
     alloc: Global,
     k: usize,
@@ -67,7 +67,7 @@ pub fn waiting(
     })
 }
 
-/// The expression of a value with no code in front.
+/// The expression of a value without code before it.
 pub fn alone(taken: Taken) -> Box<Expression>
     ensures { result.value ≡ taken.expression.value }
 {
@@ -80,7 +80,7 @@ pub fn alone(taken: Taken) -> Box<Expression>
     expression
 }
 
-/// A statement behind the code in front of the value that it takes.
+/// A statement after the code that precedes the value it takes.
 pub fn behind(
     alloc: Global,
     before: Option<Box<Statement>>,
@@ -94,7 +94,7 @@ pub fn behind(
     }
 }
 
-/// An operation's value: it waits in variable `k` where there is code in front of its operand.
+/// An operation's value. It waits in variable `k` if there is code before its operand.
 pub fn kept(
     alloc: Global,
     k: usize,
@@ -115,7 +115,7 @@ pub fn kept(
     }
 }
 
-/// What puts a value into variable `k`, where it waits if it waits.
+/// The statement that puts a value into variable `k`, which has the value already if it waits.
 pub fn put_in(alloc: Global, k: usize, taken: Taken) -> Result<Box<Statement>, AllocError>
     ensures { IfOk result (λ s. statement_of s.value ≡ put_in k (code_before taken.before) (expression_of taken.expression.value)) }
 {
@@ -169,7 +169,7 @@ pub fn operated(
     kept(alloc, k, unary_type(operator, scalar), before, value)
 }
 
-// An operator that takes both operands, of which the right one uses no variable below `k + 1`.
+// An operator that needs both operands. The right one uses no variable below `k + 1`.
 fn strictly(
     alloc: Global,
     k: usize,
@@ -196,7 +196,7 @@ fn strictly(
     waiting(alloc, k, scalar, code)
 }
 
-// `&&` or `||`, on the left operand and what puts the truth of the right one into variable `k`.
+// `&&` or `||`, given the left operand and the statement that puts the truth of the right one into variable `k`.
 fn decide(
     alloc: Global,
     k: usize,
@@ -218,7 +218,7 @@ fn decide(
     }
 }
 
-// `&&` or `||`: the right operand is evaluated only where the left one does not decide.
+// `&&` or `||`: the right operand is evaluated only if the left one does not decide.
 fn logically(
     alloc: Global,
     k: usize,
@@ -240,7 +240,7 @@ fn logically(
     waiting(alloc, k, scalar, code)
 }
 
-/// Whether an operator takes both operands: not `&&` and `||`.
+/// Whether an operator needs both operands: every one but `&&` and `||`.
 pub fn is_strict(operator: BinaryOperator) -> bool
     ensures { result ≡ is_strict (kind operator) }
 {
@@ -250,7 +250,7 @@ pub fn is_strict(operator: BinaryOperator) -> bool
     )
 }
 
-/// The first variable that the right operand may use: the left one waits below it where the operator takes both.
+/// The first variable that the right operand may use: if the operator needs both operands, the left one waits below it.
 pub fn right_from(operator: BinaryOperator, k: usize) -> Result<usize, AllocError>
     ensures { IfOk result (λ n. n ≡ right_from (kind operator) k) }
 {
@@ -261,7 +261,7 @@ pub fn right_from(operator: BinaryOperator, k: usize) -> Result<usize, AllocErro
     }
 }
 
-/// A binary operator, of which the right operand uses no variable below `right_from`.
+/// A binary operator. Its right operand uses no variable below `right_from`.
 pub fn joined(
     alloc: Global,
     k: usize,
@@ -299,7 +299,7 @@ pub fn choice(
     behind(alloc, before, statement)
 }
 
-/// `?:`: the one operand or the other goes to variable `k`.
+/// `?:`: one of the two operands goes into variable `k`.
 pub fn conditionally(
     alloc: Global,
     k: usize,

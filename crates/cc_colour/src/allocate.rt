@@ -1,8 +1,8 @@
 // The allocator: webs, their interferences, the order of Chaitin and Briggs, registers by wishes, slots, blocks.
 //
-// First all webs are whole. Those for which a slot over the calls is cheaper than a saved register are cut at calls, and so are later
-// those that calls keep and that got no register. Where a value in a slot has to go through a register and none is free, all is chosen
-// anew with two registers that no web gets.
+// At first all webs are whole. Then webs are cut at calls: first those for which a slot over the calls is cheaper than a saved register,
+// later those that calls keep and that got no register. If a value in a slot has to go through a register and none is free, everything is
+// chosen again, with two registers that no web gets.
 
 use crate::blocks::{Placed, blocks};
 use crate::interference::{Code, Graph, Partner, Web};
@@ -19,11 +19,12 @@ use cc_ltl::{Block, Ltl};
 use cc_rtl_language::Rtl;
 use std::alloc::{AllocError, Global};
 
-/// How often webs are cut anew.
+/// Webs are cut again at most this often.
 const ROUNDS: u32 = 3;
 
-/// LTL for the function, in which pseudo-registers share registers, and have slots only where these don't suffice. Live sets are to be
-/// given; whatever they are, there is an answer. Where something is too large for it, the answer is that of `spill_all`.
+/// LTL for the function. Pseudo-registers share registers, and have slots only if the registers don't suffice. `live` should be the live
+/// sets; whatever they are, there is an answer. If something is too large for this allocator, the answer is that of `spill_all`. Err:
+/// memory ran out.
 pub fn colour(alloc: Global, rtl: &Rtl, live: &Liveness) -> Result<Ltl, AllocError> {
     let next = next_places(alloc, rtl)?;
     let weights = weights(alloc, next.as_slice())?;
@@ -72,7 +73,7 @@ fn coloured_whole(alloc: Global, code: Code<'_>) -> Result<Option<Ltl>, AllocErr
     Ok(None)
 }
 
-// Whether to keep a web over its calls costs less by a slot than by a saved register.
+// Whether keeping a web over its calls costs less in a slot than in a saved register.
 fn is_cheap_to_cut(graph: &Graph, web: &Web) -> bool {
     if web.kept == 0 {
         return false;
@@ -92,8 +93,8 @@ fn is_cheap_to_cut(graph: &Graph, web: &Web) -> bool {
     by_slot <= moves.saturating_add(SAVING)
 }
 
-// The same with some webs cut; where none is, the pieces are the whole webs. Where more are to be cut, these are marked, and there is no
-// answer; where the pieces are too many, nothing is marked.
+// Does the same with some webs cut; if none is cut, the pieces are the whole webs. If more webs should be cut, they are marked, and the
+// answer is None. If there are too many pieces, the answer is None and nothing is marked.
 fn coloured_cut(
     alloc: Global,
     whole: Known<'_>,
@@ -161,7 +162,7 @@ fn coloured_pieces(
     Ok(None)
 }
 
-// Marks the whole webs that calls keep and of which a piece was to have a register and has none. Whether there is such a one.
+// Marks the whole webs that calls keep and that have a piece which should have a register and has none. Answers whether there was one.
 fn cut_more(
     whole: &Graph,
     choice: &Choice,

@@ -35,7 +35,7 @@ pub struct Matrix {
 }
 
 impl Matrix {
-    /// All bits clear. `count` is to be at most 65,536; of more, no bit can be set.
+    /// All bits clear. `count` should be at most 65,536; if it is more, no bit can be set.
     pub fn new(alloc: Global, count: u32) -> Result<Matrix, AllocError> {
         let words = if count <= 65_536 {
             (count as usize).div_ceil(64)

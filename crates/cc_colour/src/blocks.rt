@@ -1,7 +1,8 @@
 // The blocks of LTL, once each web has its place.
 //
-// An operand in a register is taken where it is, and a result put where it belongs. One in a slot goes through a register that holds
-// nothing else there. What a call, a read, a write or a return takes and gives is moved all at once, and so are the parameters.
+// An operand in a register is taken from there, and a result is put where it belongs. An operand or result in a slot goes through a
+// register that holds nothing else at that point. The words that a call, a read, a write or a return takes and gives are moved all at once,
+// and so are the parameters.
 
 use crate::interference::Code;
 use crate::nodes::{beside_constant, operands, result};
@@ -9,7 +10,8 @@ use crate::operation::{Used, nothing_used, operation_of};
 use crate::parallel::{Transfer, in_parallel, push_move};
 use crate::places::Places;
 use crate::registers::{
-    DESTROYED, Place, RESULT, Registers, argument_register, first_free, numbered, only,
+    ARGUMENT_REGISTERS, DESTROYED, DUMMY, Place, RESULT, Registers, argument_register, first_free,
+    numbered, only,
 };
 use crate::webs::{Crossing, Crossings};
 use cc_ltl::{Block, Move, Moves, Operation, Register};
@@ -17,7 +19,7 @@ use cc_rtl_language::Node;
 use std::alloc::{AllocError, Global};
 use std::mem;
 
-/// What blocks are made of. The one place that leads to each node need be known only where there are slots.
+/// What blocks are made from. `sole`, the only node that leads to each node, needs to be known only if there are slots.
 #[derive(Clone, Copy)]
 pub struct Placed<'a> {
     pub code: Code<'a>,
@@ -25,7 +27,7 @@ pub struct Placed<'a> {
     pub sole: &'a [Option<usize>],
 }
 
-/// A word that goes from its slot to a register in front of the node before the one that takes it.
+/// A word that is fetched from its slot into a register one node before the one that takes it.
 #[derive(Clone, Copy)]
 struct Early {
     slot: u16,
@@ -33,8 +35,8 @@ struct Early {
 }
 
 impl Placed<'_> {
-    // What a node takes from a slot beside a constant of the node in front of it. It is fetched in front of both, so that these two stay
-    // neighbours.
+    // The word that a node takes from a slot in addition to a constant set by the node in front of it. It is fetched before both, so that
+    // these two stay neighbours.
     fn early(self, at: usize) -> Option<Early> {
         let before = self.sole.get(at).copied().flatten()?;
         let shape = self.code.shape;
@@ -56,7 +58,7 @@ impl Placed<'_> {
 }
 
 impl Placed<'_> {
-    // The move of what a call cuts to its slot; none where it is there already or stays in a register that the call keeps.
+    // The move of a web that a call cuts to its slot. None if the word is in the slot already, or stays in a register that the call keeps.
     fn leaving(self, crossing: Crossing) -> Option<Transfer> {
         let places = self.places;
         let kept = places.kept_register(crossing.before).is_some()
@@ -69,7 +71,7 @@ impl Placed<'_> {
         Some(Transfer { to, from })
     }
 
-    // The move of what a call cuts to its register behind the call, where it has one.
+    // The move of a web that a call cuts to its register after the call, if it has one.
     fn coming_back(self, crossing: Crossing) -> Option<Transfer> {
         let places = self.places;
         if !crossing.is_cut() {
@@ -84,9 +86,9 @@ impl Placed<'_> {
     }
 }
 
-/// A block that is being made: its node, its moves, the registers that hold something in front of the operation, and whether a register
-/// was wanted where none was free, or memory was refused; room for moves that are to be done all at once, and for what crosses a call,
-/// which the blocks of a function share.
+/// A block that is being made: its node, its moves, the registers that hold something before the operation, whether a register was needed
+/// when none was free (`short`), and whether memory was refused (`failed`). It also has room for moves that are done all at once, and for
+/// what crosses a call; the blocks of a function share this room.
 #[derive(Drop)]
 struct Draft<'a> {
     placed: Placed<'a>,
@@ -100,7 +102,7 @@ struct Draft<'a> {
     crossings: Crossings,
 }
 
-/// All blocks, or None where a register was wanted and none was free.
+/// All blocks; None if a register was needed and none was free. Err: memory ran out.
 pub fn blocks(alloc: Global, placed: Placed<'_>) -> Result<Option<Vec<Block>>, AllocError> {
     let rtl = placed.code.shape.rtl;
     let mut blocks = Vec::with_capacity(alloc, rtl.len())?;
@@ -131,7 +133,7 @@ fn no_draft(alloc: Global, placed: Placed<'_>) -> Draft<'_> {
     }
 }
 
-// Moves of a block; none where there are more than a block has.
+// Moves as a block takes them; no moves if there are more than a block can have.
 fn moves(alloc: Global, moves: Vec<Move>) -> Moves {
     match Moves::new(moves) {
         Ok(moves) => moves,
@@ -150,7 +152,7 @@ fn no_moves(alloc: Global) -> Moves {
 }
 
 impl Draft<'_> {
-    // The block of the next node. Behind an error, and behind None, no other is to be made.
+    // The block of the next node. After an error or None, no other block may be made.
     fn block(
         &mut self,
         alloc: Global,
@@ -182,13 +184,13 @@ impl Draft<'_> {
         }))
     }
 
-    // Where a register that is live in front of the node is.
+    // The place of a register that is live before the node.
     fn operand(&self, register: u32) -> Option<Place> {
         let web = self.placed.code.at(self.at, register)?;
         self.placed.places.place(web)
     }
 
-    // Where the node's result is to be, if it is live behind the node.
+    // The place for the node's result, if the result is live after the node.
     fn result(&self) -> Option<Place> {
         let web = self.placed.code.webs.result(self.at)?;
         if self.placed.code.behind(self.at).contains(&web) {
@@ -198,20 +200,20 @@ impl Draft<'_> {
         }
     }
 
-    // The registers of what is live behind the node.
+    // The registers of what is live after the node.
     fn taken_behind(&self) -> Registers {
         self.placed
             .places
             .registers(self.placed.code.behind(self.at))
     }
 
-    // A register that is in no set.
+    // A register that is not in a set. If there is none, the draft is marked as short.
     fn free(&mut self, taken: Registers) -> u8 {
         match first_free(taken) {
             Some(register) => register,
             None => {
                 self.short = true;
-                31
+                DUMMY
             }
         }
     }
@@ -224,12 +226,12 @@ impl Draft<'_> {
         self.failed |= push_move(&mut self.after, Transfer { to, from }).is_err();
     }
 
-    // A move that is to be done at once with others.
+    // Adds a move that is done at once with others.
     fn pend(&mut self, to: Place, from: Place) {
         self.failed |= self.pending.push(Transfer { to, from }).is_err();
     }
 
-    // Does these moves in front of the operation, or behind it. No register of `kept` is changed beside.
+    // Does the pending moves before the operation, or after it. No register of `kept` is changed apart from their targets.
     fn do_before(&mut self, kept: Registers) {
         match in_parallel(&mut self.pending, kept, &mut self.before) {
             Ok(true) => {}
@@ -246,7 +248,7 @@ impl Draft<'_> {
         }
     }
 
-    // Fetches what the node behind a constant takes beside it.
+    // Fetches what the node after a constant takes in addition to the constant.
     fn fetch_early(&mut self) {
         let shape = self.placed.code.shape;
         if let Some(behind) = shape.behind(self.at)
@@ -257,7 +259,7 @@ impl Draft<'_> {
         }
     }
 
-    // The register where the operation takes its left operand, which may have been fetched already.
+    // The register from which the operation takes its left operand, which may have been fetched already.
     fn take_left(&mut self, register: u32) -> Register {
         match self.placed.early(self.at) {
             Some(early) => {
@@ -268,7 +270,7 @@ impl Draft<'_> {
         }
     }
 
-    // The register where the operation takes an operand.
+    // The register from which the operation takes an operand.
     fn take(&mut self, register: u32) -> Register {
         match self.operand(register) {
             Some(Place::Register(register)) => numbered(register),
@@ -278,11 +280,11 @@ impl Draft<'_> {
                 self.move_before(Place::Register(to), Place::Slot(slot));
                 numbered(to)
             }
-            None => numbered(31),
+            None => numbered(DUMMY),
         }
     }
 
-    // The register where the operation puts its result.
+    // The register in which the operation puts its result.
     fn give(&mut self) -> Register {
         match self.result() {
             Some(Place::Register(register)) => numbered(register),
@@ -296,7 +298,7 @@ impl Draft<'_> {
     }
 
     fn take_parameters(&mut self, parameters: u32) {
-        for parameter in 0..parameters.min(22) {
+        for parameter in 0..parameters.min(ARGUMENT_REGISTERS) {
             if let Some(to) = self.operand(parameter)
                 && let Some(register) = argument_register(parameter as usize)
             {
@@ -328,7 +330,7 @@ impl Draft<'_> {
         self.failed |= found.is_err();
     }
 
-    // What a call cuts goes to its slot in front of the call, unless it is there already or stays in a register that the call keeps.
+    // Moves what a call cuts to its slot before the call, unless it is there already or stays in a register that the call keeps.
     fn leave(&mut self) {
         for crossing in &self.crossings.all {
             if let Some(transfer) = self.placed.leaving(*crossing) {
@@ -337,7 +339,7 @@ impl Draft<'_> {
         }
     }
 
-    // Behind a call, its result and what it cuts go where they belong.
+    // After a call, moves its result, and what the call cuts, to where they belong.
     fn come_back(&mut self) {
         if let Some(to) = self.result() {
             self.pend(to, Place::Register(RESULT));
@@ -350,7 +352,7 @@ impl Draft<'_> {
         self.do_after(self.taken_behind())
     }
 
-    // An operand goes to the register where results are.
+    // Moves an operand to the register for results.
     fn take_word(&mut self, register: u32) {
         let to = Place::Register(RESULT);
         match self.operand(register) {
@@ -359,7 +361,7 @@ impl Draft<'_> {
         }
     }
 
-    // The result goes where it is to be from the register where results are.
+    // Moves the result from the register for results to where it belongs.
     fn give_word(&mut self) {
         let from = Place::Register(RESULT);
         match self.result() {
@@ -368,7 +370,7 @@ impl Draft<'_> {
         }
     }
 
-    // A move of RTL needs moves alone: two from slot to slot.
+    // A move of RTL needs only moves: two if it goes from slot to slot.
     fn copy(&mut self, register: u32) {
         match (self.result(), self.operand(register)) {
             (Some(to), Some(from)) => self.copy_place(to, from),

@@ -1,4 +1,4 @@
-// Classes of numbers that are joined: a forest whose trees are flattened as one climbs them. The root of a tree is its least number.
+// Classes of numbers that are joined: a forest in which climbing a tree flattens it. The root of a tree is its least number.
 
 use std::alloc::{AllocError, Global};
 
@@ -9,7 +9,7 @@ pub struct Forest {
 }
 
 impl Forest {
-    /// Each number by itself. There are to be fewer than 2^32; of more, no class is kept.
+    /// Each number by itself. There should be fewer than 2^32; if there are more, no class is kept.
     pub fn new(alloc: Global, count: usize) -> Result<Forest, AllocError> {
         let count = u32::try_from(count).unwrap_or(0);
         let mut parents = Vec::with_capacity(alloc, count as usize)?;
@@ -30,7 +30,7 @@ impl Forest {
         }
     }
 
-    /// Numbers the classes by their least numbers, and answers the class of each number, and how many classes there are.
+    /// Numbers the classes by their least numbers, and answers the class of each number, and the number of classes. Err: memory ran out.
     pub fn numbered(&mut self, alloc: Global) -> Result<(Vec<u32>, u32), AllocError> {
         let mut classes = Vec::with_capacity(alloc, self.parents.len())?;
         let mut count = 0u32;
@@ -47,7 +47,7 @@ impl Forest {
         Ok((classes, count))
     }
 
-    // The root of a number's tree. Each number on the way is hung to the one above the one above it.
+    // The root of a number's tree. Each second number on the way is hung from the number two steps above it.
     fn root(&mut self, number: usize) -> usize {
         let mut at = number;
         for _ in 0..self.parents.len() {

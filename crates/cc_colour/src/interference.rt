@@ -1,12 +1,14 @@
-// Which webs want different locations, and what each web would like.
+// Which webs need different locations, and which location each web would like.
 //
-// A web interferes with every web that is live behind a node that sets it, but for the one that a move copies into it. What nodes
-// overwrite by themselves, as a call most registers, is forbidden to what is live behind them. A web that is passed, returned or copied
-// wishes for the register or the web that would save a move, by how often that move would be done.
+// A web interferes with every web that is live after a node that sets it, except one that a move copies into it. The registers that a node
+// overwrites by itself, as a call does most registers, are forbidden to what is live after the node. A web that is passed, returned or
+// copied wishes for the register or the web that would save a move, weighted by how often that move would be done.
 
 use crate::bits::Matrix;
 use crate::nodes::{Shape, beside_constant, operands};
-use crate::registers::{DESTROYED, RESULT, Registers, SERVICE, argument_register, only};
+use crate::registers::{
+    ARGUMENT_REGISTERS, DESTROYED, RESULT, Registers, SERVICE, argument_register, only,
+};
 use crate::webs::{Crossing, Crossings, Webs};
 use cc_rtl_language::Node;
 use std::alloc::{AllocError, Global};
@@ -25,8 +27,8 @@ pub struct Wish {
     pub weight: u32,
 }
 
-/// What is known of a web: the registers that it cannot have; how often it is read or set, and set alone; how often a call keeps it, or it
-/// is a piece behind a call or in front of one; its last wish, which its graph knows by this number.
+/// What is known about a web: the registers that it cannot have; how often it is read or set, and how often set; how often a call keeps it;
+/// how often it is a piece after a call, or before one; and the number of its last wish in the graph.
 #[derive(Clone, Copy)]
 pub struct Web {
     pub forbidden: Registers,
@@ -39,8 +41,8 @@ pub struct Web {
 }
 
 impl Web {
-    /// What a register would save where calls do not cut the web: each time that it is read or set, but not the moves from and to its
-    /// slot at calls. What nothing sets has its word in the slot already.
+    /// What a register would save if calls did not cut the web: each time that it is read or set, but not the moves from and to its slot at
+    /// calls. A web that nothing sets has its word in the slot already.
     pub fn saves(&self) -> u32 {
         let stores = if self.set > 0 { self.left } else { 0 };
         self.cost
@@ -49,7 +51,7 @@ impl Web {
     }
 }
 
-/// The webs that a node other than a call reads, in their order.
+/// The webs that a node other than a call reads, in the order of its operands.
 #[derive(Clone, Copy)]
 pub struct Read {
     pub first: Option<u32>,
@@ -64,7 +66,7 @@ pub struct Code<'a> {
 }
 
 impl<'a> Code<'a> {
-    /// The web of a register that is live in front of a node.
+    /// The web of a register that is live before a node.
     pub fn at(self, node: usize, register: u32) -> Option<u32> {
         self.webs.at(self.shape, node, register)
     }
@@ -85,7 +87,7 @@ impl<'a> Code<'a> {
         }
     }
 
-    /// The webs that are live behind a node, where it is no branch.
+    /// The webs that are live after a node, unless it is a branch.
     pub fn behind(self, node: usize) -> &'a [u32] {
         match self.shape.behind(node) {
             Some(behind) => self.webs.in_front(behind),
@@ -94,14 +96,14 @@ impl<'a> Code<'a> {
     }
 }
 
-/// A wish, and the number of the one before it of the same web.
+/// A wish, and the number of the same web's wish before it.
 #[derive(Clone, Copy)]
 pub struct Wished {
     pub wish: Wish,
     pub before: u32,
 }
 
-/// Webs, the interferences between them, and what they wish for. Wishes are numbered from 1; there is none with number 0.
+/// Webs, the interferences between them, and their wishes. Wishes are numbered from 1; number 0 means none.
 #[derive(Drop)]
 pub struct Graph {
     pub edges: Matrix,
@@ -110,7 +112,7 @@ pub struct Graph {
 }
 
 impl Graph {
-    /// That of a function.
+    /// The graph of a function. Err: memory ran out.
     pub fn of(alloc: Global, code: Code<'_>) -> Result<Graph, AllocError> {
         let mut graph = Graph::empty(alloc, code.webs.count(), code.shape.rtl.len())?;
         graph.add_nodes(alloc, code)?;
@@ -128,7 +130,7 @@ impl Graph {
         self.wishes.get(at).copied()
     }
 
-    // That of this many webs of which nothing is known, with room for a wish of each node.
+    // A graph of this many webs about which nothing is known, with room for one wish for each node.
     fn empty(alloc: Global, count: u32, nodes: usize) -> Result<Graph, AllocError> {
         Ok(Graph {
             edges: Matrix::new(alloc, count)?,
@@ -156,9 +158,9 @@ impl Graph {
         Ok(())
     }
 
-    // Parameters are set all at once, in front of the entry.
+    // Parameters are set all at once, before the entry.
     fn add_entry(&mut self, code: Code<'_>, at: usize) -> Result<(), AllocError> {
-        for parameter in 0..code.shape.rtl.parameters().min(22) {
+        for parameter in 0..code.shape.rtl.parameters().min(ARGUMENT_REGISTERS) {
             if let Some(web) = code.at(at, parameter) {
                 self.count_set(web, 1);
                 self.add_edges(code.webs.in_front(at), web, None);
@@ -183,7 +185,7 @@ impl Graph {
         self.add_wishes(code, at, node, read)
     }
 
-    // What a call cuts is set behind it; what it keeps whole can be in no register that it destroys.
+    // A web that a call cuts is set after it; a web that it keeps whole can be in no register that the call destroys.
     fn add_crossings(&mut self, code: Code<'_>, at: usize, crossings: &[Crossing]) {
         let weight = code.shape.weight(at);
         for crossing in crossings {
@@ -196,7 +198,7 @@ impl Graph {
         }
     }
 
-    // What is set interferes with what is live behind, but for what it is a copy of.
+    // What is set interferes with what is live afterwards, except with what it is a copy of.
     fn add_edges(&mut self, behind: &[u32], set: u32, copied: Option<u32>) {
         for web in behind {
             if *web != set && Some(*web) != copied {
@@ -205,8 +207,8 @@ impl Graph {
         }
     }
 
-    // What a read or a write overwrites by itself is forbidden to what is live behind it, but for its result, and for the word that it
-    // takes there.
+    // The registers that a read or a write overwrites by itself are forbidden to what is live after it, except to its result, and except to
+    // the word that it takes from there.
     fn forbid_overwritten(&mut self, code: Code<'_>, at: usize, node: &Node, read: Read) {
         match node {
             Node::Read { .. } => {
@@ -321,7 +323,7 @@ impl Graph {
         }
     }
 
-    // What a call keeps can be in no register that it destroys.
+    // A web that a call keeps can be in no register that the call destroys.
     fn count_kept(&mut self, web: u32, weight: u32) {
         if let Some(known) = self.webs.get_mut(web as usize) {
             known.forbidden |= DESTROYED;
@@ -359,7 +361,8 @@ fn copied(node: &Node, read: Read) -> Option<u32> {
     }
 }
 
-// The web that the node behind a constant sets, where it reads the constant for the last time and an instruction has it as immediate.
+// The web that the node after a constant sets, if that node reads the constant for the last time and its instruction may have the constant
+// as an immediate.
 fn overwriting(code: Code<'_>, at: usize, constant: u32) -> Option<u32> {
     let behind = code.shape.behind(at)?;
     let node = code.shape.rtl.at(behind)?;

@@ -1,10 +1,10 @@
-//! Register allocation: LTL for the RTL of a function. What stands here is trusted with nothing. Whether an answer does what the RTL
-//! does is for the validator to say; here it is only promised that there is one, for every function and any live sets.
+//! Register allocation: LTL for the RTL of a function. Nothing here is trusted. The validator says whether an answer does what the RTL
+//! does; this crate only promises an answer, for every function and any live sets.
 //!
 //! `spill` keeps each pseudo-register in a slot of its own and uses registers for one operation at a time; `slots` says which slot.
-//! `allocate` shares registers: `webs` is what one place is chosen for (over `points` and `forest`), `interference` which webs want
-//! different ones, `order` and `select` choose registers, `places` slots, `blocks` writes the code, and `parallel` puts its moves in
-//! order. `operation` is a node's operation on chosen registers; `nodes`, `live`, `registers` and `bits` are small types below.
+//! `allocate` shares registers. `webs` is what one place is chosen for (using `points` and `forest`), `interference` says which webs need
+//! different places, `order` and `select` choose registers, `places` chooses slots, `blocks` writes the code, and `parallel` puts its moves
+//! in order. `operation` is a node's operation on chosen registers; `nodes`, `live`, `registers` and `bits` are small types below them.
 #![tactic(auto)]
 
 mod allocate;

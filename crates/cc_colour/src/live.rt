@@ -2,7 +2,7 @@
 
 use cc_live::{Liveness, RegisterSet};
 
-/// Which pseudo-registers are live in front of each node. What is past a row's end, or past the last row, is not live.
+/// The pseudo-registers that are live before each node. What is past a row's end, or past the last row, is not live.
 #[derive(Clone, Copy)]
 pub struct Live<'a> {
     words: usize,
@@ -10,7 +10,7 @@ pub struct Live<'a> {
 }
 
 impl<'a> Live<'a> {
-    /// Those of a function's nodes, in the order of the nodes.
+    /// The live sets of a function's nodes, in the order of the nodes.
     pub fn of(live: &'a Liveness) -> Live<'a> {
         let sets = live.as_slice();
         let mut words = 0;
@@ -20,7 +20,7 @@ impl<'a> Live<'a> {
         Live { words, sets }
     }
 
-    /// How many words the longest row has.
+    /// The number of words in the longest row.
     pub fn words(self) -> usize {
         self.words
     }

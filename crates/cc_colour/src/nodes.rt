@@ -1,4 +1,4 @@
-// What a node reads, what it writes, where it leads, and how often it may be done.
+// What a node reads, what it writes, where it leads, and how often it may be executed.
 //
 // Nodes are known by their places in the list of a function's nodes, from 0 on.
 
@@ -10,7 +10,7 @@ use std::alloc::{AllocError, Global};
 /// The places that a node leads to: two for a branch, none for a return.
 pub type Next = [Option<usize>; 2];
 
-/// A function as allocation sees it, before any web.
+/// A function as the allocator sees it before there are webs.
 #[derive(Clone, Copy)]
 pub struct Shape<'a> {
     pub rtl: &'a Rtl,
@@ -25,7 +25,7 @@ impl Shape<'_> {
         self.next.get(node).copied().unwrap_or([None, None])
     }
 
-    /// The place that a node leads to, where it is no branch.
+    /// The place that a node leads to, unless it is a branch.
     pub fn behind(&self, node: usize) -> Option<usize> {
         match self.next_of(node) {
             [first, None] => first,
@@ -33,12 +33,12 @@ impl Shape<'_> {
         }
     }
 
-    /// How often a node may be done.
+    /// How often a node may be executed.
     pub fn weight(&self, node: usize) -> u32 {
         self.weights.get(node).copied().unwrap_or(1)
     }
 
-    /// The register that a call sets, where there is one, and the place behind it; None for another node.
+    /// The register that a call sets, if any, and the place after the call; None for another node.
     pub fn call(&self, node: usize) -> Option<(Option<u32>, usize)> {
         let behind = self.behind(node)?;
         match self.rtl.at(node)? {
@@ -48,7 +48,7 @@ impl Shape<'_> {
     }
 }
 
-/// Where each node leads.
+/// The places to which each node leads. Err: memory ran out.
 pub fn next_places(alloc: Global, rtl: &Rtl) -> Result<Vec<Next>, AllocError> {
     let mut all = Vec::with_capacity(alloc, rtl.len())?;
     for at in 0..rtl.len() {
@@ -58,7 +58,7 @@ pub fn next_places(alloc: Global, rtl: &Rtl) -> Result<Vec<Next>, AllocError> {
     Ok(all)
 }
 
-/// The one place that leads to each node, None where several do, or none.
+/// The only place that leads to each node; None if several places do, or none. Err: memory ran out.
 pub fn sole_places(alloc: Global, next: &[Next]) -> Result<Vec<Option<usize>>, AllocError> {
     let mut sole = vec![in alloc; None; next.len()]?;
     let mut is_led_to = vec![in alloc; false; next.len()]?;
@@ -151,8 +151,8 @@ pub fn operands(node: &Node) -> [Option<u32>; 2] {
     }
 }
 
-/// How often each node may be done: 1, and ten times as often for each loop round it, four loops at most. A loop is what lies between
-/// a node and the last node behind it that leads back to it.
+/// How often each node may be executed: 1, and ten times as often for each loop around it, up to four loops. A loop is everything from a
+/// node to the last node after it that leads back to it. Err: memory ran out.
 pub fn weights(alloc: Global, next: &[Next]) -> Result<Vec<u32>, AllocError> {
     let mut weights = vec![in alloc; 1; next.len()]?;
     if !has_loop(next) {
@@ -182,7 +182,7 @@ fn has_loop(next: &[Next]) -> bool {
     false
 }
 
-// Puts how often each node may be done, by the ends of the loops that begin at each node. Counts how many end at each.
+// Puts the weight of each node, by the ends of the loops that begin at each node. Counts how many loops end at each node.
 fn put_weights(ends: &[Option<usize>], leaves: &mut [u32], weights: &mut [u32]) {
     let mut depth = 0u32;
     for (at, weight) in weights.iter_mut().enumerate() {
@@ -197,7 +197,7 @@ fn put_weights(ends: &[Option<usize>], leaves: &mut [u32], weights: &mut [u32]) 
     }
 }
 
-// The last node that leads back to each node, where there is one.
+// The last node that leads back to each node, if there is one.
 fn loop_ends(alloc: Global, next: &[Next]) -> Result<Vec<Option<usize>>, AllocError> {
     let mut ends = vec![in alloc; None; next.len()]?;
     for (at, heads) in next.iter().enumerate() {
@@ -227,7 +227,7 @@ fn ten_to(depth: u32) -> u32 {
     }
 }
 
-/// What an operation takes from another register than this one, where it takes a constant from this one that its instruction may have as
+/// What an operation takes from another register than this one, if it takes a constant from this one that its instruction may have as an
 /// immediate.
 pub fn beside_constant(node: &Node, constant: u32) -> Option<u32> {
     match node {

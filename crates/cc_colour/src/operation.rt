@@ -1,10 +1,11 @@
-// The operation of LTL that stands for a node, once its registers are chosen.
+// The operation of LTL for a node, once its registers are chosen.
 
-use crate::registers::numbered;
+use crate::registers::{DUMMY, numbered};
 use cc_ltl::{Operation, Register};
 use cc_rtl_language::Node;
 
-/// The registers of an operation: of its operands in their order, and of its result. Of what it has not, any.
+/// The registers of an operation: those of its operands in their order, and that of its result. For an operand or result that it does not
+/// have, any register.
 #[derive(Clone, Copy)]
 pub struct Used {
     pub first: Register,
@@ -14,7 +15,7 @@ pub struct Used {
 
 /// Any registers, for a node without operands and result.
 pub fn nothing_used() -> Used {
-    let any = numbered(31);
+    let any = numbered(DUMMY);
     Used {
         first: any,
         second: any,

@@ -1,15 +1,15 @@
-// In which order webs get their registers (Chaitin, Briggs).
+// The order in which webs get their registers (Chaitin, Briggs).
 //
-// A web with fewer interferences than it has registers gets one, whatever the others have: it is taken out, and each web that it
-// interfered with has one interference less. Where none is left of these, the web whose slot would cost least for each interference is
-// taken out, in the hope that some of the others will share a register. Registers are then chosen in the opposite order. A web to which a
-// register would save nothing is taken out first, and gets none.
+// A web with fewer interferences than there are registers for it gets one, whatever the others have. It is taken out, and each web that it
+// interfered with has one interference less. If no such web is left, the web whose slot would cost least per interference is taken out, in
+// the hope that some of its neighbours will share a register. Registers are then chosen in the opposite order. A web to which a register
+// would save nothing is taken out first, and gets none.
 
 use crate::interference::{Graph, Web};
 use crate::registers::{ALL, Registers};
 use std::alloc::{AllocError, Global};
 
-/// The webs in the order in which they get their registers. `reserved` are the registers that none gets.
+/// The webs in the order in which they get their registers. No web gets a register of `reserved`. Err: memory ran out.
 pub fn colouring_order(
     alloc: Global,
     graph: &Graph,
@@ -36,7 +36,7 @@ pub fn colouring_order(
     Ok(order)
 }
 
-// The webs that are left: how many others of them each interferes with, which are taken out, and those that get a register for sure.
+// The webs that are left: how many of them each one interferes with, which are taken out, and those that get a register for sure.
 #[derive(Drop)]
 struct Left<'a> {
     graph: &'a Graph,
@@ -66,7 +66,7 @@ impl<'a> Left<'a> {
         Ok(left)
     }
 
-    // Takes a web out. Whether it was not out before.
+    // Takes a web out. Answers whether it was still in.
     fn take_out(&mut self, web: u32) -> Result<bool, AllocError> {
         match self.taken_out.get_mut(web as usize) {
             Some(out) if !*out => *out = true,
@@ -88,7 +88,7 @@ impl<'a> Left<'a> {
         Ok(true)
     }
 
-    // A web has one interference less.
+    // Notes that a web has one interference less.
     fn lessen(&mut self, web: u32) -> Result<(), AllocError> {
         if let Some(known) = self.graph.webs.get(web as usize)
             && let Some(degree) = self.degrees.get_mut(web as usize)
@@ -101,7 +101,7 @@ impl<'a> Left<'a> {
         Ok(())
     }
 
-    // The webs that are left, those first whose slot would cost least for each interference, which is told too.
+    // The webs that are left, each with what its slot would cost per interference, the cheapest first.
     fn by_cost(&self, alloc: Global) -> Result<Vec<(u64, u32)>, AllocError> {
         let mut keys = Vec::with_capacity(alloc, self.degrees.len())?;
         let mut web = 0u32;
@@ -117,7 +117,7 @@ impl<'a> Left<'a> {
         Ok(keys)
     }
 
-    // The webs that get a register for sure, those last that cost least.
+    // Finds the webs that get a register for sure; the cheapest come last.
     fn find_easy(&mut self, by_cost: &[(u64, u32)]) -> Result<(), AllocError> {
         for (_, web) in by_cost.iter().rev() {
             if let Some(known) = self.graph.webs.get(*web as usize)

@@ -1,7 +1,7 @@
-// Moves that are to be done all at once, one after the other.
+// Puts moves that should happen all at once in an order in which they can be done one after the other.
 //
-// A move may be done when no other still reads the place that it writes. Where none may, each of them is on a cycle of registers: one
-// register is copied to a spare one, which is read from then on in its place, and the move into it may be done.
+// A move may be done when no other move still reads the place that it writes. If no move may be done, each of them is on a cycle of
+// registers: one register is copied to a spare one, which is read in its place from then on, and the move into it may be done.
 
 use crate::registers::{Place, Registers, first_free, numbered, numbered_slot, only};
 use cc_ltl::Move;
@@ -14,8 +14,8 @@ pub struct Transfer {
     pub from: Place,
 }
 
-/// Adds the moves that do all of these, which write different places. No register of `kept` is changed beside. Answers whether there was
-/// a spare register for each cycle; where there was none, some moves are left out.
+/// Adds moves that do all the pending ones, which write different places. No register of `kept` is changed apart from their targets.
+/// Answers whether there was a spare register for each cycle; if not, some moves are left out. Err: memory ran out.
 pub fn in_parallel(
     pending: &mut Vec<Transfer>,
     kept: Registers,
@@ -41,7 +41,7 @@ pub fn in_parallel(
     Ok(true)
 }
 
-/// Adds one move. From slot to slot there is none, and nothing is added.
+/// Adds one move. There is no move from slot to slot: nothing is added then. Err: memory ran out.
 pub fn push_move(into: &mut Vec<Move>, transfer: Transfer) -> Result<(), AllocError> {
     match as_move(transfer) {
         Some(one) => put(into, one),
@@ -95,8 +95,8 @@ fn is_read(pending: &[Transfer], place: Place) -> bool {
     false
 }
 
-// Copies the register that the first move reads to a spare one, which is read from now on in its place. Whether there was one; with no
-// move there need be none.
+// Copies the register that the first move reads to a spare one, which is read in its place from now on. Answers whether there was a spare
+// register; if there is no move, the answer is yes.
 fn turn_aside(
     pending: &mut [Transfer],
     kept: Registers,

@@ -1,4 +1,5 @@
-// Where each web is: in its register, or in the slot of the whole web that it is a piece of, which no whole web beside that one has.
+// The place of each web: its register, or the slot of the whole web to which the piece belongs. No whole web that interferes with that one
+// has the same slot.
 
 use crate::bits::{first_clear, set_bit};
 use crate::interference::{Code, Graph, Web};
@@ -12,7 +13,7 @@ use std::alloc::{AllocError, Global};
 /// The words of a row with a bit for each slot.
 const SLOT_WORDS: usize = 8;
 
-/// The place of each web, and which webs may hold another word than their slot.
+/// The place of each web, and which webs may hold another word than their slot does.
 #[derive(Drop)]
 pub struct Places<'a> {
     choice: Choice,
@@ -23,7 +24,7 @@ pub struct Places<'a> {
 }
 
 impl<'a> Places<'a> {
-    /// Those of webs with their registers chosen and the whole web of each, and of the graph of whole webs.
+    /// The places of webs, from their chosen registers, the whole web of each, and the graph of whole webs. Err: memory ran out.
     pub fn of(
         alloc: Global,
         code: Code<'_>,
@@ -42,14 +43,14 @@ impl<'a> Places<'a> {
         if places.want_slots(pieces) {
             places.put_slots(alloc, pieces, whole)?;
         }
-        // Of whole webs none is left in front of a call, and nobody asks.
+        // A whole web never leaves its place at a call, so nobody asks whether it is dirty.
         if !origins.are_same() {
             places.find_dirty(alloc, code, pieces)?;
         }
         Ok(places)
     }
 
-    /// How many slots there are.
+    /// The number of slots.
     pub fn count(&self) -> u16 {
         self.count
     }
@@ -59,7 +60,7 @@ impl<'a> Places<'a> {
         self.choice.register(web)
     }
 
-    /// Where a web is. One for which no slot was left is nowhere.
+    /// The place of a web. A web for which no slot was left has no place.
     pub fn place(&self, web: u32) -> Option<Place> {
         match self.register(web) {
             Some(register) => Some(Place::Register(register)),
@@ -75,7 +76,7 @@ impl<'a> Places<'a> {
         self.slot_of(self.origins.of(web))
     }
 
-    /// Whether a web may hold another word than its slot.
+    /// Whether a web may hold another word than its slot does.
     pub fn is_dirty(&self, web: u32) -> bool {
         self.dirty.get(web as usize).copied().unwrap_or(true)
     }
@@ -97,7 +98,7 @@ impl<'a> Places<'a> {
         self.slots.get(origin as usize).copied().flatten()
     }
 
-    // Whether a piece has no register, or is left in front of a call.
+    // Whether a piece has no register, or goes to its slot before a call.
     fn wants_slot(&self, piece: &Web, web: u32) -> bool {
         piece.left > 0 || self.register(web).is_none()
     }
@@ -131,7 +132,7 @@ impl<'a> Places<'a> {
         Ok(())
     }
 
-    // The whole webs of which some piece wants a slot.
+    // The whole webs with a piece that needs a slot.
     fn wanted_slots(
         &self,
         alloc: Global,
@@ -151,7 +152,7 @@ impl<'a> Places<'a> {
         Ok(wanted)
     }
 
-    // The first slot that no whole web of a row of bits has.
+    // Gives a web the first slot that no whole web of a row of bits has.
     fn put_slot(&mut self, origin: u32, beside: &[u64]) {
         let mut taken = [0u64; SLOT_WORDS];
         let mut base = 0u32;
@@ -176,7 +177,7 @@ impl<'a> Places<'a> {
         }
     }
 
-    // What nodes set is not in its slot yet, and what came over a call in a register was not stored there.
+    // A word that a node sets is not in its slot yet, and a word that came over a call in a register was not stored there.
     fn find_dirty(
         &mut self,
         alloc: Global,

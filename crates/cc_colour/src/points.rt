@@ -1,16 +1,16 @@
-// Points: a pseudo-register in front of a node where it is live. A point's number counts the bits of the rows in front of it.
+// Points: a pseudo-register before a node at which it is live. The number of a point is the number of set bits before its own in the rows.
 
 use crate::live::Live;
 use std::alloc::{AllocError, Global};
 
-/// The points of a function: the number of the first of each node, and behind them how many there are.
+/// The points of a function: the number of each node's first point, and at the end the number of all points.
 #[derive(Drop)]
 pub struct Points {
     firsts: Vec<usize>,
 }
 
 impl Points {
-    /// Those of this many nodes.
+    /// The points of this many nodes. Err: memory ran out.
     pub fn of(alloc: Global, nodes: usize, live: Live<'_>) -> Result<Points, AllocError> {
         let mut firsts = Vec::with_capacity(alloc, nodes.saturating_add(1))?;
         let mut count = 0usize;
@@ -24,17 +24,17 @@ impl Points {
         Ok(Points { firsts })
     }
 
-    /// How many there are.
+    /// The number of points.
     pub fn count(&self) -> usize {
         self.firsts.last().copied().unwrap_or(0)
     }
 
-    /// The first point of a node, and behind the last node the number of all.
+    /// The first point of a node; after the last node, the number of all points.
     pub fn first(&self, node: usize) -> usize {
         self.firsts.get(node).copied().unwrap_or(usize::MAX)
     }
 
-    /// The point of a register that is live in front of a node.
+    /// The point of a register that is live before a node.
     pub fn point(&self, live: Live<'_>, node: usize, register: u32) -> Option<usize> {
         let place = register as usize / 64;
         let bits = live.word(node, place);
@@ -49,7 +49,7 @@ impl Points {
         Some(point.saturating_add(ones(bits & bit.wrapping_sub(1))))
     }
 
-    /// Fills a list with the two points of each register that is live in front of both nodes, but for one register.
+    /// Fills a list with the two points of each register that is live before both nodes, except one register. Err: memory ran out.
     pub fn common(
         &self,
         live: Live<'_>,
@@ -84,7 +84,7 @@ struct Row {
 }
 
 impl Row {
-    // The point behind a bit, which comes before those of the rest of the word; the same point where the bit is not set.
+    // The point after a bit, which is the next one in the word; the same point if the bit is not set.
     fn past(self, bit: u64) -> usize {
         if self.bits & bit == 0 {
             self.first
@@ -106,7 +106,7 @@ fn bit_in(register: Option<u32>, word: usize) -> u64 {
     }
 }
 
-// Adds the points of the bits that two words have in common, and goes past all points of both.
+// Adds the points of the bits that two words have in common, and advances past all points of both.
 fn add_common(
     row: &mut Row,
     other: &mut Row,

@@ -1,8 +1,8 @@
-// Sets of registers: bit r of a word for register x(r). Inside the allocator registers and slots are plain numbers.
+// Sets of registers: bit r of a word represents register x(r). Inside the allocator registers and slots are plain numbers.
 
 use cc_ltl::{Register, Slot};
 
-/// Where a word is: in a register or in a slot, by its number.
+/// A place for a word: a register or a slot, by its number.
 #[derive(Clone, Copy)]
 pub enum Place {
     Register(u8),
@@ -10,7 +10,7 @@ pub enum Place {
 }
 
 impl Place {
-    /// Whether two places are one.
+    /// Whether two places are the same.
     pub fn is(self, other: Place) -> bool {
         match (self, other) {
             (Place::Register(a), Place::Register(b)) => a == b,
@@ -23,20 +23,26 @@ impl Place {
 /// A set of registers.
 pub type Registers = u32;
 
-/// All that code may be allocated to: x7 to x31.
+/// All registers to which code may be allocated: x7 to x31.
 pub const ALL: Registers = 0xffff_ff80;
 
 /// What a call destroys: x7, x10 to x17, x28 to x31.
 pub const DESTROYED: Registers = 0xf003_fc80;
 
-/// Where calls and reads put their result, and where a word to write or to return is taken.
+/// Calls and reads put their result in this register, and a word to write or to return is taken from it.
 pub const RESULT: u8 = 10;
 
 /// What a read and a write destroy.
 pub const SERVICE: u8 = 17;
 
-/// The registers in the order in which they are tried where nothing else decides: first those that calls destroy and that no argument
-/// stands in, then the last arguments, then those that a function has to save.
+/// The register that an operation gets if it needs none, or if none is free.
+pub const DUMMY: u8 = 31;
+
+/// How many arguments have a register: x10 to x31.
+pub const ARGUMENT_REGISTERS: u32 = 22;
+
+/// The registers in the order in which they are tried if nothing else decides: first those that calls destroy and that no argument is in,
+/// then the argument registers from the last to the first, then those that a function has to save.
 pub const ORDER: [u8; 25] = [
     28, 29, 30, 31, 7, 17, 16, 15, 14, 13, 12, 11, 10, 8, 9, 18, 19, 20, 21, 22, 23, 24, 25, 26, 27,
 ];
@@ -51,7 +57,7 @@ pub fn contains(set: Registers, register: u8) -> bool {
     set & only(register) != 0
 }
 
-/// The register of an argument, where there is one: x10 for the first, x31 for the 22nd.
+/// The register of an argument, if there is one: x10 for the first, x31 for the 22nd.
 pub fn argument_register(argument: usize) -> Option<u8> {
     match u8::try_from(argument) {
         Ok(number) if number < 22 => Some(10 + number),
@@ -59,7 +65,7 @@ pub fn argument_register(argument: usize) -> Option<u8> {
     }
 }
 
-/// The first register in that order that is in no other set.
+/// The first register of that order that is not in a set.
 pub fn first_free(taken: Registers) -> Option<u8> {
     for register in ORDER {
         if !contains(taken, register) {
@@ -69,7 +75,7 @@ pub fn first_free(taken: Registers) -> Option<u8> {
     None
 }
 
-/// A register by its number, and x31 for a number that has none.
+/// The register with a number; x31 for a number that no register has.
 pub fn numbered(number: u8) -> Register {
     match Register::new(number) {
         Some(register) => register,
@@ -84,7 +90,7 @@ fn last() -> Register {
     }
 }
 
-/// A slot by its number, and slot 0 for a number that has none.
+/// The slot with a number; slot 0 for a number that no slot has.
 pub fn numbered_slot(number: u16) -> Slot {
     match Slot::new(number) {
         Some(slot) => slot,

@@ -1,17 +1,17 @@
 // Which register each web gets.
 //
-// Of the registers that no web beside it has, a web takes the one that saves the most moves: its own wishes count for it, those of the
-// webs beside it that have none yet count against it, and a register that the function would have to save for it costs that. A web for
-// which nothing is left, or for which a slot is cheaper, has a slot.
+// Of the registers that no interfering web has, a web takes the one that saves the most moves. Its own wishes count for a register. The
+// wishes of interfering webs that have none yet count against it, and so does the cost of a register that the function would have to save.
+// A web has a slot if no register is left for it, or if a slot is cheaper.
 
 use crate::interference::{Graph, Partner, Web};
 use crate::registers::{ALL, DESTROYED, ORDER, Registers, contains, only};
 use std::alloc::{AllocError, Global};
 
-/// What saving a register and getting it back costs.
+/// The cost of saving a register and restoring it.
 pub const SAVING: u32 = 2;
 
-// What was chosen for a web, or that it is to be chosen later.
+// What was chosen for a web, or that it will be chosen later.
 #[derive(Clone, Copy)]
 enum Chosen {
     Slot,
@@ -19,7 +19,7 @@ enum Chosen {
     Register(u8),
 }
 
-/// The register of each web; what has none is to have a slot.
+/// The register of each web; a web without one needs a slot.
 #[derive(Drop)]
 pub struct Choice {
     chosen: Vec<Chosen>,
@@ -27,7 +27,7 @@ pub struct Choice {
 }
 
 impl Choice {
-    /// Chooses for the webs in their order. `reserved` are the registers that none gets.
+    /// Chooses for the webs in their order. No web gets a register of `reserved`. Err: memory ran out.
     pub fn of(
         alloc: Global,
         graph: &Graph,
@@ -85,7 +85,7 @@ impl Choice {
         }
     }
 
-    // The best register for a web, of which a row of bits has those beside it.
+    // The best register for a web, whose interfering webs are given as a row of bits.
     fn best(&self, graph: &Graph, web: &Web, beside: &[u64], reserved: Registers) -> Option<u8> {
         let mut scores = Scores {
             scores: [0i64; 32],
@@ -102,7 +102,7 @@ impl Choice {
         }
     }
 
-    // The register of a set that saves most, the first of several.
+    // The register of a set that saves most; the first, if there are several.
     fn highest(&self, scores: &Scores, left: Registers) -> Option<u8> {
         let mut best = None;
         let mut most = i64::MIN;
@@ -118,7 +118,7 @@ impl Choice {
                     most = score;
                 }
                 rest &= !only(register);
-                // Of those for which nothing was counted, none scores more.
+                // Registers for which nothing was counted cannot score more.
                 if most >= 0 {
                     rest &= scores.counted;
                 }
@@ -141,7 +141,7 @@ impl Choice {
         !contains(DESTROYED | self.saved, register)
     }
 
-    // Counts for a web what those that it would share a register with, and that have none yet, wish themselves.
+    // Counts for a web the wishes of the webs with which it would share a register and that have none yet.
     fn count_partners(&self, scores: &mut Scores, graph: &Graph, web: &Web) {
         let mut at = web.last_wish;
         for _ in 0..graph.wishes() {
@@ -157,7 +157,8 @@ impl Choice {
         }
     }
 
-    // Counts against a web what those beside it wish that have none yet, and answers the registers of the others.
+    // Counts against each register the wishes that interfering webs without a register have for it, and answers the registers of the
+    // others.
     fn count_beside(&self, scores: &mut Scores, graph: &Graph, beside: &[u64]) -> Registers {
         let mut taken = 0;
         let mut base = 0u32;
@@ -179,7 +180,7 @@ impl Choice {
         taken
     }
 
-    // Counts the wishes of a web beside, where nothing was chosen for it yet.
+    // Counts the wishes of an interfering web against the registers, if nothing was chosen for it yet.
     fn count_against(&self, scores: &mut Scores, graph: &Graph, other: u32) {
         if let Some(known) = self.undecided(graph, other) {
             self.count_wishes(scores, graph, known, true);
@@ -194,7 +195,7 @@ impl Choice {
         }
     }
 
-    // Counts a web's wishes for, or against, the registers that they are for, as far as it may have these.
+    // Counts a web's wishes for or against the registers that they name, except those that it cannot have.
     fn count_wishes(&self, scores: &mut Scores, graph: &Graph, web: &Web, against: bool) {
         let mut at = web.last_wish;
         for _ in 0..graph.wishes() {
@@ -215,7 +216,7 @@ impl Choice {
     }
 }
 
-// How many moves each register would save, and those for which something was counted.
+// How many moves each register would save, and the registers for which something was counted.
 #[derive(Drop)]
 struct Scores {
     scores: [i64; 32],

@@ -1,4 +1,4 @@
-// Which slot a pseudo-register has.
+// The slot of each pseudo-register.
 
 ghost use Rattle.std.specs.Prelude.{◌≡◌, ◌+◌, ◌<◌, ◌≤◌};
 ghost use Rattle.cc_ltl.specs.Registers.{most_slots};
@@ -7,8 +7,8 @@ use cc_ltl::{MOST_SLOTS, Slot};
 use cc_rtl_language::{Node, Rtl};
 use std::marker::Model;
 
-/// A slot for each pseudo-register of a function: slot i for pseudo-register i, as far as there are slots, and the last one for all that
-/// are left. A clause sees the last slot's number.
+/// A slot for each pseudo-register of a function: slot i for pseudo-register i as long as there are slots, and the last one for all others.
+/// Contracts see the number of the last slot.
 #[derive(Clone, Copy)]
 pub struct Slots {
     last: u16,
@@ -28,7 +28,7 @@ impl Model for Slots {
 }
 
 impl Slots {
-    /// Those of a function: up to the slot of its highest pseudo-register.
+    /// The slots of a function: up to that of its highest pseudo-register.
     pub fn of(rtl: &Rtl) -> Slots {
         let mut slots = Slots { last: 0 };
         if rtl.parameters() > 0 {
@@ -40,7 +40,7 @@ impl Slots {
         slots
     }
 
-    /// How many there are: 1 to 495.
+    /// The number of slots, 1 to 495.
     pub fn count(self) -> u16
         ensures count { result ≡ self + 1 }
         ensures few { result ≤ most_slots }

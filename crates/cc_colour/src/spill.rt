@@ -1,9 +1,9 @@
 // Each pseudo-register in a slot of its own.
 //
-// A block reloads its operands, does its operation, and spills the result; at entry the parameters go to their slots. So no equation
-// is ever kept in a register from block to block, and only a function with more pseudo-registers than slots is refused.
+// A block reloads its operands, does its operation, and spills the result; at entry the parameters go to their slots. So no word stays in a
+// register from block to block, and only a function with more pseudo-registers than slots is refused.
 
-ghost use Rattle.std.specs.Prelude.{◌≡◌, ◌<◌, ◌≤◌, ◌^◌, [], length, IfOk};
+ghost use Rattle.std.specs.Prelude.{◌≡◌, ◌<◌, ◌≤◌, ◌^◌, length, IfOk};
 
 use crate::operation::{Used, operation_of};
 use crate::slots::Slots;
@@ -11,11 +11,11 @@ use cc_ltl::{Block, Ltl, Move, Moves, Register};
 use cc_rtl_language::{Node, Rtl};
 use std::alloc::{AllocError, Global};
 
-// Arguments and parameters stand in x10 and up, 22 at most: the last register is x31.
+// Arguments and parameters are in x10 and up, 22 at most: the last register is x31.
 const FIRST_ARGUMENT: u8 = 10;
 
-/// LTL for the function, in which each pseudo-register has a slot of its own: slot i for pseudo-register i. Where it needs more than 495
-/// slots, the answer is some LTL, which the validator may refuse.
+/// LTL for the function in which each pseudo-register has a slot of its own: slot i for pseudo-register i. If more than 495 slots are
+/// needed, the answer is some LTL that the validator may refuse. Err: memory ran out.
 pub fn spill_all(alloc: Global, rtl: &Rtl) -> Result<Ltl, AllocError> {
     let slots = Slots::of(rtl);
     let mut blocks = Vec::with_capacity(alloc, rtl.len())?;
@@ -31,7 +31,7 @@ pub fn spill_all(alloc: Global, rtl: &Rtl) -> Result<Ltl, AllocError> {
     }
 }
 
-// LTL that does nothing. It is never needed, since the blocks above are those of an LTL; but nobody relies on that.
+// LTL that does nothing. It is never needed, since the blocks above are those of an LTL, but nothing depends on that.
 fn no_blocks(alloc: Global, entry: u32) -> Result<Ltl, AllocError> {
     match Ltl::new(0, entry, Vec::new(alloc)) {
         Ok(ltl) => Ok(ltl),
@@ -69,7 +69,7 @@ fn in_order(moves: Vec<Move>) -> Moves
     }
 }
 
-// At entry, parameter i goes from x(10 + i) to its slot.
+// At entry, moves parameter i from x(10 + i) to its slot.
 fn keep_parameters(alloc: Global, slots: Slots, parameters: u32) -> Result<Vec<Move>, AllocError>
     ensures { IfOk result (λ moves. length moves.items ≤ 22) }
 {
@@ -84,7 +84,7 @@ fn keep_parameters(alloc: Global, slots: Slots, parameters: u32) -> Result<Vec<M
     Ok(moves)
 }
 
-// What the operation takes, from its slots.
+// Reloads the operation's operands from their slots.
 fn reload_operands(alloc: Global, slots: Slots, node: &Node) -> Result<Vec<Move>, AllocError>
     ensures { IfOk result (λ moves. length moves.items ≤ 22) }
 {
@@ -125,7 +125,7 @@ fn reload(alloc: Global, slots: Slots, from: u32, to: Register) -> Result<Vec<Mo
     Ok(moves)
 }
 
-// Argument i goes from its slot to x(10 + i). An argument for which there is no register stays where it is.
+// Moves argument i from its slot to x(10 + i). An argument for which there is no register stays where it is.
 fn reload_arguments(alloc: Global, slots: Slots, arguments: &[u32]) -> Result<Vec<Move>, AllocError>
     ensures { IfOk result (λ moves. length moves.items ≤ 22) }
 {
@@ -140,7 +140,7 @@ fn reload_arguments(alloc: Global, slots: Slots, arguments: &[u32]) -> Result<Ve
     Ok(moves)
 }
 
-// The result goes to its slot.
+// Moves the result to its slot.
 fn spill_result(alloc: Global, slots: Slots, node: &Node) -> Result<Vec<Move>, AllocError>
     ensures { IfOk result (λ moves. length moves.items ≤ 1) }
 {
@@ -171,7 +171,7 @@ fn spill(alloc: Global, slots: Slots, to: u32, from: Register) -> Result<Vec<Mov
     Ok(moves)
 }
 
-// The registers of every operation: operands in x28 and x29, the result in x28. A move of RTL needs moves alone.
+// The registers of every operation: operands in x28 and x29, the result in x28. A move of RTL needs only moves.
 fn scratch() -> Used {
     Used {
         first: left(),
@@ -180,7 +180,7 @@ fn scratch() -> Used {
     }
 }
 
-// A call keeps none of these two, and no argument stands in them.
+// Calls keep neither of these two registers, and no argument is in them.
 fn left() -> Register {
     register(28)
 }

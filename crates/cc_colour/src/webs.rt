@@ -1,11 +1,11 @@
 // Webs: what one location is chosen for.
 //
-// Where a node leads to another and keeps a register that is live in front of both, its two points want the same location, and so are of
-// one web. So a register that is used for several values in turn, as temporaries are, falls into several webs, each with a location of
-// its own. A result that nobody reads is a web with no point.
+// If a node leads to another and keeps a register that is live before both, the register's two points need the same location, so they
+// belong to one web. A register that is used for several values in turn, as temporaries are, falls into several webs, each with a location
+// of its own. A result that nobody reads is a web without points.
 //
-// A web may be cut at calls: its points in front of a call and behind it are then not joined, so that it can be in one place before and
-// in another after, with a slot in between. What is not cut is whole; the pieces that a whole web falls into have it as origin.
+// A web may be cut at calls. Its points before a call and after it are then not joined, so it can be in one place before the call and in
+// another after it, with a slot in between. A web that is not cut is whole; the pieces of a whole web have it as their origin.
 
 use crate::forest::Forest;
 use crate::nodes::{Shape, result};
@@ -13,7 +13,7 @@ use crate::points::Points;
 use cc_rtl_language::Node;
 use std::alloc::{AllocError, Global};
 
-/// The most points, and the most webs, that are looked at.
+/// Functions with more points or webs than this are not coloured.
 const MOST_POINTS: usize = 16_777_216;
 
 const MOST_WEBS: u32 = 8_192;
@@ -34,7 +34,7 @@ impl Cuts<'_> {
     }
 }
 
-/// The webs of a register in front of a call and behind it: the same where it is not cut.
+/// The webs of a register before a call and after it; they are the same unless the call cuts the web.
 #[derive(Clone, Copy)]
 pub struct Crossing {
     pub before: u32,
@@ -47,7 +47,7 @@ impl Crossing {
     }
 }
 
-/// A list of crossings, and room to find them.
+/// A list of crossings, and room for finding them.
 #[derive(Drop)]
 pub struct Crossings {
     pub all: Vec<Crossing>,
@@ -63,14 +63,14 @@ impl Crossings {
     }
 }
 
-/// The whole web of each piece; where there is no piece of that number, it is a whole web itself.
+/// The whole web of each piece. A number without an entry is a whole web itself.
 #[derive(Drop)]
 pub struct Origins {
     origins: Vec<u32>,
 }
 
 impl Origins {
-    /// Those of webs that are whole. They take no memory.
+    /// The origins of webs that are whole. They take no memory.
     pub fn same(alloc: Global) -> Origins {
         Origins {
             origins: Vec::new(alloc),
@@ -88,7 +88,7 @@ impl Origins {
     }
 }
 
-/// The webs of a function: of each point, and of each node's result.
+/// The webs of a function: the web of each point, and of each node's result.
 #[derive(Drop)]
 pub struct Webs {
     points: Points,
@@ -98,7 +98,7 @@ pub struct Webs {
 }
 
 impl Webs {
-    /// The webs of a function, cut where cuts are given, or None where they are too many.
+    /// The webs of a function, cut if cuts are given; None if there are too many. Err: memory ran out.
     pub fn of(
         alloc: Global,
         shape: &Shape<'_>,
@@ -126,19 +126,19 @@ impl Webs {
         Ok(Some(all))
     }
 
-    /// How many there are.
+    /// The number of webs.
     pub fn count(&self) -> u32 {
         self.count
     }
 
-    /// The webs that are live in front of a node.
+    /// The webs that are live before a node.
     pub fn in_front(&self, node: usize) -> &[u32] {
         let first = self.points.first(node);
         let end = self.points.first(node.saturating_add(1));
         self.webs.get(first..end).unwrap_or(&[])
     }
 
-    /// The web of a register that is live in front of a node.
+    /// The web of a register that is live before a node.
     pub fn at(&self, shape: &Shape<'_>, node: usize, register: u32) -> Option<u32> {
         let point = self.points.point(shape.live, node, register)?;
         self.webs.get(point).copied()
@@ -149,7 +149,7 @@ impl Webs {
         self.results.get(node).copied().flatten()
     }
 
-    /// The whole web of each piece.
+    /// The whole web of each piece. Err: memory ran out.
     pub fn origins(&self, alloc: Global, whole: &Webs) -> Result<Origins, AllocError> {
         let mut origins = vec![in alloc; 0u32; self.count as usize]?;
         for (piece, web) in self.webs.iter().zip(whole.webs.iter()) {
@@ -161,7 +161,8 @@ impl Webs {
         Ok(Origins { origins })
     }
 
-    /// Fills a list with the webs in front of a call and behind it of each register that it keeps; with none at another node.
+    /// For each register that a call keeps, puts its webs before and after the call in a list; at another node the list is empty. Err:
+    /// memory ran out.
     pub fn crossings(
         &self,
         shape: &Shape<'_>,
@@ -183,7 +184,7 @@ impl Webs {
         Ok(())
     }
 
-    // A result is of the web that goes on behind its node, or of a new one.
+    // A result belongs to the web that goes on after its node, or to a new one.
     fn find_results(&mut self, shape: &Shape<'_>) -> Result<(), AllocError> {
         for at in 0..shape.rtl.len() {
             let web = match result(shape.rtl.node(at)) {
@@ -220,7 +221,7 @@ fn put_origin(origins: &mut [u32], piece: Option<u32>, web: Option<u32>) {
     }
 }
 
-// Joins the points of each register that a node keeps, in front of it and of where it leads, but where it is cut.
+// Joins the points of each register that a node keeps, before it and before each node to which it leads, unless they are cut.
 fn join_all(
     alloc: Global,
     shape: &Shape<'_>,

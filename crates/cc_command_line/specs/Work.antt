@@ -1,8 +1,8 @@
 -- What the program may be asked to do.
 use Rattle.std.specs.Prelude.{◌≤◌, ℕ, Option, Some, None}
-use Rattle.cc_task.specs.Task.{IsWithinLimits}
+use Rattle.cc_task.specs.Task.{IsWithinLimits, most_steps}
 use Rattle.cc_command_line.specs.declared.command_line.Work.{Work}
-use Rattle.cc_command_line.specs.declared.command_line.Work.TheVariants.{One, Stages, TakeOut, Keep, Library, Serve, Submit}
+use Rattle.cc_command_line.specs.declared.command_line.Work.TheVariants.{One, Stages, Trace, Cover, TakeOut, Keep, Library, Serve, Submit}
 use Rattle.cc_command_line.specs.declared.keeping.Keeping.{Keeping}
 use Rattle.cc_command_line.specs.declared.keeping.Keeping.TheVariants.{Call, Size, Diff, Log, Restore, Copy}
 
@@ -28,6 +28,8 @@ IsBoundedLook (Copy asked) = (64 ≤ asked.area) × (asked.area ≤ 1073741824)
 abbrev pub IsAllowed : Work → Type 0
 IsAllowed (One task) = IsWithinLimits task
 IsAllowed (Stages kind function) = Unit {0}
+IsAllowed (Trace asked) = (asked.steps ≤ most_steps) × (1 ≤ asked.last) × (asked.last ≤ 1000000)
+IsAllowed (Cover asked) = asked.steps ≤ most_steps
 IsAllowed (TakeOut wanted) = Unit {0}
 IsAllowed (Keep asked) = IsBoundedLook asked
 IsAllowed (Library asked) = IsArea asked.area × (1 ≤ asked.workers) × (asked.workers ≤ 8)

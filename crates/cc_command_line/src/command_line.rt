@@ -8,6 +8,7 @@ use crate::files::{
     BOTH_RULE, EMPTY_RULE, NO_FILE_RULE, Named, files_named, paths_of, reads_program, with_file,
     with_files,
 };
+use crate::json::{JSON, JSON_RULE, is_told_in_json, with_json};
 use crate::keeping::{
     COUNT, Keeping, call_command, call_of, copy_command, copy_of, count_flag, diff_command,
     diff_of, log_command, log_of, restore_command, restore_of,
@@ -18,6 +19,7 @@ use crate::spool::{Server, Submitter, serve_command, serve_of, submit_command, s
 use crate::unit::{
     Wanted, image_command, image_of, size_command, size_of, source_command, source_of,
 };
+use crate::watch::{COVER, Covered, TRACE, Traced, cover_of, trace_of, with_last, with_lines};
 use cc_task::{Kind, MOST_STEPS, Task};
 use clap::error::ErrorKind;
 use clap::{Arg, ArgAction, ArgMatches, Command, Error};
@@ -34,7 +36,7 @@ const CHECKED: &str = "checked";
 
 pub(crate) const WORD_RULE: &str =
     "WORD is a decimal number from 0 to 4294967295; a negative number is written as its value modulo 4294967296, \
-    for example 4294967295 for -1";
+    for example 4294967295 for -1; a file is named by --file FILE";
 
 // What a person reads below the list of commands.
 const WHOLE_HELP: &str = "\
@@ -44,6 +46,8 @@ Examples:
   cclib interpret 1000 < examples/quotient.c
   cclib run 10000 2 104 105 < examples/checksum.c
   cclib run --checked --count 10000 2 104 105 < examples/checksum.c
+  cclib trace 1000 --last 20 < examples/quotient.c
+  cclib cover 1000 < examples/quotient.c
   cclib asm < examples/quotient.c
   cclib stages main < examples/quotient.c
   cclib size < examples/quotient.c
@@ -83,6 +87,10 @@ pub enum Work {
     One(Task),
     /// Show what the compiler makes of each function of the text on standard input, or of the one of that name, for an image of this kind.
     Stages(Kind, Option<String>),
+    /// Print the newest things that a run of the text does.
+    Trace(Traced),
+    /// Print how often each line of the text is reached by runs.
+    Cover(Covered),
     /// Print a part of a unit of a library.
     TakeOut(Wanted),
     /// Look into libraries in files.
@@ -95,13 +103,13 @@ pub enum Work {
     Submit(Submitter),
 }
 
-// What is said of a command that runs a program: its name, what it does, its bound, and an example.
-struct Runner {
-    name: &'static str,
-    whole: &'static str,
-    about: &'static str,
-    steps: &'static str,
-    example: &'static str,
+// The texts of a command that runs a program: its name, what it does, its bound, and an example.
+pub(crate) struct Runner {
+    pub(crate) name: &'static str,
+    pub(crate) whole: &'static str,
+    pub(crate) about: &'static str,
+    pub(crate) steps: &'static str,
+    pub(crate) example: &'static str,
 }
 
 const INTERPRET: Runner = Runner {
@@ -182,6 +190,16 @@ pub(crate) fn kind_of(given: &ArgMatches<'_>) -> Kind {
     }
 }
 
+fn trace_command<'a>(alloc: Global) -> Result<Command<'a>, AllocError> {
+    let begun = runner_command(alloc, &TRACE)?;
+    with_last(alloc, begun)
+}
+
+fn cover_command<'a>(alloc: Global) -> Result<Command<'a>, AllocError> {
+    let begun = runner_command(alloc, &COVER)?;
+    with_lines(alloc, begun)
+}
+
 // A command without words of its own.
 fn plain_command<'a>(
     alloc: Global,
@@ -252,9 +270,12 @@ fn command<'a>(alloc: Global) -> Result<Command<'a>, AllocError> {
         .after_help(WHOLE_HELP)
         .subcommand_required(true)
         .arg(quiet)?;
+    let whole = with_json(alloc, whole)?;
     let whole = with_part(whole, check_command(alloc))?;
     let whole = with_part(whole, interpret_command(alloc))?;
     let whole = with_part(whole, run_command(alloc))?;
+    let whole = with_part(whole, trace_command(alloc))?;
+    let whole = with_part(whole, cover_command(alloc))?;
     let whole = with_part(whole, asm_command(alloc))?;
     let whole = with_part(whole, stages_command(alloc))?;
     let whole = with_part(whole, size_command(alloc))?;
@@ -277,7 +298,7 @@ fn refused(alloc: Global, runner: &Runner, rule: &'static str) -> Result<Error, 
     part.error(ErrorKind::ValueValidation, rule)
 }
 
-/// The error of clap for a command line of which a word is not UTF-8. Its status is 2.
+/// The error of clap for a command line with a word that is not UTF-8. Its status is 2.
 pub fn refused_bytes(alloc: Global) -> Result<Error, AllocError> {
     let mut whole = command(alloc)?;
     whole.error(
@@ -286,7 +307,7 @@ pub fn refused_bytes(alloc: Global) -> Result<Error, AllocError> {
     )
 }
 
-fn steps_of(alloc: Global, runner: &Runner, given: &ArgMatches<'_>) -> Result<u64, Error>
+pub(crate) fn steps_of(alloc: Global, runner: &Runner, given: &ArgMatches<'_>) -> Result<u64, Error>
     ensures { IfOk result (λ steps. steps ≤ MOST_STEPS) }
 {
     let Some(text) = given.get_str("STEPS") else {
@@ -298,7 +319,7 @@ fn steps_of(alloc: Global, runner: &Runner, given: &ArgMatches<'_>) -> Result<u6
     }
 }
 
-// The input word that a text of digits stands for.
+// The input word that a text of digits means.
 fn word_in(text: &str) -> Option<u32> {
     if !text.bytes().all(|b| b.is_ascii_digit()) {
         return None;
@@ -306,7 +327,7 @@ fn word_in(text: &str) -> Option<u32> {
     text.parse().ok()
 }
 
-/// The input words that the texts stand for, or none where one of them stands for no word.
+/// The input words that the texts mean, or none if one of them means no word.
 pub(crate) fn words_in(alloc: Global, texts: &[&str]) -> Result<Option<Vec<u32>>, AllocError> {
     let mut words = Vec::new(alloc);
     for text in texts {
@@ -318,7 +339,11 @@ pub(crate) fn words_in(alloc: Global, texts: &[&str]) -> Result<Option<Vec<u32>>
     Ok(Some(words))
 }
 
-fn input_words(alloc: Global, runner: &Runner, given: &ArgMatches<'_>) -> Result<Vec<u32>, Error> {
+pub(crate) fn input_words(
+    alloc: Global,
+    runner: &Runner,
+    given: &ArgMatches<'_>,
+) -> Result<Vec<u32>, Error> {
     let Some(texts) = given.get_strs("WORD") else {
         return Ok(Vec::new(alloc));
     };
@@ -375,6 +400,8 @@ fn work_of(alloc: Global, matches: &ArgMatches<'_>) -> Result<Work, Error>
     match matches.subcommand() {
         Some(("stages", given)) => Ok(stages_of(alloc, given)?),
         Some(("size", given)) => size_of(alloc, given),
+        Some(("trace", given)) => trace_of(alloc, given),
+        Some(("cover", given)) => cover_of(alloc, given),
         Some(("image", given)) => image_of(alloc, given),
         Some(("source", given)) => source_of(alloc, given),
         Some(("call", given)) => call_of(alloc, given),
@@ -392,55 +419,61 @@ fn work_of(alloc: Global, matches: &ArgMatches<'_>) -> Result<Work, Error>
     }
 }
 
-// The error of clap for files that break this rule.
-fn refused_files(alloc: Global, rule: &'static str) -> Result<Error, AllocError> {
+// The error of clap for options that break this rule.
+fn refused_options(alloc: Global, rule: &'static str) -> Result<Error, AllocError> {
     let mut whole = command(alloc)?;
     whole.error(ErrorKind::ValueValidation, rule)
 }
 
-// The files that a command line names; none where the program comes on standard input.
+// The files that a command line names; none if the program comes on standard input.
 fn files_of(alloc: Global, matches: &ArgMatches<'_>) -> Result<Vec<String>, Error> {
     let Some((_, given)) = matches.subcommand() else {
         return Ok(Vec::new(alloc));
     };
     match files_named(given) {
         Named::Input => Ok(Vec::new(alloc)),
-        Named::Both => Err(refused_files(alloc, BOTH_RULE)?),
+        Named::Both => Err(refused_options(alloc, BOTH_RULE)?),
         Named::Files(names) => match paths_of(alloc, names)? {
             Some(paths) => Ok(paths),
-            None => Err(refused_files(alloc, EMPTY_RULE)?),
+            None => Err(refused_options(alloc, EMPTY_RULE)?),
         },
     }
 }
 
-/// What a command line asks for: the work, whether no fault of it is to be explained, and the files that have its program; none where that
-/// comes on standard input.
+/// What a command line asks for: the work, whether no fault of it is to be explained, whether all is to be printed as JSON, and the files that
+/// have its program; none if that comes on standard input.
 #[derive(Drop)]
 pub struct Invocation {
     pub work: Work,
     pub is_quiet: bool,
+    pub is_json: bool,
     pub files: Vec<String>,
 }
 
-// A work whose program is in these files.
-fn invoked(
-    alloc: Global,
-    work: Work,
-    files: Vec<String>,
-    is_quiet: bool,
-) -> Result<Invocation, Error>
-    ensures { IsAllowed work → IfOk result (λ request. IsAllowed request.work) }
-{
-    if files.is_empty() || reads_program(&work) {
-        return Ok(Invocation {
-            work,
-            is_quiet,
-            files,
-        });
+// The rule that a work breaks whose program is in so many files, and which is to be printed as JSON or not.
+fn broken_rule(work: &Work, files: usize, is_json: bool) -> Option<&'static str> {
+    if files > 0 && !reads_program(work) {
+        return Some(NO_FILE_RULE);
     }
-    drop(work);
-    drop(files);
-    Err(refused_files(alloc, NO_FILE_RULE)?)
+    if is_json && !is_told_in_json(work) {
+        return Some(JSON_RULE);
+    }
+    None
+}
+
+// A work with its options, if it breaks no rule.
+fn invoked(alloc: Global, invocation: Invocation) -> Result<Invocation, Error>
+    requires { IsAllowed invocation.work }
+    ensures { IfOk result (λ request. IsAllowed request.work) }
+{
+    let broken = broken_rule(&invocation.work, invocation.files.len(), invocation.is_json);
+    match broken {
+        None => Ok(invocation),
+        Some(rule) => {
+            drop(invocation);
+            Err(refused_options(alloc, rule)?)
+        }
+    }
 }
 
 /// Reads the command line, whose first word is the program's name.
@@ -451,11 +484,20 @@ pub fn read_invocation<'a, S: AsStr>(alloc: Global, words: &'a [S]) -> Result<In
 {
     let matches = command(alloc)?.try_get_matches_from(words)?;
     let is_quiet = matches.get_flag(QUIET);
+    let is_json = matches.get_flag(JSON);
     let work = work_of(alloc, &matches);
     let files = files_of(alloc, &matches);
     drop(matches);
     match (work, files) {
-        (Ok(work), Ok(files)) => invoked(alloc, work, files, is_quiet),
+        (Ok(work), Ok(files)) => {
+            let invocation = Invocation {
+                work,
+                is_quiet,
+                is_json,
+                files,
+            };
+            invoked(alloc, invocation)
+        }
         (Err(error), files) => {
             drop(files);
             Err(error)
@@ -476,6 +518,7 @@ pub fn line<'a, S: AsStr>(alloc: Global, words: &'a [S]) -> Result<Work, Error>
             Invocation {
                 work,
                 is_quiet: _,
+                is_json: _,
                 files,
             },
         ) => {

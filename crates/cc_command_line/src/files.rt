@@ -60,7 +60,7 @@ pub(crate) fn files_named<'a, 'b>(given: &'b ArgMatches<'a>) -> Named<'a, 'b> {
     }
 }
 
-/// The paths that words give; none where one is empty, as that of a variable that was not set.
+/// The paths that words give; none if one is empty, as that of a variable that was not set.
 pub(crate) fn paths_of(alloc: Global, words: &[&str]) -> Result<Option<Vec<String>>, AllocError> {
     let mut paths = Vec::new(alloc);
     for word in words {
@@ -80,7 +80,7 @@ fn takes_source(line: &str) -> bool {
 /// Whether a work reads a program, so that it may come in files.
 pub(crate) fn reads_program(work: &Work) -> bool {
     match work {
-        Work::One(_) | Work::Stages(_, _) => true,
+        Work::One(_) | Work::Stages(_, _) | Work::Trace(_) | Work::Cover(_) => true,
         Work::Submit(asked) => match &asked.line {
             Some(line) => takes_source(line.as_str()),
             None => false,

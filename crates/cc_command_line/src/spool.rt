@@ -91,6 +91,7 @@ Without a COMMAND the script comes on standard input. A COMMAND is one line of a
   audit NAME         what an audit says of it
   update NAME        as replace, if the source that is there is that of --was OLDFILE
   call NAME STEPS    run its image on the WORDs that follow
+  space              how much of an area is used, and would be after `compact`
 
 A script that waits is taken back after three seconds in which no server is there, and nothing of it is done. One that a server
 has begun is waited for.

@@ -20,7 +20,7 @@ use Rattle.cc_copy.specs.Choice.{is_among}
 abbrev R : List ℕ → List ℕ → Ordering
 R = slice_cmp nat_cmp
 
--- what a name has in the chosen map: its unit, if it is one of the names so far
+-- the chosen map's unit for a name: the map's, if the name is one of those so far
 abbrev pub Chosen : (units : Units) (so_far : Bool) (name : List ℕ) → Option StoredUnit → Type 0
 Chosen units so_far name found = found ≡ (if so_far then map.get units name else None)
 
@@ -39,7 +39,7 @@ by_tie units so_far true q name unit found e is before =
     sym is ∙ (ap (map.get units) (sym same) ∙ sym (ap (λ (b : Bool). if b then map.get units q else None) (or_true so_far)))
 by_tie units so_far false q name unit found e is before = before ∙ sym (ap (λ (b : Bool). if b then map.get units q else None) (or_none so_far))
 
--- a unit that the chosen map has already is that of the map
+-- if the chosen map has a unit with the name already, it is the map's
 again : (units : Units) (so_far tie : Bool) (q name : List ℕ) (unit : StoredUnit) (found : Option StoredUnit) → bytes_eq q name ≡ tie → map.get units name ≡ Some unit
     → (tie ≡ true → is_some found ≡ true) → Chosen units so_far q found → Chosen units (so_far || tie) q found
 again units true true q name unit found e is has before = before
@@ -58,7 +58,7 @@ step units chosen so_far q name unit false e is before =
     ∙ (map.get-insert nat_list_cmp_total chosen name unit q
     ∙ (ap (λ (b : Bool). cond b (Some unit) (map.get chosen q)) (is_eq-slice_cmp q name) ∙ by_tie units so_far (bytes_eq q name) q name unit (map.get chosen q) refl is before))
 
--- one name more
+-- one more name
 pub one_more : (units chosen new : Units) (names : List (List ℕ)) (i : ℕ) (q name : List ℕ) (unit : StoredUnit) → i < length names → name ≡ get_or names i name → new ≡ after chosen (Add name unit)
     → map.get units name ≡ Some unit → Chosen units (is_among (take i names) q) q (map.get chosen q) → Chosen units (is_among (take (i + 1) names) q) q (map.get new q)
 one_more units chosen new names i q name unit within at is there before =

@@ -1,4 +1,4 @@
--- A new library: the journal's faults are those of a copy, and what every image holds it recovers to.
+-- A new library: the journal's faults are those of a copy, and every image recovers to what its records represent.
 use Rattle.std.proofs.Common.{◌≡◌, ℕ, ◌<◌, ◌≤◌, ◌+◌, Bool, false, IsTrue, List, [], ap, subst, ◌∙◌}
 use Rattle.std.specs.Prelude.{Err}
 use Rattle.cc_journal.specs.declared.fault.JournalFault.{JournalFault}

@@ -17,23 +17,23 @@ use Rattle.cc_copy.specs.declared.choosing.ChooseFault.TheVariants as fault
 abbrev pub is_among : (names : List (List ℕ)) (name : List ℕ) → Bool
 is_among names name = list_any (bytes_eq name) names
 
--- each of the names has its unit in the map, and the chosen ones are those and no others
+-- each of the names has a unit in the map, and the chosen units are these and no others
 pub record IsChosen (units : Units) (names : List (List ℕ)) (copied : Units) : Type 0 where
   pub there : All (λ name. IsTrue (contains_key units name)) names
   pub chosen : (name : List ℕ) → get copied name ≡ (if is_among names name then get units name else None)
 
--- why none are chosen: the name of this index is the first without a unit; or memory ran out
+-- why no units are chosen: the name with this index is the first without a unit; or memory ran out
 abbrev pub IsNotChosen : Units → (names : List (List ℕ)) → ChooseFault → Type 0
 IsNotChosen units names (fault.Absent i) = (i < length names) × (get units (get_or names i []) ≡ None) × All (λ name. IsTrue (contains_key units name)) (take i names)
 IsNotChosen units names fault.OutOfMemory = Unit {0}
 
 -- ---- what an audit confirms
 
--- what an audit says of the unit of a name
+-- the result of an audit of the unit with a name
 abbrev pub IsAuditOf : Units → (name : List ℕ) → Audit → Type 0
 IsAuditOf units name audit = (unit : StoredUnit) × (get units name ≡ Some unit) × AuditSays unit.source unit.certificate unit.image audit
 
--- so of each of these names
+-- the results of an audit of the units with these names, one for each name
 abbrev pub AreAudits : Units → (names : List (List ℕ)) → List Audit → Type 0
 AreAudits units [] [] = Unit {0}
 AreAudits units [] (audit ∷ audits) = ⊥
@@ -46,13 +46,13 @@ if_confirmed name Confirmed = name ∷ []
 if_confirmed name NoCertificate = []
 if_confirmed name Unconfirmed = []
 
--- and one whose unit is not
+-- a name whose unit is not
 abbrev pub if_left_out : (name : List ℕ) → Audit → List LeftOut
 if_left_out name Confirmed = []
 if_left_out name NoCertificate = record { name = name; audit = NoCertificate } ∷ []
 if_left_out name Unconfirmed = record { name = name; audit = Unconfirmed } ∷ []
 
--- those of these names, in their order
+-- the confirmed ones of these names, in their order
 abbrev pub confirmed_of : (names : List (List ℕ)) → List Audit → List (List ℕ)
 confirmed_of [] audits = []
 confirmed_of (name ∷ names) [] = []
@@ -63,7 +63,8 @@ left_out_of [] audits = []
 left_out_of (name ∷ names) [] = []
 left_out_of (name ∷ names) (audit ∷ audits) = if_left_out name audit ++ left_out_of names audits
 
--- of the units of a map, in the order of their names, those are chosen that an audit confirms, and the others are left out with what it says
+-- the units of a map, in the order of their names: those that an audit confirms are chosen, and the others are left out with the audit's
+-- result
 pub record IsConfirmed (units : Units) (selection : Selection) : Type 0 where
   pub audits : List Audit
   pub says : AreAudits units (keys units) audits

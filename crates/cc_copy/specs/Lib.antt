@@ -1,6 +1,8 @@
--- A new library of the units of a map.
+-- A new library with the units of a map.
 pub mod Copy
 -- Which units are copied.
 pub mod Choice
+-- Which units of a disk are selected.
+pub mod Selected
 -- What only private contracts speak of.
 pub mod internal

@@ -1,8 +1,7 @@
 // Which units are copied.
 
-ghost use Rattle.std.specs.Prelude.{◌≡◌, ◌∷◌, ℕ, List, Some, IfOk, IfErr, OnOk, if◌then◌else◌};
+ghost use Rattle.std.specs.Prelude.{◌≡◌, Some, IfOk, IfErr, OnOk};
 ghost use Rattle.std.specs.Arc.{arc_value};
-ghost use Rattle.std.specs.FinMap as map;
 ghost use Rattle.cc_library.specs.Apply.{after};
 ghost use Rattle.cc_library.specs.declared.command.LibraryCommand.TheVariants as command;
 ghost use Rattle.cc_copy.specs.Choice.{IsChosen, IsNotChosen};
@@ -12,16 +11,16 @@ use cc_unit::StoredUnit;
 use std::alloc::{AllocError, Global};
 use std::sync::Arc;
 
-/// Why units are not chosen.
+/// Why no units were chosen.
 #[derive(Clone, Copy, Debug, Drop)]
 pub enum ChooseFault {
-    /// 32: the name of this index has no unit, and each before it has one.
+    /// 32: the name with this index has no unit, and each name before it has one.
     Absent(usize),
     /// 40: memory ran out.
     OutOfMemory,
 }
 
-// The map with this unit under this name, if it has none there.
+// Adds this unit with this name to a map, if the map has no unit with the name.
 fn add(chosen: &mut UnitMap, name: &Name, unit: &Arc<StoredUnit>) -> Result<(), AllocError>
     ensures { OnOk result (chosen.new ≡ after chosen.old (command.Add name.now (arc_value unit.now))) }
 {
@@ -32,9 +31,9 @@ fn add(chosen: &mut UnitMap, name: &Name, unit: &Arc<StoredUnit>) -> Result<(), 
     answer
 }
 
-/// The units of these names in a map, each of which has to have one.
+/// The units with these names in a map; each name must have one.
 ///
-/// Refusals: 32 with the first name that has none, 40 where memory ran out.
+/// Refusals: 32 with the index of the first name that has none, 40 if memory ran out.
 pub fn choose(alloc: Global, units: &UnitMap, names: &[Name]) -> Result<UnitMap, ChooseFault>
     ensures chosen { IfOk result (IsChosen units.now names.now) }
     ensures refused { IfErr result (IsNotChosen units.now names.now) }

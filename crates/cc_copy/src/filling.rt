@@ -1,7 +1,7 @@
-// A new library of the units of a map: an empty journal, and then one commit of one Add a name.
+// A new library with the units of a map: an empty journal, and then one commit with one Add for each name.
 
-ghost use Rattle.std.specs.Prelude.{◌≡◌, ◌≤◌, ◌^◌, ℕ, List, false, IsTrue, IfErr, OnOk};
-ghost use Rattle.cc_journal.specs.Format.{room_of};
+ghost use Rattle.std.specs.Prelude.{◌≡◌, ◌≤◌, ◌^◌, ℕ, List, false, IsTrue, IfErr, IsErrOf, OnOk};
+ghost use Rattle.cc_journal.specs.Format.{AllHold, room_of};
 ghost use Rattle.cc_library.specs.Compact.{compacted};
 ghost use Rattle.cc_library.specs.Recovered.{RecoversAlone};
 ghost use Rattle.cc_copy.specs.Copy.{CopyFaults, IsLeastArea};
@@ -12,13 +12,13 @@ use cc_journal::{Log, format};
 use cc_library::{LibraryFault, UnitMap};
 use std::alloc::Global;
 
-/// The least bytes of an area.
+/// The least number of bytes of an area.
 const LEAST: usize = 64;
 
-/// The most.
+/// The greatest number of bytes of an area.
 const MOST: usize = 1_073_741_824;
 
-// Writes one Add a name as the records of a log.
+// Writes one Add for each name as the records of a log.
 fn write_units<D: Disk>(
     alloc: Global,
     log: &mut Log<D>,
@@ -26,6 +26,7 @@ fn write_units<D: Disk>(
 ) -> Result<(), LibraryFault>
     requires room { room_of (compacted units.now) ≤ 2 ^ 30 }
     requires usable { log.old.closed ≡ false }
+    ensures records { OnOk result (IsTrue D.honest → AllHold (D.may_leave log.new.disk) log.old.area (compacted units.now)) }
     ensures copied { OnOk result (IsTrue D.honest → (image : List ℕ) → D.may_leave log.new.disk image → RecoversAlone image units.now) }
     ensures refused { IfErr result (λ fault. WriteFaults log.old.area units.now (D.failures log.old.disk) (D.failures log.new.disk) fault) }
 {
@@ -42,11 +43,11 @@ fn write_units<D: Disk>(
     }
 }
 
-/// Makes a new library of these units on a disk, with areas of `area` bytes; the disk is handed back. At Ok every crash from then on leaves
-/// these units and no others.
+/// Makes a new library with these units on a disk, with areas of `area` bytes. The disk is handed back. After Ok, every crash leaves these
+/// units and no others.
 ///
-/// Refusals: 34 where the units don't fit such an area, or two of them the disk, which is as before then; 35 where the device failed; 40
-/// where memory ran out.
+/// Refusals: 34 if the units don't fit such an area, or two of them the disk, which is as before then; 35 if the device failed; 40
+/// if memory ran out.
 pub fn copy_units<D: Disk + Drop>(
     alloc: Global,
     units: &UnitMap,
@@ -55,10 +56,13 @@ pub fn copy_units<D: Disk + Drop>(
 ) -> (Result<(), LibraryFault>, D)
     requires least { 64 ≤ area }
     requires most { area ≤ 2 ^ 30 }
-    // Of an honest disk.
+    // Of an honest disk every image has one Add a name in areas of that many bytes, and so it recovers to these units.
+    ensures records { OnOk result.0 (IsTrue D.honest → AllHold (D.may_leave result.1) area (compacted units.now)) }
     ensures copied { OnOk result.0 (IsTrue D.honest → (image : List ℕ) → D.may_leave result.1 image → RecoversAlone image units.now) }
     ensures fits { OnOk result.0 (room_of (compacted units.now) ≤ area) }
     ensures refused { IfErr result.0 (λ fault. CopyFaults D.honest (D.size disk) area units.now (D.failures disk) (D.failures result.1) fault) }
+    // An honest disk that has no room is not touched.
+    ensures untouched { IsErrOf result.0 LibraryFault.Full → IsTrue D.honest → result.1 ≡ disk }
 {
     if !units.fits(area as usize) {
         return (Err(LibraryFault::Full), disk);
@@ -77,7 +81,7 @@ pub fn copy_units<D: Disk + Drop>(
     }
 }
 
-/// The least area that has room for these units; none where the greatest has not.
+/// The least area that has room for these units; None if the greatest has no room for them.
 pub fn least_area(units: &UnitMap) -> Option<usize>
     ensures { IsLeastArea units.now result }
 {

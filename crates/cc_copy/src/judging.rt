@@ -11,8 +11,9 @@ use cc_library::{Name, UnitMap};
 use cc_link::{Audit, audit};
 use cc_unit::StoredUnit;
 use std::alloc::{AllocError, Global};
+use std::io::Write;
 
-/// A unit that is left out, and what an audit says of it.
+/// A unit that is left out, and the audit's result for it.
 #[derive(Drop)]
 pub struct LeftOut {
     pub name: Name,
@@ -33,7 +34,7 @@ struct Judged {
     left_out: Vec<LeftOut>,
 }
 
-// What an audit says of a unit.
+// The result of an audit of a unit. Err: memory ran out.
 fn audit_of(alloc: Global, unit: &StoredUnit) -> Result<Audit, AllocError>
     ensures { IfOk result (λ audit. AuditSays unit.now.source unit.now.certificate unit.now.image audit) }
 {
@@ -44,7 +45,7 @@ fn audit_of(alloc: Global, unit: &StoredUnit) -> Result<Audit, AllocError>
     audit(alloc, unit.source.bytes(), certificate, &unit.image)
 }
 
-// Puts a name to those that are confirmed, or to those that are left out.
+// Adds a name to those that are confirmed, or to those that are left out.
 fn put(judged: &mut Judged, name: &Name, audit: Audit) -> Result<(), AllocError>
     ensures confirmed { OnOk result (judged.new.confirmed.items ≡ judged.old.confirmed.items ++ if_confirmed name.now audit) }
     ensures left_out { OnOk result (judged.new.left_out.items ≡ judged.old.left_out.items ++ if_left_out name.now audit) }
@@ -57,8 +58,13 @@ fn put(judged: &mut Judged, name: &Name, audit: Audit) -> Result<(), AllocError>
     Ok(())
 }
 
-// Which of the units of these names, each of which has one, an audit confirms, in the order of the names.
-fn judge(alloc: Global, units: &UnitMap, names: &[Name]) -> Result<Judged, AllocError>
+// Which of the units of these names, each of which has one, an audit confirms, in the order of the names. A newline goes to `seen` for each.
+fn judge<S: Write>(
+    alloc: Global,
+    units: &UnitMap,
+    names: &[Name],
+    seen: &mut S,
+) -> Result<Judged, AllocError>
     requires { All (λ name. IsTrue (map.contains_key units.now name)) names.now }
     ensures { IfOk result (IsJudged units.now names.now) }
 {
@@ -73,16 +79,22 @@ fn judge(alloc: Global, units: &UnitMap, names: &[Name]) -> Result<Judged, Alloc
         };
         let audit = audit_of(alloc, unit)?;
         put(&mut judged, name, audit)?;
+        let _ = seen.write_all(b"\n");
     }
     Ok(judged)
 }
 
-/// The units of a map that an audit confirms, and those that are left out, in the order of their names. The error is lack of memory.
-pub fn confirm(alloc: Global, units: &UnitMap) -> Result<Selection, AllocError>
+/// The units of a map that an audit confirms, and those that are left out, in the order of their names. A newline goes to `seen` for each unit
+/// that was audited, so that it may count them. The error is lack of memory.
+pub fn confirm<S: Write>(
+    alloc: Global,
+    units: &UnitMap,
+    seen: &mut S,
+) -> Result<Selection, AllocError>
     ensures { IfOk result (IsConfirmed units.now) }
 {
     let names = units.names(alloc)?;
-    let judged = judge(alloc, units, names.as_slice())?;
+    let judged = judge(alloc, units, names.as_slice(), seen)?;
     let Judged {
         confirmed,
         left_out,

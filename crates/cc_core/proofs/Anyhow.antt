@@ -1,4 +1,4 @@
--- What holds of a run whatever pieces are handed in, and whatever units were found at the opening.
+-- What holds for a run, whatever pieces are handed in and whatever units were found at the opening.
 use Rattle.std.proofs.Common.{◌⊎◌, inl, inr, ℕ, List, [], ◌∷◌}
 use Rattle.cc_unit.specs.declared.unit.StoredUnit.{StoredUnit}
 use Rattle.cc_core.specs.declared.contents.Contents.{Contents}
@@ -20,7 +20,7 @@ module _ {P : Type 0} (rules : Rules P) where
   sound_anyhow first events new started run =
       run_IsSound rules IsAnyPiece is_any_unit any_lawful first events new (beginning-IsSound rules IsAnyPiece is_any_unit any_lawful first started (λ name unit at. tt)) run
 
-  -- a run in which each piece keeps something is one in which it keeps nothing
+  -- a run in which each piece keeps something is also one in which pieces keep nothing
   turn_anyhow : (keeps : P → Type 0) (old : Contents P) (event : Event P) (new : Contents P) → Turn rules keeps old event new → Turn rules IsAnyPiece old event new
   turn_anyhow keeps old event new (inl step) = inl (step.0, step.1, step.2, λ worker piece is. tt)
   turn_anyhow keeps old event new (inr stays) = inr stays

@@ -1,5 +1,5 @@
--- What the records of an opened disk tell: the fields of its header, its commands in their order, and a beginning.
--- How: a body is spelled by one command, so the commands that were read in turn are those that lead to the map.
+-- What the records of an opened disk show: the fields of its header, its commands in their order, and a beginning. The reason: a body is
+-- spelled by one command, so the commands that were read in turn are those that lead to the map.
 use Rattle.std.proofs.Common.{◌≡◌, inl, inr, ℕ, ◌+◌, List, [], ◌∷◌, ◌++◌, length, get_or, take, drop, true, Some, refl, sym, ap, subst, ◌∙◌, arith, append_assoc}
 use Rattle.std.specs.Prelude.{slice_get}
 use Rattle.std.specs.Int.{w32, from_le_bytes}
@@ -29,7 +29,7 @@ use Rattle.cc_core.proofs.Lists.{slice_get-push}
 
 -- ---- the header
 
--- the bytes that were read first tell the size of an area and the area byte
+-- the bytes that were read first give the size of an area and the area byte
 pub header_read : (image : List ℕ) (area : ℕ) (bodies : List (List ℕ)) (h : HoldsRecords image area bodies) (prefix : List ℕ) → prefix ≡ take 16 (drop 0 image)
     → (area ≡ from_le_bytes w32 (get_or prefix 8 0 ∷ get_or prefix 9 0 ∷ get_or prefix 10 0 ∷ get_or prefix 11 0 ∷ [])) × (h.area_byte ≡ get_or prefix 0 0)
 header_read image area bodies h prefix read =
@@ -57,14 +57,14 @@ same_commands (body ∷ bodies) (x ∷ xs) (y ∷ ys) p q =
     let others : xs ≡ ys = same_commands bodies xs ys p.1 q.1 in
     ap (λ (z : LibraryCommand). z ∷ xs) first ∙ ap (λ (zs : List LibraryCommand). y ∷ zs) others
 
--- the order of the records leads to the map that they stand for
+-- the order of the records leads to the map that they represent
 pub order_leads : (bodies : List (List ℕ)) (library : Units) (order : List Numbered) (upcoming : SequenceNumber) → StandFor bodies library → IsOrderOf bodies order upcoming
     → (library ≡ library_of (commands order)) × AreAccepted empty (commands order)
 order_leads bodies library order upcoming stand o =
     let same = same_commands bodies stand.commands (commands order) stand.spelled o.spelled in
     (stand.map_is ∙ ap library_of same, subst (AreAccepted empty) same stand.accepted)
 
--- so far these bodies were read, and those behind are left
+-- these bodies were read so far, and those after them are left
 pub record IsReadTo (bodies behind : List (List ℕ)) (order : List Numbered) (upcoming : ℕ) : Type 0 where
   pub leads : (rest : List LibraryCommand) → AreSpelled behind rest → AreSpelled bodies (commands order ++ rest)
   pub counted : (k : ℕ) (a : Numbered) → slice_get order k ≡ Some a → a.number.value ≡ k
@@ -100,7 +100,7 @@ read_all bodies order upcoming r = record {
 
 -- ---- refusals
 
--- of bytes that recover to a map no refusal comes but that memory runs out
+-- if bytes recover to a map, the only refusal is lack of memory
 pub only_memory : (image : List ℕ) (units : Units) → Recovers image units → (fault : LibraryFault) → OpenFaults true image 0 0 fault → fault ≡ OutOfMemory
 only_memory image units r DiskFault o = absurd (omega (arith, o))
 only_memory image units r NotALibrary o = absurd (o.1 refl r.area (has_header image r.area r.bodies r.holds))

@@ -1,5 +1,5 @@
--- What each image of the disk comes to, by phase, and what a recovery keeps. How: in each phase every image holds records that
--- stand for the order, or for the order without its last command, which was not acknowledged then.
+-- What each image of the disk recovers to, by phase, and what a recovery keeps. The reason: in each phase every image holds records that
+-- represent the order, or the order without its last command, which was then not acknowledged.
 use Rattle.std.proofs.Common.{◌≡◌, ◌≢◌, ◌⊎◌, inl, inr, ℕ, ◌+◌, ◌<◌, ◌≤◌, List, [], ◌∷◌, ◌++◌, length, take, refl, sym, ap, subst, ◌∙◌, arith, All, Contains}
 use Rattle.std.specs.Prelude.{IsOk}
 use Rattle.std.specs.FinMap.{empty}
@@ -33,7 +33,7 @@ use Rattle.cc_core.proofs.Rewrites.{InRewrite, rewrite_images, all_synced, byte_
 
 -- ---- what the disk holds, by phase
 
--- the records stand for the order without its last command, which was not acknowledged
+-- the records represent the order without its last command, which was not acknowledged
 pub record LacksLast (bodies : List (List ℕ)) (order acknowledged : List Numbered) : Type 0 where
   pub prefix : List Numbered
   pub last : Numbered
@@ -41,19 +41,19 @@ pub record LacksLast (bodies : List (List ℕ)) (order acknowledged : List Numbe
   pub acked : All (Contains prefix) acknowledged
   pub stand : StandFor bodies (library_of (commands prefix))
 
--- the image holds records that stand for the order, or for the order without its last command
+-- the image holds records that represent the order, or the order without its last command
 pub record Ends (area : ℕ) (order acknowledged : List Numbered) (image : List ℕ) : Type 0 where
   pub bodies : List (List ℕ)
   pub held : HoldsRecords image area bodies
   pub known : StandFor bodies (library_of (commands order)) ⊎ LacksLast bodies order acknowledged
 
--- in no commit: the disk is at rest, and holds the order
+-- outside a commit: the disk is at rest, and holds the order
 pub record HoldsOrder (store : StoreState) (order : List Numbered) : Type 0 where
   pub bodies : List (List ℕ)
   pub rest : IsAtRest store bodies
   pub stand : StandFor bodies (library_of (commands order))
 
--- in a commit: the disk is where the due step says, and held the order without the last command
+-- in a commit: the disk is at the step that is due, and held the order without the last command
 pub record HoldsFlight (numbered : Numbered) (due : Due) (store : StoreState) (order acknowledged : List Numbered) : Type 0 where
   pub bodies : List (List ℕ)
   pub prefix : List Numbered
@@ -65,7 +65,7 @@ pub record HoldsFlight (numbered : Numbered) (due : Due) (store : StoreState) (o
   pub room : HasRoom due store numbered.command
   pub on_disk : InCommit due store bodies (body_of numbered.command)
 
--- in a rewrite: the disk is where the due step says, and both the old records and the new ones stand for the order
+-- in a rewrite: the disk is at the step that is due, and both the old records and the new ones represent the order
 pub record HoldsRewrite (commit : Commit) (due : RewriteDue) (store : StoreState) (order : List Numbered) : Type 0 where
   pub bodies : List (List ℕ)
   pub more : List (List ℕ)
@@ -75,11 +75,11 @@ pub record HoldsRewrite (commit : Commit) (due : RewriteDue) (store : StoreState
   pub room : room_of more ≤ store.area
   pub on_disk : InRewrite due store bodies more
 
--- after a failed step: each image ends so
+-- after a failed step: each image ends in this way
 abbrev pub HoldsEnds : StoreState → List Numbered → List Numbered → Type 0
 HoldsEnds store order acknowledged = (image : List ℕ) → IsImage store.cells image → Ends store.area order acknowledged image
 
--- after a crash: there is one image, and it ends so
+-- after a crash: there is one image, and it ends in this way
 pub record HoldsCrash (store : StoreState) (order acknowledged : List Numbered) : Type 0 where
   pub alone : LeavesAlone (bytes_of store.cells) (IsImage store.cells)
   pub ends : Ends store.area order acknowledged (bytes_of store.cells)
@@ -91,14 +91,14 @@ IsKept (Rewriting commit due) store order acknowledged = HoldsRewrite commit due
 IsKept (Failed failed) store order acknowledged = HoldsEnds store order acknowledged
 IsKept Crashed store order acknowledged = HoldsCrash store order acknowledged
 
--- one record more stands for one command more
+-- one more record represents one more command
 pub stand_more : (bodies : List (List ℕ)) (prefix : List Numbered) (numbered : Numbered) (order : List Numbered) → order ≡ prefix ++ numbered ∷ [] → StandFor bodies (library_of (commands prefix)) → IsCommand numbered.command
     → IsOk (apply (library_of (commands prefix)) numbered.command) → StandFor (bodies ++ body_of numbered.command ∷ []) (library_of (commands order))
 stand_more bodies prefix numbered order is stand spelled taken =
     subst (StandFor (bodies ++ body_of numbered.command ∷ [])) (sym (ap (λ (l : List Numbered). library_of (commands l)) is ∙ library-push prefix numbered))
     (one_more bodies (library_of (commands prefix)) (body_of numbered.command) numbered.command stand (written numbered.command spelled) taken)
 
--- what an image with the old records, or with one more, comes to
+-- what an image with the old records, or with one more, recovers to
 pub ends_of : (numbered : Numbered) (store : StoreState) (order acknowledged : List Numbered) (bodies : List (List ℕ)) (prefix : List Numbered) → order ≡ prefix ++ numbered ∷ [] → All (Contains prefix) acknowledged
     → IsOk (apply (library_of (commands prefix)) numbered.command) → StandFor bodies (library_of (commands prefix)) → IsCommand numbered.command
     → (image : List ℕ) → HoldsInOneOf store.area_byte store.area bodies (body_of numbered.command) image → Ends store.area order acknowledged image
@@ -107,13 +107,13 @@ ends_of numbered store order acknowledged bodies prefix is acked taken stand spe
 ends_of numbered store order acknowledged bodies prefix is acked taken stand spelled image (inr new) =
     record { bodies = bodies ++ body_of numbered.command ∷ []; held = new.holds; known = inl (stand_more bodies prefix numbered order is stand spelled taken) }
 
--- what an image with the old records or with the new ones of a rewrite comes to
+-- what an image with the old records or with the new ones of a rewrite recovers to
 pub ends_either : (area : ℕ) (order acknowledged : List Numbered) (bodies more : List (List ℕ)) → StandFor bodies (library_of (commands order)) → StandFor more (library_of (commands order))
     → (image : List ℕ) → HoldsOneOf area bodies more image → Ends area order acknowledged image
 ends_either area order acknowledged bodies more stand stand_anew image (inl old) = record { bodies = bodies; held = old.holds; known = inl stand }
 ends_either area order acknowledged bodies more stand stand_anew image (inr new) = record { bodies = more; held = new.holds; known = inl stand_anew }
 
--- whatever the phase, each image ends so
+-- in every phase each image ends in this way
 pub each_ends : (phase : Phase) (store : StoreState) (order acknowledged : List Numbered) → IsKept phase store order acknowledged → (image : List ℕ) → IsImage store.cells image → Ends store.area order acknowledged image
 each_ends Idle store order acknowledged k image now = record { bodies = k.bodies; held = (k.rest.images image now).holds; known = inl k.stand }
 each_ends (Committing client numbered due) store order acknowledged k image now =
@@ -177,7 +177,7 @@ ends_survives area order acknowledged image rising rising_acked acked e = at e.k
       recovers = holds_recovers image area e.bodies (library_of (commands lacks.prefix)) (holds_alone image area e.bodies e.held) lacks.stand;
     }
 
--- so what it recovers to is right, where the order's library is, and that of the order without its last command
+-- so what it recovers to is right, if the order's library is, and the library of the order without its last command
 pub ends_right : (is_right : StoredUnit → Type 0) (area : ℕ) (order acknowledged : List Numbered) (image : List ℕ) → Ends area order acknowledged image → EachUnit is_right (library_of (commands order))
     → ((prefix : List Numbered) (last : Numbered) → order ≡ prefix ++ last ∷ [] → EachUnit is_right (library_of (commands prefix))) → (library : Units) → Recovers image library → EachUnit is_right library
 ends_right is_right area order acknowledged image e whole before library recovered = at e.known
@@ -188,7 +188,7 @@ ends_right is_right area order acknowledged image e whole before library recover
         subst (EachUnit is_right) (sym ((holds_recovers image area e.bodies (library_of (commands lacks.prefix)) (holds_alone image area e.bodies e.held) lacks.stand).alone library recovered))
         (before lacks.prefix lacks.last lacks.is)
 
--- where both records stand for one library, what it recovers to is right
+-- if both lists of records represent one library, what it recovers to is right
 pub one_right : (is_right : StoredUnit → Type 0) (area : ℕ) (bodies more : List (List ℕ)) (units : Units) → StandFor bodies units → StandFor more units → EachUnit is_right units
     → (image : List ℕ) → HoldsOneOf area bodies more image → (library : Units) → Recovers image library → EachUnit is_right library
 one_right is_right area bodies more units stand stand_anew each image (inl old) library recovered = subst (EachUnit is_right) (sym ((holds_recovers image area bodies units old stand).alone library recovered)) each
@@ -215,7 +215,7 @@ each_right is_right Crashed store order acknowledged w k each image library now 
 
 -- ---- the recovery
 
--- the order that a recovery keeps holds every acknowledged command
+-- the order that a recovery keeps has every acknowledged command
 pub kept_acked : (bodies : List (List ℕ)) (order acknowledged kept : List Numbered) (library : Units) → All (Contains order) acknowledged → StandFor bodies library
     → StandFor bodies (library_of (commands order)) ⊎ LacksLast bodies order acknowledged → IsLongest library order kept → All (Contains kept) acknowledged
 kept_acked bodies order acknowledged kept library acked stand known longest =

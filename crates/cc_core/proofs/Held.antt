@@ -1,5 +1,5 @@
--- What the images of the disk hold through a commit, one device step after the other. How: a write leaves each image as an
--- image from before, but for its range; a sync leaves one image alone; the journal's lemmas say what such bytes hold.
+-- What the images of the disk hold during a commit, one device step after the other. The reason: a write leaves each image as an earlier
+-- image, except in its range; a sync leaves only one image; and the journal's lemmas say what such bytes hold.
 use Rattle.std.proofs.Common.{◌≡◌, ◌⊎◌, inl, inr, ⊎_elim, true, false, cond, ℕ, ◌+◌, zero, suc, ◌*◌, ◌%◌, ◌<◌, ◌≤◌, List, [], ◌∷◌, ◌++◌, length, take, drop, get_or, refl, sym, ◌∙◌, ap, subst, arith, length-append}
 use Rattle.std.proofs.lemmas.Nat.{mod_below}
 use Rattle.std.proofs.lemmas.List.{take_at, drop_at, drop_more, take-take, take-append-le, length-take-le, length-map}
@@ -20,7 +20,7 @@ use Rattle.cc_core.specs.StoreState.{StoreState}
 use Rattle.cc_core.specs.Store.{gate_of, stepped, due_after, FailsTo}
 use Rattle.cc_core.specs.internal.Ready.{HasRoom}
 
--- these records stand in the area of the image that this area byte names
+-- these records are in the area of the image that this area byte names
 pub record HoldsIn (byte area : ℕ) (bodies : List (List ℕ)) (image : List ℕ) : Type 0 where
   pub holds : HoldsRecords image area bodies
   pub header_is : take 16 image ≡ header byte area
@@ -29,7 +29,7 @@ pub record HoldsIn (byte area : ℕ) (bodies : List (List ℕ)) (image : List �
 abbrev pub HoldsInOneOf : ℕ → ℕ → List (List ℕ) → List ℕ → List ℕ → Type 0
 HoldsInOneOf byte area bodies body image = HoldsIn byte area bodies image ⊎ HoldsIn byte area (bodies ++ body ∷ []) image
 
--- where an area begins: behind the header, or behind the first area
+-- where an area begins: after the header, or after the first area
 part_most : (b n : ℕ) → b < 2 → b * n ≤ n
 part_most zero n lt = omega arith
 part_most (suc zero) n lt = omega arith
@@ -52,7 +52,7 @@ first_of-header b c area same = ap first_of same
 pub begins_behind : (b byte area n : ℕ) → b ≡ byte → n ≡ b % 2 * area → area_begin byte area ≡ 16 + n
 begins_behind b byte area n same is = ap (λ (k : ℕ). 16 + k) (ap (λ (k : ℕ). k % 2 * area) (sym same) ∙ sym is)
 
--- the area byte of records that stand so
+-- the area byte of these records
 pub byte_of : (byte area : ℕ) (bodies : List (List ℕ)) (image : List ℕ) (a : HoldsIn byte area bodies image) → a.holds.area_byte ≡ byte
 byte_of byte area bodies image a =
     let h = a.holds in
@@ -60,7 +60,7 @@ byte_of byte area bodies image a =
     sym (take_at (header h.area_byte area) (h.other ++ (records bodies ++ h.gate ∷ h.behind)) 16 refl) ∙ sym (ap (λ (l : List ℕ). take 16 l) h.bytes) ∙ a.header_is in
     first_of-header h.area_byte byte area prefix
 
--- the records of an image stand in the area that its header names
+-- the records of an image are in the area that its header names
 pub holds_in : (area : ℕ) (bodies : List (List ℕ)) (image : List ℕ) (h : HoldsRecords image area bodies) → HoldsIn h.area_byte area bodies image
 holds_in area bodies image h = record {
   holds = h;
@@ -83,7 +83,7 @@ written_header place bytes old new prefix le within is same =
     ∙ take-append-le 16 (take place old) (bytes ++ drop (place + length bytes) old) (omega (arith, le, length-take-le place old within))
     ∙ take-take 16 place old le ∙ same
 
--- a byte in front of bytes that were written before is one write of both
+-- writing a byte in front of bytes that were written before is like writing both at once
 pub two_writes : (old : List ℕ) (g x : ℕ) (xs written new : List ℕ) → g + 1 ≤ length old → IsWritten old (g + 1) xs written → IsWritten written g (x ∷ []) new → IsWritten old g (x ∷ xs) new
 two_writes old g x xs written new within first second =
     let rest = drop (g + 1 + length xs) old in
@@ -95,7 +95,7 @@ two_writes old g x xs written new within first second =
     second ∙ ap (λ (l : List ℕ). l ++ x ∷ drop (g + 1) written) prefix ∙ ap (λ (l : List ℕ). take g old ++ x ∷ l) (back ∙ ap (λ (k : ℕ). xs ++ drop k old) place)
 
 module _ (byte area used : ℕ) (bodies : List (List ℕ)) (taken : used ≡ length (records bodies)) where
-  -- whatever stands behind the closed gate, the old records are held
+  -- whatever comes after the closed gate, the old records are held
   behind_held : (n : ℕ) (old image : List ℕ) → HoldsIn byte area bodies old → DiffersWithin (area_begin byte area + used + 1) n old image → HoldsIn byte area bodies image
   behind_held n old image a differs =
       let least = begin_least byte area in
@@ -104,7 +104,7 @@ module _ (byte area used : ℕ) (bodies : List (List ℕ)) (taken : used ≡ len
         header_is = same_header (area_begin byte area + used + 1) n old image (header byte area) (omega (arith, least)) differs a.header_is;
       }
 
-  -- with a body written behind the gate, whatever the gate is, the old records or these and the new one are held
+  -- if a body was written after the gate, then, whatever the gate is, the old records or these and the new one are held
   at_gate_held : (body old written image : List ℕ) → HoldsIn byte area bodies old → used + length body + 6 ≤ area → IsWritten old (area_begin byte area + used + 1) (frame body) written → length written ≡ length old
       → DiffersWithin (area_begin byte area + used) 1 written image → HoldsInOneOf byte area bodies body image
   at_gate_held body old written image a room is long differs =
@@ -119,7 +119,7 @@ module _ (byte area used : ℕ) (bodies : List (List ℕ)) (taken : used ≡ len
       (λ alone. inr (record { holds = alone.holds; header_is = head }))
       (at_gate old begin area used bodies (holds_from byte area bodies old a) taken body written image room is long differs)
 
-  -- and with the gate open the new one is
+  -- and if the gate is open, the new one is held too
   opened_held : (body old written new : List ℕ) → HoldsIn byte area bodies old → used + length body + 6 ≤ area → IsWritten old (area_begin byte area + used + 1) (frame body) written
       → IsWritten written (area_begin byte area + used) (open_gate ∷ []) new → HoldsIn byte area (bodies ++ body ∷ []) new
   opened_held body old written new a room first second =
@@ -133,14 +133,14 @@ module _ (byte area used : ℕ) (bodies : List (List ℕ)) (taken : used ≡ len
         header_is = written_header (begin + used) (open_gate ∷ frame body) old new (header byte area) (omega (arith, least)) (omega (arith, within)) both a.header_is;
       }
 
--- ---- the disk in each part of a commit
+-- ---- the disk at each point of a commit
 
--- the records and nothing unsettled that could change them
+-- the records, and nothing unsettled that could change them
 pub record IsAtRest (store : StoreState) (bodies : List (List ℕ)) : Type 0 where
   pub taken : store.used ≡ length (records bodies)
   pub images : (image : List ℕ) → IsImage store.cells image → HoldsIn store.area_byte store.area bodies image
 
--- a body was written behind the gate
+-- a body was written after the gate
 pub record IsBodyWritten (store : StoreState) (bodies : List (List ℕ)) (body : List ℕ) : Type 0 where
   pub rest : IsAtRest store bodies
   pub before : List ℕ
@@ -159,7 +159,7 @@ pub record IsGateWritten (store : StoreState) (bodies : List (List ℕ)) (body :
   pub images : (image : List ℕ) → IsImage store.cells image → HoldsInOneOf store.area_byte store.area bodies body image
   pub seen : HoldsIn store.area_byte store.area (bodies ++ body ∷ []) (bytes_of store.cells)
 
--- by what is due
+-- the point of the commit, by the step that is due
 abbrev pub InCommit : Due → StoreState → List (List ℕ) → List ℕ → Type 0
 InCommit WriteBody store bodies body = IsAtRest store bodies
 InCommit SyncBody store bodies body = IsBodyWritten store bodies body
@@ -167,7 +167,7 @@ InCommit WriteGate store bodies body = IsBodySettled store bodies body
 InCommit SyncGate store bodies body = IsGateWritten store bodies body
 InCommit Acknowledge store bodies body = IsAtRest store (bodies ++ body ∷ [])
 
--- every image holds the old records or the old and the new one
+-- every image holds the old records, or the old ones and the new one
 pub commit_images : (due : Due) (store : StoreState) (bodies : List (List ℕ)) (body : List ℕ) → InCommit due store bodies body
     → (image : List ℕ) → IsImage store.cells image → HoldsInOneOf store.area_byte store.area bodies body image
 commit_images WriteBody store bodies body c image now = inl (c.images image now)
@@ -183,7 +183,7 @@ length-bytes_of cells = length-map cells (λ (c : Cell). c.byte)
 pub size_of : (store : StoreState) (bodies : List (List ℕ)) → HoldsIn store.area_byte store.area bodies (bytes_of store.cells) → 16 + 2 * store.area ≤ length store.cells
 size_of store bodies a = omega (arith, a.holds.is_area.room, length-bytes_of store.cells)
 
--- the bytes behind the gate are written, whatever they are
+-- the bytes after the gate are written, whatever they are
 body_images : (store : StoreState) (bodies : List (List ℕ)) (bytes : List ℕ) → IsAtRest store bodies → store.used + length bytes + 1 ≤ store.area
     → (image : List ℕ) → IsImage (written store.cells (gate_of store + 1) bytes) image → HoldsIn store.area_byte store.area bodies image
 body_images store bodies bytes rest room image now =
@@ -201,7 +201,7 @@ gate_images store bodies body byte s room image now =
     let differs = subst (λ (old : List ℕ). DiffersWithin (gate_of store) 1 old image) (s.alone from.0 from.1) from.2 in
     at_gate_held store.area_byte store.area store.used bodies w.rest.taken body w.before (bytes_of store.cells) image w.held room w.seen w.long differs
 
--- each device step goes on to the next part
+-- each device step leads to the next point
 pub commit_goes_on : (due : Due) (store : StoreState) (bodies : List (List ℕ)) (command : LibraryCommand) → HasRoom due store command → InCommit due store bodies (body_of command)
     → InCommit (due_after due) (stepped due command store) bodies (body_of command)
 commit_goes_on WriteBody store bodies command room c =
@@ -246,7 +246,7 @@ commit_goes_on SyncGate store bodies command room c =
     }
 commit_goes_on Acknowledge store bodies command room c = c
 
--- the room is still there
+-- there is still room
 pub room_goes_on : (due : Due) (store : StoreState) (command : LibraryCommand) → HasRoom due store command → HasRoom (due_after due) (stepped due command store) command
 room_goes_on WriteBody store command room = room
 room_goes_on SyncBody store command room = room
@@ -274,7 +274,7 @@ failed_images Acknowledge store new bodies command room c f = absurd f
 
 -- ---- a crash
 
--- a crash leaves an image
+-- a crash leaves one of the images
 pub crashed_image : (cells : List Cell) (choice : List ℕ) → IsImage cells (bytes_of (crashed cells choice))
 crashed_image [] choice = tt
 crashed_image (cell ∷ cells) [] = (left_byte cell 0, crashed_image cells [])
@@ -286,7 +286,7 @@ crashed_image (cell ∷ cells) (byte ∷ choice) = (left_byte cell byte, crashed
     left_byte : (cell : Cell) (byte : ℕ) → cell.settled ≡ true → (left cell byte).byte ≡ cell.byte
     left_byte cell byte is = ap (λ b. (cond b (settled cell.byte) (settled byte)).byte) is
 
--- and settles all
+-- and it settles everything
 pub crashed_alone : (cells : List Cell) (choice : List ℕ) → LeavesAlone (bytes_of (crashed cells choice)) (IsImage (crashed cells choice))
 crashed_alone [] choice [] now = refl
 crashed_alone [] choice (b ∷ image) now = absurd now
@@ -301,16 +301,16 @@ crashed_alone (cell ∷ cells) (byte ∷ choice) (b ∷ image) now = (λ i. now.
     left_settled : (cell : Cell) (byte : ℕ) → (left cell byte).settled ≡ true
     left_settled cell byte = elim (cell.settled) as (λ b. (cond b (settled cell.byte) (settled byte)).settled ≡ true) [ true ↦ refl | false ↦ refl ]
 
--- a disk that a crash leaves as it is has the same bytes behind one
+-- a disk that a crash cannot change has the same bytes after one
 pub crashed_same : (cells : List Cell) (choice : List ℕ) → LeavesAlone (bytes_of cells) (IsImage cells) → bytes_of (crashed cells choice) ≡ bytes_of cells
 crashed_same cells choice alone = alone (bytes_of (crashed cells choice)) (crashed_image cells choice)
 
 pub length-crashed : (cells : List Cell) (choice : List ℕ) → length (crashed cells choice) ≡ length cells
 length-crashed cells choice = sym (length-bytes_of (crashed cells choice)) ∙ length-image cells (bytes_of (crashed cells choice)) (crashed_image cells choice)
 
--- ---- how many bytes records take
+-- ---- the number of bytes that records take
 
--- one record more was counted
+-- one more record was counted
 pub taken_more : (bodies : List (List ℕ)) (i taken : ℕ) (d : List ℕ) → i < length bodies → taken + length (records (drop i bodies)) ≡ length (records bodies)
     → taken + (length (get_or bodies i d) + 5) + length (records (drop (i + 1) bodies)) ≡ length (records bodies)
 taken_more bodies i taken d within so_far =

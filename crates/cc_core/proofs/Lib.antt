@@ -1,24 +1,42 @@
--- How the crash theorem is shown. Each handler gives its clause of `Step`. What the disk's images hold is said by phase, and a device
--- step goes on from one part of a commit to the next (Held); in every phase an image holds records that stand for the order, or for all
--- but its last command, which was not acknowledged then (Ending); each step keeps this (Sound). What a recovery keeps of the order is
--- decided by whether the last command is in effect (Orders). The rewrite: the old records and the new ones both stand for the whole
--- order, so whichever a crash leaves, nothing is lost; that an image has the one or the other is the journal's lemma on its commit
--- (Rewrites). After a crash in the area byte's write it is not known which area is in use: the recovery reads it. The new records always
--- fit: a command puts at most one entry into the map, whose record is as long as that command's (Compacted).
--- From small to large: lists and orders, what the disk holds through a commit and a rewrite, what each step keeps, whole runs.
+-- How the crash theorem is shown. Each handler gives its clause of `Step`. What the disk's images hold is described by phase, and a device
+-- step leads from one point of a commit to the next (Held). In every phase an image holds records that represent the order, or all but its
+-- last command, which was then not acknowledged (Ending); each step keeps this (Sound). What a recovery keeps of the order is decided by
+-- whether the last command is in effect (Orders). In a rewrite the old records and the new ones both represent the whole order, so
+-- whichever a crash leaves, nothing is lost; that an image has the one or the other is the journal's lemma on its commit (Rewrites). After
+-- a crash in the write of the area byte it is not known which area is in use: the recovery reads it. The new records always fit: a command
+-- puts at most one entry into the map, whose record is as long as that command's (Compacted).
+--
+-- From small to large: lists and orders, what the disk holds during a commit and a rewrite, what each step keeps, whole runs.
+--
+-- structs without fields at run time
 pub mod Walks
+-- a write to one piece of one job
 pub mod Jobs
+-- lists with one element written or one more
 pub mod Lists
+-- a command that a job begins has a right unit
 pub mod Whole
+-- orders with one more command, and what a recovery keeps of them
 pub mod Orders
+-- what the images hold during a commit, step by step
 pub mod Held
+-- the shortest journal of a map never takes more room than another
 pub mod Compacted
+-- what the images hold during a rewrite, step by step
 pub mod Rewrites
+-- what each image recovers to, by phase
 pub mod Ending
+-- what an event asks for gives it its step
 pub mod Possible
+-- what the records of an opened disk show
 pub mod Beginnings
+-- the recovery after a crash has its step
 pub mod Reopening
+-- what holds for the contents after any events
 pub mod Sound
+-- a run goes on by one turn
 pub mod Runs
+-- what holds for a run, whatever pieces are handed in
 pub mod Anyhow
+-- how a run goes on
 pub mod Turns

@@ -26,7 +26,7 @@ cond_cases : {A : Type 0} (b : Bool) (x y z : A) → cond b x y ≡ z → (x ≡
 cond_cases true x y z is = inl is
 cond_cases false x y z is = inr is
 
--- a value that is found after an insertion is the one inserted, or was found before
+-- a value that is found after an insertion is the inserted one, or was found before
 module _ {K X : Type 0} {R : K → K → Ordering} (o : IsTotalOrder R) where
   pub found-insert : (m : FinMap R X) (k : K) (v : X) (q : K) (x : X) → get (insert m k v) q ≡ Some x → (Some v ≡ Some x) ⊎ (get m q ≡ Some x)
   found-insert m k v q x is = cond_cases (eq_by_cmp R q k) (Some v) (get m q) (Some x) (sym (get-insert o m k v q) ∙ is)
@@ -57,7 +57,7 @@ EachUnit-after is_right library (command.Withdraw name) each right =
 pub EachUnit-empty : (is_right : StoredUnit → Type 0) → EachUnit is_right empty
 EachUnit-empty is_right name unit is = let none = sym (get-empty (slice_cmp nat_cmp) name) ∙ is in absurd (cc)
 
--- ---- one command more
+-- ---- one more command
 
 after_all-push : (library : Units) (cs : List LibraryCommand) (c : LibraryCommand) → after_all library (cs ++ c ∷ []) ≡ after (after_all library cs) c
 after_all-push library [] c = refl
@@ -93,7 +93,7 @@ AreAccepted-last prefix last all = accepted_last empty (commands prefix) last.co
 pub but_last-push : (prefix : List Numbered) (last : Numbered) (order : List Numbered) → order ≡ prefix ++ last ∷ [] → but_last order ≡ prefix
 but_last-push prefix last order is = ap but_last is ∙ take-push prefix last
 
--- two lists that end are equal in their last elements
+-- two equal lists have the same last element
 pub same_last : {A : Type 0} (xs : List A) (x : A) (ys : List A) (y : A) → xs ++ x ∷ [] ≡ ys ++ y ∷ [] → x ≡ y
 same_last [] x [] y e = cc
 same_last [] x (z ∷ []) y e = absurd (cc)
@@ -144,7 +144,7 @@ get_removed library name =
     get-remove nat_list_cmp_total library name name
     ∙ ap (λ b. cond b None (get library name)) ((eq_by_cmp_equiv nat_list_cmp_total).refl name)
 
--- inserting what is there changes nothing
+-- inserting what is there already changes nothing
 inserted_same : (library : Units) (name : List ℕ) (unit : StoredUnit) → get library name ≡ Some unit → insert library name unit ≡ library
 inserted_same library name unit is =
     same_map nat_list_cmp_total (slice_cmp-IsAntisymmetric nat_cmp-IsAntisymmetric) (insert library name unit) library
@@ -196,7 +196,7 @@ same_certificates (Some a) None = inr (λ same. no_longer_none a (sym same))
 same_certificates (Some a) (Some b) =
     elim (same_numbers a b) [ inl same ↦ inl (ap Some same) | inr differ ↦ inr (λ same. differ (same_Some a b same)) ]
 
--- units are the same where source, code, globals and certificate are
+-- units are the same if their source, code, globals and certificate are
 same_unit : (a b : StoredUnit) → a.source ≡ b.source → a.image.code ≡ b.image.code → a.image.globals ≡ b.image.globals → a.certificate ≡ b.certificate → a ≡ b
 same_unit a b source code globals certificate = λ i. record { source = source i; image = record { code = code i; globals = globals i }; certificate = certificate i }
 

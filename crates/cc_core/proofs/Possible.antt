@@ -1,5 +1,5 @@
--- Where what an event asks holds, it has a step: the new state is the one that the step names. And how a handler's answer is
--- that of the event.
+-- If what an event asks for holds, it has a step: the new state is the one that the step names. And when a handler's answer is that of the
+-- event.
 use Rattle.std.proofs.Common.{◌≡◌, ◌⊎◌, inl, inr, ℕ, ◌+◌, ◌≤◌, refl, sym, subst, ap, ◌∙◌, Option, Some, None, arith, length, List}
 use Rattle.std.specs.Prelude.{slice_get, IsTrue, OnOk, OnErr, IsErr, IsErrAnd, IsErrOf, is_err, true, false, ◌↔◌, Result, Ok, Err, ◌++◌, ◌∷◌, []}
 use Rattle.std.specs.FinMap.{get, insert, remove, empty}
@@ -68,7 +68,7 @@ fails_to old client numbered due store committing failed = (
   record { numbered = numbered; due = due; store = store; committing = committing; failed = failed; told = refl; new_is = refl },
 )
 
--- each device step can fail: a write may have left what it was to write
+-- each device step can fail: a write may have left what it was meant to write
 pub fails : (old : Core) (client : ClientId) (numbered : Numbered) (now : Due) → old.phase ≡ Committing client numbered now → (now ≡ due.Acknowledge → ⊥)
     → (reply : Option Reply) × (new : Core) × Fails client old reply new
 fails old client numbered due.WriteBody committing device =
@@ -126,17 +126,17 @@ begun old client (Ok command) = (
 )
 begun old client (Err refused) = (Some (replies.Refused refused), ticked old, (refl, refl))
 
--- what an error leaves, where there was one
+-- what an error leaves, if there was one
 pub where_refused : {T E X : Type 0} (r : Result T E) → OnErr r X → true ≡ is_err r → X
 where_refused (Ok value) kept err = absurd (cc)
 where_refused (Err fault) kept err = kept
 
--- and what an Ok says, where there was one
+-- and what an Ok says, if there was one
 pub where_done : {T E X : Type 0} (r : Result T E) → OnOk r X → false ≡ is_err r → X
 where_done (Ok value) done err = done
 where_done (Err fault) done err = absurd (cc)
 
--- where memory ran out, all is as before and the event has a step
+-- if memory ran out, everything is as before and the event has a step
 pub memory_answers : {S : Type 0} (step : Option Reply → S → Type 0) (result : Result (Option Reply) CoreFault) (old new : S) → IsErr result → IsErrAnd result (λ fault. fault ≡ faults.OutOfMemory)
     → (reply : Option Reply) × (after : S) × step reply after → new ≡ old → Answers step result old new
 memory_answers step (Ok reply) old new err is some same = absurd (cc)
@@ -151,7 +151,7 @@ same_order old new is = not_longer old new (omega (arith, ap length is))
 committing_apart : {a : ClientId} {n : Numbered} {d : Due} {c : Commit} {e : RewriteDue} → Committing a n d ≡ Rewriting c e → ⊥
 committing_apart is = absurd (cc)
 
--- of two steps, of which the second is impossible, the first one's answer is that of both
+-- if the second of two steps is impossible, the first one's answer is that of both
 pub answers_first : {S : Type 0} (A B : Option Reply → S → Type 0) (result : Result (Option Reply) CoreFault) (old new : S) → ((reply : Option Reply) (after : S) → B reply after → ⊥)
     → Answers A result old new → Answers (λ reply after. A reply after ⊎ B reply after) result old new
 answers_first A B (Ok reply) old new none a = (
@@ -185,7 +185,7 @@ answers_second A B (Err fault) old new none a = (
 -- ---- steps of clients and workers
 
 module _ {P : Type 0} where
-  -- each request has a plan, where each source has one
+  -- each request has a plan, if each source has one
   planned_some : (rules : Rules P) → ((source : List ℕ) → (plan : Result ℕ ℕ) × rules.plan source plan) → (asked : Request) → (plan : Result ℕ ℕ) × IsPlanned rules asked plan
   planned_some rules plans (request.Add name source) = plans source
   planned_some rules plans (request.Replace name source) = plans source
@@ -230,7 +230,7 @@ module _ {P : Type 0} where
     λ i. record { core = a.3 i; jobs = jobs i; workers = workers i },
   )
 
-  -- so does one that ends a job, or all, where it refuses
+  -- so does one that ends a job, or all jobs, if it refuses
   pub ends_refused : (client : ClientId) (step : Core → Option Reply → Core → Type 0) (old new : Contents P) (fault : CoreFault) → Answers (step old.core) (Err fault) old.core new.core
       → new.jobs ≡ old.jobs → new.workers ≡ old.workers → Answers (EndsJob client step old) (Err fault) old new
   ends_refused client step old new fault a jobs workers = (
@@ -263,7 +263,7 @@ module _ {P : Type 0} where
       client_of : {a b : ClientId} {m n : Numbered} {d e : Due} → Committing a m d ≡ Committing b n e → a ≡ b
       client_of is = cc
 
-  -- in a rewrite no commit can fail, and out of one no rewrite
+  -- in a rewrite no commit can fail, and outside a rewrite no rewrite can
   pub in_rewrite : (old : Contents P) (commit : Commit) (due : RewriteDue) → old.core.phase ≡ Rewriting commit due → (result : Result (Option Reply) CoreFault) (core : Core)
       → Answers (RewriteFails old.core) result old.core core → Answers (FailsStep old) result old (record old { core = core })
   in_rewrite old commit due rewriting result core a =
@@ -276,7 +276,7 @@ module _ {P : Type 0} where
   out_of_rewrite old new none result a =
       answers_first (FailsJob old) (StepsCore RewriteFails old) result old new (λ reply after step. none step.core_step.commit step.core_step.due step.core_step.rewriting) a
 
-  -- an answer that is a step, or 29 where there is none, or 40 where there is one, is 29 exactly where there is none
+  -- an answer that is a step, or 29 if there is none, or 40 if there is one, is 29 exactly if there is none
   pub exact : (rules : Rules P) (old : Contents P) (event : Event P) (result : Result (Option Reply) CoreFault) (new : Contents P)
       → Answers (Step rules old event) result old new → IsErrOf result faults.NotNow ↔ IsImpossible rules old event
   exact rules old event (Ok reply) new a = (a.1, λ none. absurd (none reply new a.0))
@@ -331,7 +331,7 @@ module _ {P : Type 0} where
       not_longer old.core new.core
       (omega (arith, ap (λ (s : Core). length s.order) r.new_is, ap length r.longest.prefix, length-take-le r.longest.count old.core.order r.longest.within, r.longest.within))
 
-  -- so of what an event answers
+  -- the same for what an event answers
   pub puts_none : (rules : Rules P) (old : Contents P) (e : Event P) (result : Result (Option Reply) CoreFault) (new : Contents P) → IsNoBegin e
       → Answers (Step rules old e) result old new → OnOk result (PutsCommand old.core new.core)
   puts_none rules old e (Ok reply) new plain a = step_puts_none rules old e reply new plain a.0

@@ -1,4 +1,4 @@
--- What is found on a disk after a crash is what the state says of it, so the recovery has its step.
+-- What is found on a disk after a crash is what the state says about it, so the recovery has its step.
 use Rattle.std.proofs.Common.{◌≡◌, ℕ, ◌+◌, ◌≤◌, List, None, refl, sym, subst, ◌∙◌, arith}
 use Rattle.std.specs.FinMap.{empty}
 use Rattle.cc_disk.specs.Model.{bytes_of}
@@ -29,7 +29,7 @@ recoverable_of old ready crashed = subst (λ (phase : Phase). IsReadyIn phase ol
 pub recovers_of : (store : StoreState) (order : List Numbered) (r : IsRecoverable store order) → Recovers (bytes_of store.cells) r.library
 recovers_of store order r = record { area = store.area; bodies = r.bodies; holds = r.holds.holds; stand = r.stand }
 
--- so the state behind them is the recovery's
+-- so the state afterwards is the recovery's
 pub found_reopens : (old new : Core) (library : Units) (used area : ℕ) (bodies : List (List ℕ)) (kept : List Numbered) → IsReady old → old.phase ≡ Crashed
     → (f : IsFound (bytes_of old.store.cells) area bodies library used) → (byte : ℕ) → f.holds.area_byte ≡ byte
     → IsPrefixKept library old.order kept → new ≡ record old { library = library; order = kept; phase = Idle; store = record old.store { area_byte = byte; used = used } } → Reopens old None new

@@ -1,5 +1,5 @@
--- What the images of the disk hold through a rewrite, one device step after the other: the old records or the new ones. How: the
--- journal's lemma says it of the middle of its commit; each state of the disk here is such a middle, or behind the commit.
+-- What the images of the disk hold during a rewrite, one device step after the other: the old records or the new ones. The reason: the
+-- journal's lemma says so for the middle of its commit; each state of the disk here is such a middle, or after the commit.
 use Rattle.std.proofs.Common.{◌≡◌, inl, inr, ℕ, ◌+◌, ◌*◌, ◌≤◌, List, [], ◌∷◌, ◌++◌, length, take, drop, sym, ◌∙◌, ap, subst, arith, length-append}
 use Rattle.std.proofs.lemmas.List.{drop-take}
 use Rattle.cc_disk.specs.Model.{bytes_of, IsImage, written}
@@ -34,7 +34,7 @@ module _ (byte area : ℕ) (bodies more : List (List ℕ)) (old : List ℕ) (hel
   mid_held image mid =
       rewriting old (area_begin byte area) area bodies (holds_from byte area bodies old held) more room image (subst (λ (c : Commit). IsMidCommit c old image) commit_at mid)
 
-  -- behind it
+  -- after it
   pub done_held : (new : List ℕ) → IsCommitted (rewrite_commit byte area more) old new → HoldsIn (other_area byte) area more new
   done_held new done =
       let there = rewritten old (area_begin byte area) area bodies (holds_from byte area bodies old held) more room new (subst (λ (c : Commit). IsCommitted c old new) commit_at done) in
@@ -45,7 +45,7 @@ module _ (byte area : ℕ) (bodies more : List (List ℕ)) (old : List ℕ) (hel
       let behind : take 15 (drop 1 staged) ≡ drop 1 (header byte area) = sym (drop-take 1 15 staged) ∙ ap (λ (l : List ℕ). drop 1 l) head in
       record { holds = there.holds; header_is = ap (λ (l : List ℕ). take 16 l) done.2 ∙ ap (λ (l : List ℕ). other_area byte ∷ l) behind }
 
--- ---- the disk in each part of a rewrite
+-- ---- the disk at each point of a rewrite
 
 -- the new area was written
 pub record IsAreaWritten (store : StoreState) (bodies more : List (List ℕ)) : Type 0 where
@@ -65,7 +65,7 @@ pub record IsByteWritten (store : StoreState) (bodies more : List (List ℕ)) : 
   pub images : (image : List ℕ) → IsImage store.cells image → HoldsOneOf store.area bodies more image
   pub seen : HoldsIn (other_area store.area_byte) store.area more (bytes_of store.cells)
 
--- by what is due
+-- the point of the rewrite, by the step that is due
 abbrev pub InRewrite : RewriteDue → StoreState → List (List ℕ) → List (List ℕ) → Type 0
 InRewrite SyncAll store bodies more = IsAreaWritten store bodies more
 InRewrite WriteArea store bodies more = IsAreaSettled store bodies more
@@ -82,7 +82,7 @@ rewrite_images SyncArea store bodies more room r = r.images
 abbrev pub commit_of : StoreState → List (List ℕ) → Commit
 commit_of store more = rewrite_commit store.area_byte store.area more
 
--- its first write lies on the disk
+-- its first write lies within the disk
 pub first_within : (store : StoreState) (more : List (List ℕ)) → 16 + 2 * store.area ≤ length store.cells → room_of more ≤ store.area
     → area_begin (other_area store.area_byte) store.area + length (whole more) ≤ length store.cells
 first_within store more size room = omega (arith, size, room, length-whole more, begin_most (other_area store.area_byte) store.area)
@@ -115,7 +115,7 @@ byte_images store bodies more byte room s image at =
     let differs = subst (λ (old : List ℕ). DiffersWithin 0 1 old image) (s.alone from.0 from.1) from.2 in
     mid_held store.area_byte store.area bodies more w.before w.held room image (inr (bytes_of store.cells, w.seen, differs))
 
--- each further step goes on to the next part
+-- each further step leads to the next point
 pub all_synced : (store : StoreState) (bodies more : List (List ℕ)) (c : Commit) → InRewrite SyncAll store bodies more → InRewrite WriteArea (rewrite_stepped SyncAll c store) bodies more
 all_synced store bodies more c r =
     let same = sym (bytes_of-synced store.cells) in
@@ -139,7 +139,7 @@ byte_written store bodies more room r =
       seen = done_held store.area_byte store.area bodies more w.before w.held room _ (bytes_of store.cells, w.seen, bytes_of-written store.cells 0 (x ∷ []));
     }
 
--- behind the last one the new records are at rest
+-- after the last one the new records are at rest
 pub rewrite_ends : (store : StoreState) (bodies more : List (List ℕ)) → InRewrite SyncArea store bodies more → IsAtRest (rewrite_stepped SyncArea (commit_of store more) store) more
 rewrite_ends store bodies more r = record {
   taken = omega (arith, length-whole more);

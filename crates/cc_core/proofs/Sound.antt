@@ -1,6 +1,6 @@
--- What holds of the contents after any events. One record says it, each step keeps it, and so does a run.
--- How: beside the order and the jobs it says, by phase, what the disk's images hold; a device step goes on from one part of the
--- commit to the next, a crash leaves one of the images, and a recovery reads it.
+-- What holds for the contents after any events. One record states it, each step keeps it, and so does a run. Besides the order and the jobs
+-- it says, by phase, what the disk's images hold. A device step leads from one point of the commit to the next, a crash leaves one of the
+-- images, and a recovery reads it.
 use Rattle.std.proofs.Common.{◌≡◌, ◌⊎◌, inl, inr, ℕ, zero, suc, ◌+◌, ◌*◌, ◌<◌, ◌≤◌, ◌^◌, List, [], ◌∷◌, ◌++◌, length, take, drop, Option, Some, None, Result, Ok, Err, refl, sym, ap, subst, ◌∙◌, arith, All, Contains}
 use Rattle.std.specs.Prelude.{IsOk, slice_get, replicate}
 use Rattle.std.specs.Ordering.{nat_cmp}
@@ -64,7 +64,7 @@ use Rattle.cc_core.proofs.Possible.{reopens, rewrites_all}
 use Rattle.cc_core.proofs.Reopening.{recoverable_of}
 use Rattle.cc_core.proofs.Ending.{LacksLast, HoldsOrder, HoldsFlight, HoldsRewrite, HoldsCrash, IsKept, stand_more, HoldsEnds, ends_of, ends_either, rewrite_kept, IsWhole, each_right, one_right, each_ends, ends_survives, ends_right, kept_acked}
 
--- each sequence number is below this one
+-- each sequence number is below this number
 abbrev pub AreBelow : ℕ → List Numbered → Type 0
 AreBelow n order = (k : ℕ) (a : Numbered) → slice_get order k ≡ Some a → a.number.value < n
 
@@ -107,7 +107,7 @@ area_most : (phase : Phase) (store : StoreState) (order acknowledged : List Numb
 area_most phase store order acknowledged k =
     (each_ends phase store order acknowledged k (bytes_of store.cells) (bytes_are_image store.cells)).held.is_area.most
 
--- what stands at an index of the prefix stands there in the whole
+-- what is at an index of the prefix is there in the whole
 slice_get-prefix : {X : Type 0} (xs ys : List X) (k : ℕ) (x : X) → slice_get xs k ≡ Some x → slice_get (xs ++ ys) k ≡ Some x
 slice_get-prefix [] ys k x is = absurd (cc)
 slice_get-prefix (z ∷ xs) ys zero x is = is
@@ -140,7 +140,7 @@ recoverable store order acknowledged all h = at h.ends.known
       known = inr (lacks.prefix, lacks.last, lacks.is, refl);
     }
 
--- what each acknowledged command's number is below
+-- the number above that of each acknowledged command
 acked_below : (order acknowledged prefix : List Numbered) (last : Numbered) → order ≡ prefix ++ last ∷ [] → AreRising order → All (Contains prefix) acknowledged → AreBelow last.number.value acknowledged
 acked_below order acknowledged prefix last is rising all k a there =
     let found = All-slice_get (Contains prefix) acknowledged k a all there in
@@ -181,7 +181,7 @@ begun_not_crashed : (s : Core) (client : ClientId) (v : Result LibraryCommand Re
 begun_not_crashed s client (Err refused) reply new free begun crashed = subst IsFree (sym (ap (λ (c : Core). c.phase) begun.1) ∙ crashed) free
 begun_not_crashed s client (Ok command) reply new free begun crashed = absurd (crashed_not_committing client (numbered_now s command) due.WriteBody (sym crashed ∙ ap (λ (c : Core). c.phase) begun.1))
 
--- behind a step of a rewrite it goes on, or nothing is under way
+-- after a step of a rewrite the rewrite goes on, or nothing is under way
 after_not_committing : (commit : Commit) (rest : RewriteDue) (client : ClientId) (numbered : Numbered) (due : Due) → phase_after commit rest ≡ Committing client numbered due → ⊥
 after_not_committing commit left.SyncAll client numbered due is = rewriting_not_committing commit left.WriteArea client numbered due is
 after_not_committing commit left.WriteArea client numbered due is = rewriting_not_committing commit left.SyncArea client numbered due is
@@ -205,7 +205,7 @@ live_after commit left.SyncArea order = refl
 nothing_held : {X : Type 0} (m : FinMap nat_cmp X) (k : ℕ) (x : X) → m ≡ empty → get m k ≡ Some x → ⊥
 nothing_held m k x is found = let none = sym (get-empty nat_cmp k) ∙ ap (λ n. get n k) (sym is) ∙ found in absurd (cc)
 
--- what a second crash may leave the first may
+-- what a second crash may leave the first one may leave
 crashed_is_image : (cells : List Cell) (choice image : List ℕ) → IsImage (crashed cells choice) image → IsImage cells image
 crashed_is_image cells choice image now = subst (IsImage cells) (sym (crashed_alone cells choice image now)) (crashed_image cells choice)
 
@@ -241,7 +241,7 @@ module _ {P : Type 0} (rules : Rules P) (keeps : P → Type 0) where
   job_named call (request.Replace name source) plan so = planned_named call (request.Replace name source) plan (λ s from. let same : source ≡ s = cc in subst (λ (t : List ℕ). rules.plan t plan) same so)
   job_named call (request.Withdraw name) plan so = planned_named call (request.Withdraw name) plan (λ s from. absurd (cc))
 
-  -- another progress of a piece, which names its source and index, and keeps what its type keeps, where it is made
+  -- another progress of a piece, which names its source and index, and keeps what its type keeps, if it is made
   with_piece_named : (job : Job P) (part : PartIndex) (progress : Progress P) → IsNamed rules keeps job
       → ((source : List ℕ) (p : P) → source_in job.request ≡ Some source → progress ≡ Made p → (rules.source_of p ≡ source) × (rules.part_of p ≡ part.index))
       → ((p : P) → progress ≡ Made p → keeps p)
@@ -332,7 +332,7 @@ module _ {P : Type 0} (rules : Rules P) (keeps : P → Type 0) where
           quiet = λ crashed. absurd (idle_not_crashed (sym o.phase ∙ crashed));
         }
 
-    -- a step that changes jobs and workers alone
+    -- a step that changes only jobs and workers
     kept_IsSound : (s : Contents P) (jobs : _) (workers : _) → IsSound is_right s → AllNamed jobs → (s.core.phase ≡ Crashed → ⊥) → IsSound is_right (record s { jobs = jobs; workers = workers })
     kept_IsSound s jobs workers sound named up = record { core = sound.core; named = named; quiet = λ crashed. absurd (up crashed) }
 
@@ -391,11 +391,11 @@ module _ {P : Type 0} (rules : Rules P) (keeps : P → Type 0) where
         } in
         subst (IsSoundCore is_right) (sym begun.1) there
 
-    -- what is in commit
+    -- the command that is in commit
     flight : (s : Core) (client : ClientId) (numbered : Numbered) (due : Due) → IsSoundCore is_right s → s.phase ≡ Committing client numbered due → HoldsFlight numbered due s.store s.order s.acknowledged
     flight s client numbered due sound committing = subst (λ phase. IsKept phase s.store s.order s.acknowledged) committing sound.disk
 
-    -- the library of the order without its last command is right, and with it too
+    -- the library of the order without its last command is right, and so is the one with it
     prefix_right : (s : Core) (client : ClientId) (numbered : Numbered) (due : Due) → IsSoundCore is_right s → s.phase ≡ Committing client numbered due
         → (prefix : List Numbered) (last : Numbered) → s.order ≡ prefix ++ last ∷ [] → EachUnit is_right (library_of (commands prefix))
     prefix_right s client numbered due sound committing prefix last is =
@@ -691,7 +691,7 @@ module _ {P : Type 0} (rules : Rules P) (keeps : P → Type 0) where
     beginning-IsSound s (inl start) units = start-IsSound start.0 s start.1
     beginning-IsSound s (inr opened) units = opened-IsSound s opened units
 
-    -- so it holds of whatever is reached
+    -- so it holds for whatever is reached
     pub reached_IsSound : (s : Contents P) → Reached rules keeps is_right s → IsSound is_right s
     reached_IsSound s reached = run_IsSound reached.first reached.events s (beginning-IsSound reached.first reached.started reached.right) reached.run
 
@@ -700,7 +700,7 @@ module _ {P : Type 0} (rules : Rules P) (keeps : P → Type 0) where
     pub sound_survives : (s : Core) → IsSoundCore is_right s → EachImageSurvives s
     sound_survives s sound image now = ends_survives s.store.area s.order s.acknowledged image sound.rising sound.rising_acked sound.acked (each_ends s.phase s.store s.order s.acknowledged sound.disk image now)
 
-    -- in a rewrite both writes lie on the disk
+    -- in a rewrite both writes lie within the disk
     rewrite_ready : (commit : Commit) (due : RewriteDue) (store : StoreState) (order acknowledged : List Numbered) → HoldsRewrite commit due store order → IsRewrite commit store
     rewrite_ready commit due store order acknowledged k =
         let held = (each_ends (Rewriting commit due) store order acknowledged k (bytes_of store.cells) (bytes_are_image store.cells)).held in
@@ -737,7 +737,7 @@ module _ {P : Type 0} (rules : Rules P) (keeps : P → Type 0) where
     crashed_no_rewrite : (s : Core) (commit : Commit) (due : RewriteDue) → s.phase ≡ Crashed → s.phase ≡ Rewriting commit due → ⊥
     crashed_no_rewrite s commit due crashed rewriting = rewriting_not_crashed commit due (sym rewriting ∙ crashed)
 
-    -- and nothing else but another crash
+    -- and nothing else is, except another crash
     pub of_crash : (s : Contents P) (e : Event P) (reply : Option Reply) (new : Contents P) → IsSound is_right s → s.core.phase ≡ Crashed → Step rules s e reply new → IsOfCrash e
     of_crash s (event.Submit client call asked) reply new sound crashed step = absurd (subst IsUp crashed step.up)
     of_crash s (event.Take worker client part) reply new sound crashed step = absurd (nothing_held s.jobs client.number step.job (sound.quiet crashed).0 step.held)

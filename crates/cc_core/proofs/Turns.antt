@@ -1,4 +1,4 @@
--- How a run goes on. No event but a Begin lengthens the order; and a worker hands in the pieces that give a unit one after the other.
+-- How a run goes on. No event but a Begin makes the order longer; and a worker hands in the pieces that give a unit one after the other.
 use Rattle.std.proofs.Common.{◌≡◌, ◌⊎◌, ℕ, zero, suc, ◌+◌, ◌≤◌, inl, inr, Bool, true, false, cond, IsTrue, List, [], ◌∷◌, ◌++◌, length, map, take, Option, Some, None, Result, Ok, Err, refl, sym, ap, ◌∙◌, subst, arith, append_assoc, All}
 use Rattle.std.specs.Prelude.{slice_get, slice_set, replicate}
 use Rattle.std.specs.Ordering.{nat_cmp, eq_by_cmp, is_eq}
@@ -50,7 +50,7 @@ tied_at Less e = absurd (cc)
 tied_at Equal e = refl
 tied_at Greater e = absurd (cc)
 
--- keys are tied only where they are the same
+-- keys compare as equal only if they are the same
 apart_or : (k n : ℕ) → (k ≡ n) ⊎ (eq_by_cmp nat_cmp k n ≡ false)
 apart_or k n = at (eq_by_cmp nat_cmp k n) refl
   where
@@ -65,7 +65,7 @@ other_inserted m n v k apart =
       | inr tied ↦ get-insert nat_cmp_total m n v k ∙ ap (λ b. cond b (Some v) (get m k)) tied
     ]
 
--- where nothing stands, nothing stands after an insertion at a key where something stood, or after a removal
+-- a key without a value has none after an insertion at a key that had one, nor after a removal
 none_put : {X : Type 0} (m : FinMap nat_cmp X) (n : ℕ) (v w : X) (k : ℕ) → get m n ≡ Some v → get m k ≡ None → get (insert m n w) k ≡ None
 none_put m n v w k there none = other_inserted m n w k (λ same. let h = sym (ap (get m) same) ∙ none in let never : Some v ≡ None = sym there ∙ h in absurd (cc)) ∙ none
 
@@ -128,7 +128,7 @@ module _ {P : Type 0} where
 -- ---- turns
 
 module _ {P : Type 0} (rules : Rules P) where
-  -- what a step that begins no job does not do to the order
+  -- a step that begins no job leaves the order as it is
   kept_order : (old : Contents P) (e : Event P) (reply : Option Reply) (new : Contents P) → ((client : ClientId) → e ≡ event.Begin client → ⊥) → Step rules old e reply new
       → (numbered : Numbered) → new.core.order ≡ old.core.order ++ numbered ∷ [] → ⊥
   kept_order old (event.Submit client call asked) reply new none step n is = longer old.core.order n (sym (ap (λ (s : Contents P). s.core.order) step.new_is) ∙ is)
@@ -158,7 +158,7 @@ module _ {P : Type 0} (rules : Rules P) where
       subst IsCommand (ap (λ (n : Numbered). n.command) same) (is_put d refl)
   puts_begun old client (Err refused) reply new is_put begun numbered is = absurd (longer old.order numbered (sym (ap (λ (c : Core). c.order) begun.1) ∙ is))
 
-  -- a step puts commands with a spelling alone, where the one that begins has one
+  -- a step puts only commands with a spelling in the order, if the one that begins has one
   puts : (keeps : P → Type 0) (old : Contents P) (e : Event P) (reply : Option Reply) (new : Contents P) → BeginsSpelled rules old e → Step rules old e reply new → PutsCommand old.core new.core
   puts keeps old (event.Begin client) reply new spelled step numbered is =
       puts_begun old.core client (verdict rules old.core.phase old.core.library old.core.store step.job) reply new.core
@@ -234,7 +234,7 @@ module _ {P : Type 0} (rules : Rules P) where
   no_work old event.Recover reply new step not k none = none_same old.workers new.workers k step.workers none
 
 module _ {P : Type 0} (rules : Rules P) (keeps : P → Type 0) where
-  -- an event that begins no job, and hands in no piece but a kept one, is a turn
+  -- an event that begins no job, and hands in no piece or one that keeps what its type keeps, is a turn
   plain_turn : (old : Contents P) (e : Event P) (reply : Option Reply) (new : Contents P) → ((client : ClientId) → e ≡ event.Begin client → ⊥) → HandsIn keeps e → Step rules old e reply new → Turn rules keeps old e new
   plain_turn old e reply new none hands step = step_turn rules keeps old e reply new step hands (λ client job c is. absurd (none client is))
 
@@ -253,7 +253,7 @@ module _ {P : Type 0} (rules : Rules P) (keeps : P → Type 0) where
     others : (k : ℕ) → (k ≡ client.number → ⊥) → get new.jobs k ≡ get old.jobs k
     idle : get new.workers worker.number ≡ None
 
-  -- where a client's job has its first pieces made and waits for these, the worker hands them in one after the other
+  -- if a client's job has its first pieces made and waits for these, the worker hands them in one after the other
   hands_all : (old : Contents P) (client : ClientId) (worker : WorkerId) (call : CallId) (asked : Request) (source : List ℕ) (prefix rest : List P)
       → source_in asked ≡ Some source → get old.jobs client.number ≡ Some (job_at call asked (progress prefix (length rest))) → get old.workers worker.number ≡ None
       → ((k : ℕ) (q : P) → slice_get rest k ≡ Some q → (rules.source_of q ≡ source) × (rules.part_of q ≡ length prefix + k) × keeps q)

@@ -1,4 +1,4 @@
--- A struct with no field that runs: what the proofs by hand of its makers share.
+-- A struct without fields at run time: what the handwritten proofs of its constructors share.
 use Rattle.std.proofs.Common.{List, [], ◌∷◌, refl}
 use seplogic.Ra.Ura.{Ura}
 use mir.Val.{Val, vstruct, vnil}

@@ -1,5 +1,5 @@
--- A command that a job begins has a unit that is right: its pieces are all there, none was refused, and each
--- names the job's source and its own index, so they are all of the source's pieces and the build's law holds.
+-- A command that a job begins has a right unit: its pieces are all there, none was refused, and each names the job's source and its own
+-- index, so they are all pieces of the source, and the build's law holds.
 use Rattle.std.proofs.Common.{◌≡◌, ℕ, zero, suc, ◌≤◌, Bool, true, false, if◌then◌else◌, List, [], ◌∷◌, length, Option, Some, None, Result, Ok, Err, refl, sym, ap, subst, ◌∙◌, All}
 use Rattle.std.specs.Prelude.{slice_get, IsTrue, IsOk, nat_le}
 use Rattle.std.proofs.lemmas.Bool.{leb-true}
@@ -57,7 +57,7 @@ not_full m n is = at (nat_le m n) refl is
     at true le is = leb-true m n le
     at false le is = absurd (cc)
 
--- what a command that is taken is
+-- what is known about a command that is accepted
 pub record IsTaken (phase : Phase) (library : Units) (store : StoreState) (r : Result LibraryCommand ℕ) (c : LibraryCommand) : Type 0 where
   pub open' : closed phase ≡ None
   pub same : r ≡ Ok c
@@ -85,11 +85,11 @@ module _ {P : Type 0} (rules : Rules P) (keeps : P → Type 0) where
     pub named : (source : List ℕ) → source_in job.request ≡ Some source → (k : ℕ) (p : P) → slice_get job.pieces k ≡ Some (Made p) → (rules.source_of p ≡ source) × (rules.part_of p ≡ k)
     pub kept : (k : ℕ) (p : P) → slice_get job.pieces k ≡ Some (Made p) → keeps p
 
-  -- what all pieces of a source give has this, for the source and the unit
+  -- whatever all pieces of a source give has this property, for the source and the unit
   abbrev pub Gives : (List ℕ → StoredUnit → Type 0) → Type 0
   Gives has = (source : List ℕ) (pieces : List P) (unit : StoredUnit) → AreWhole rules source pieces → All keeps pieces → rules.unit source pieces ≡ Ok unit → has source unit
 
-  -- it is a right unit, and it is of the source: the law that each build proves has both
+  -- it is a right unit, and of the source: the law that each build proves says both
   abbrev pub IsLawful : (StoredUnit → Type 0) → Type 0
   IsLawful is_right = Gives (λ source unit. is_right unit)
 
@@ -102,7 +102,7 @@ module _ {P : Type 0} (rules : Rules P) (keeps : P → Type 0) where
   pub of_source : (is_right : StoredUnit → Type 0) → Gives (λ source unit. (unit.source ≡ source) × is_right unit) → IsOfSource
   of_source is_right law source pieces unit whole kept is = (law source pieces unit whole kept is).0
 
-  -- where all are there and none was refused, the pieces that were made are all of them, each at its index
+  -- if all are there and none was refused, the pieces that were made are all pieces, each at its index
   all_made : (ps : List (Progress P)) → IsTrue (all_there ps) → first_refused ps ≡ None
       → (length (made_pieces ps) ≡ length ps) × ((k : ℕ) (p : P) → slice_get (made_pieces ps) k ≡ Some p → slice_get ps k ≡ Some (Made p))
   all_made [] there none = (refl, λ k p is. absurd (cc))
@@ -118,7 +118,7 @@ module _ {P : Type 0} (rules : Rules P) (keeps : P → Type 0) where
       made_at q ps rest zero p is = let same : q ≡ p = cc in ap (λ x. Some (Made x)) same
       made_at q ps rest (suc k) p is = rest k p is
 
-  -- so a unit that a job's pieces give has it
+  -- so a unit that a job's pieces give has the property
   built_has : (has : List ℕ → StoredUnit → Type 0) → Gives has → (job : Job P) (source : List ℕ) (unit : StoredUnit)
       → IsNamed job → source_in job.request ≡ Some source → IsTrue (all_there job.pieces) → built rules job source ≡ Ok unit → has source unit
   built_has has law job source unit named from there is =
@@ -146,18 +146,18 @@ module _ {P : Type 0} (rules : Rules P) (keeps : P → Type 0) where
   command_right is_right law job (request.Withdraw name) c asks named there is =
       let same : command.Withdraw name ≡ c = cc in subst (IsRightCommand is_right) same tt
 
-  -- the command that a job begins is taken
+  -- the command that a job begins is accepted
   pub verdict_taken : (phase : Phase) (library : Units) (store : StoreState) (job : Job P) (c : LibraryCommand) → verdict rules phase library store job ≡ Ok c
       → IsTaken phase library store (command_of rules job job.request) c
   verdict_taken phase library store job c is = accepted-taken phase library store (command_of rules job job.request) c is
 
-  -- and has a right unit
+  -- and it has a right unit
   pub verdict_right : (is_right : StoredUnit → Type 0) → IsLawful is_right → (phase : Phase) (library : Units) (store : StoreState) (job : Job P) (c : LibraryCommand)
       → IsNamed job → IsTrue (all_there job.pieces) → verdict rules phase library store job ≡ Ok c → IsRightCommand is_right c
   verdict_right is_right law phase library store job c named there is =
       command_right is_right law job job.request c refl named there (verdict_taken phase library store job c is).same
 
-  -- and has the source that was handed in
+  -- and it has the source that was handed in
   with_unit_source : (make : StoredUnit → LibraryCommand) (source : List ℕ) → ((u : StoredUnit) → command_source (make u) ≡ Some u.source)
       → (r : Result StoredUnit ℕ) (c : LibraryCommand) → ((u : StoredUnit) → r ≡ Ok u → u.source ≡ source) → with_unit make r ≡ Ok c → command_source c ≡ Some source
   with_unit_source make source makes (Ok u) c right is = let same : make u ≡ c = cc in ap command_source (sym same) ∙ makes u ∙ ap Some (right u refl)

@@ -26,12 +26,12 @@ refusal_number refusal.Full = 34
 refusal_number refusal.DiskFault = 35
 refusal_number refusal.Closed = 36
 
--- a build's fault answers for its rule: the number that the rule refuses with; where memory runs out it says nothing
+-- a build's refusal agrees with its rule: it is the number with which the rule refuses; if memory ran out, nothing is claimed
 abbrev pub RefusesAs : {A : Type 0} → BuildRefusal → Result A ℕ → Type 0
 RefusesAs (build.Refused number) rule = rule ≡ Err number
 RefusesAs build.OutOfMemory rule = Unit {0}
 
--- so too for the rule that says how many pieces a source has
+-- the same for the rule that says how many pieces a source has
 abbrev pub RefusesPlan : BuildRefusal → (Result ℕ ℕ → Type 0) → Type 0
 RefusesPlan (build.Refused number) answers = answers (Err number)
 RefusesPlan build.OutOfMemory answers = Unit {0}

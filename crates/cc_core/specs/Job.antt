@@ -1,4 +1,4 @@
--- A client's job: how it begins, and what comes of it.
+-- A client's job: how it begins, and how it ends.
 use Rattle.std.specs.Prelude.{ℕ, ◌≡◌, Bool, true, false, List, [], ◌∷◌, slice_set, replicate, Option, Some, None, Result, Ok, Err, nat_le, if◌then◌else◌}
 use Rattle.std.specs.List.{list_all}
 use Rattle.std.specs.FinMap.{contains_key}
@@ -22,13 +22,13 @@ use Rattle.cc_library.specs.Body.{body_of}
 use Rattle.cc_core.specs.StoreState.{StoreState}
 use Rattle.cc_core.specs.Store.{room_taken}
 
--- the source that a request hands in, where it hands one in
+-- the source that a request hands in, if it hands one in
 abbrev pub source_in : Request → Option (List ℕ)
 source_in (request.Add name source) = Some source
 source_in (request.Replace name source) = Some source
 source_in (request.Withdraw name) = None
 
--- a refusal where there is one, else what comes next
+-- a refusal, if there is one; else what comes next
 abbrev pub unless : {A E : Type 0} → Option E → Result A E → Result A E
 unless None next = next
 unless (Some refusal) next = Err refusal
@@ -38,7 +38,7 @@ abbrev pub with_unit : (StoredUnit → LibraryCommand) → Result StoredUnit ℕ
 with_unit make (Ok unit) = Ok (make unit)
 with_unit make (Err number) = Err number
 
--- any command is refused after a device step failed, until the disk is opened again
+-- after a device step failed, every command is refused until the disk is opened again
 abbrev pub closed : Phase → Option Refusal
 closed Idle = None
 closed (Committing client numbered due) = None
@@ -46,13 +46,13 @@ closed (Rewriting commit due) = None
 closed (Failed failed) = Some refusal.Closed
 closed Crashed = None
 
--- a name that is there is not added, one that is not there is not replaced or withdrawn
+-- a name that is there is not added; one that is not there is not replaced or withdrawn
 abbrev pub map_refusal : Units → LibraryCommand → Option Refusal
 map_refusal library (command.Add name unit) = if contains_key library name then Some refusal.Exists else None
 map_refusal library (command.Replace name unit) = if contains_key library name then None else Some refusal.Absent
 map_refusal library (command.Withdraw name) = if contains_key library name then None else Some refusal.Absent
 
--- a command whose record does not fit its area is refused
+-- a command whose record does not fit the area is refused
 abbrev pub full : StoreState → LibraryCommand → Option Refusal
 full store command = if nat_le (room_taken store (body_of command)) store.area then None else Some refusal.Full
 
@@ -61,11 +61,11 @@ abbrev pub first_of_two : Option Refusal → Option Refusal → Option Refusal
 first_of_two None second = second
 first_of_two (Some refusal) second = Some refusal
 
--- why a command is refused, where it is: 36 after a failed step, then 31 or 32, then 34
+-- why a command is refused, if it is: 36 after a failed step, then 31 or 32, then 34
 abbrev pub command_refusal : Phase → Units → StoreState → LibraryCommand → Option Refusal
 command_refusal phase library store command = first_of_two (closed phase) (first_of_two (map_refusal library command) (full store command))
 
--- a command that is taken, or why it is refused: by the build, or as said before
+-- a command that is accepted, or why it is refused: by the build, or for the reasons above
 abbrev pub accepted : Phase → Units → StoreState → Result LibraryCommand ℕ → Result LibraryCommand Refusal
 accepted phase library store (Ok command) = unless (command_refusal phase library store command) (Ok command)
 accepted phase library store (Err number) = Err (refusal.Build number)
@@ -76,13 +76,13 @@ module _ {P : Type 0} where
   planned call asked (Ok pieces) = record { call = call; request = asked; refusal = None; pieces = replicate pieces Waiting }
   planned call asked (Err number) = record { call = call; request = asked; refusal = Some number; pieces = [] }
 
-  -- how many pieces a request has, or the number that refuses it: as its source's plan says; a withdrawal has no pieces
+  -- the number of pieces of a request, or the number that refuses it, by its source's plan; a withdrawal has no pieces
   abbrev pub IsPlanned : Rules P → Request → Result ℕ ℕ → Type 0
   IsPlanned rules (request.Add name source) plan = rules.plan source plan
   IsPlanned rules (request.Replace name source) plan = rules.plan source plan
   IsPlanned rules (request.Withdraw name) plan = plan ≡ Ok 0
 
-  -- the job with another progress of one piece
+  -- the job after one piece has come further
   abbrev pub with_piece : Job P → PartIndex → Progress P → Job P
   with_piece job part progress = record job { pieces = slice_set job.pieces part.index progress }
 
@@ -113,8 +113,8 @@ module _ {P : Type 0} where
   made_pieces (Made piece ∷ rest) = piece ∷ made_pieces rest
   made_pieces (Refused number ∷ rest) = made_pieces rest
 
-  -- the unit of a job's source: refused by the source's number, else by the least refused piece's,
-  -- else by the build's number for the pieces
+  -- the unit of a job's source: refused by the source's number, else by the number of the first refused piece, else by the build's number
+  -- for the pieces
   abbrev pub built : Rules P → Job P → List ℕ → Result StoredUnit ℕ
   built rules job source = unless job.refusal (unless (first_refused job.pieces) (rules.unit source (made_pieces job.pieces)))
 

@@ -1,4 +1,5 @@
 -- In reading order. The state is `Contents`, over `Core`, in src/contents.rt; what may happen is `Event` in src/event.rt.
+--
 -- what contracts see of the core's disk
 pub mod StoreState
 -- what a build does, apart from any code
@@ -7,7 +8,7 @@ pub mod Rules
 pub mod Fault
 -- the disk: its start, the four device steps of a command and of a rewrite, their failure, and a crash
 pub mod Store
--- a client's job: how it begins, and what comes of it
+-- a client's job: how it begins, and how it ends
 pub mod Job
 -- one step: what each event does
 pub mod Step
@@ -15,7 +16,7 @@ pub mod Step
 pub mod Run
 -- how a run can go on
 pub mod Turns
--- a worked commit and a worked rewrite, computed
+-- worked examples of a commit and a rewrite, computed
 pub mod rows
--- what serves proofs and private contracts
+-- for proofs and private contracts
 pub mod internal

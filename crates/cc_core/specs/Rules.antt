@@ -1,12 +1,12 @@
--- What a build does, apart from any code: its rules, when pieces are all of a source's, and when pieces give a unit.
+-- What a build does, without any code: its rules, when pieces are all pieces of a source, and when pieces give a unit.
 use Rattle.std.specs.Prelude.{ℕ, ◌≡◌, List, length, slice_get, Some, Result, Ok, All}
 use Rattle.cc_unit.specs.declared.unit.StoredUnit.{StoredUnit}
 use Rattle.cc_library.specs.declared.command.LibraryCommand.{LibraryCommand}
 use Rattle.cc_library.specs.declared.command.LibraryCommand.TheVariants as command
 
--- the rules of a build whose pieces are of the type P
+-- the rules of a build whose pieces have the type P
 pub record Rules (P : Type 0) : Type 1 where
-  -- a source has this many pieces, or is refused with this number; a build answers so for each source
+  -- a source has this many pieces, or is refused with this number; a build answers one of these for each source
   pub plan : List ℕ → Result ℕ ℕ → Type 0
   -- the source that a piece names
   pub source_of : P → List ℕ
@@ -15,19 +15,19 @@ pub record Rules (P : Type 0) : Type 1 where
   -- the unit of a source that its pieces give, or the number that refuses them
   pub unit : List ℕ → List P → Result StoredUnit ℕ
 
--- the pieces are all that the source has, each at its index
+-- the pieces are all pieces of the source, each at its index
 pub record AreWhole {P : Type 0} (rules : Rules P) (source : List ℕ) (pieces : List P) : Type 0 where
   pub counted : rules.plan source (Ok (length pieces))
   pub named : (k : ℕ) (piece : P) → slice_get pieces k ≡ Some piece → (rules.source_of piece ≡ source) × (rules.part_of piece ≡ k)
 
--- pieces give this unit: all of its source's, each with what its type keeps
+-- pieces give this unit: they are all pieces of its source, each with what its type keeps
 pub record IsBuilt {P : Type 0} (rules : Rules P) (keeps : P → Type 0) (unit : StoredUnit) : Type 0 where
   pub pieces : List P
   pub whole : AreWhole rules unit.source pieces
   pub kept : All keeps pieces
   pub unit_is : rules.unit unit.source pieces ≡ Ok unit
 
--- pieces give the unit of a command, where it has one
+-- pieces give the unit of a command, if it has one
 abbrev pub HasBuilt : {P : Type 0} → Rules P → (P → Type 0) → LibraryCommand → Type 0
 HasBuilt rules keeps (command.Add name unit) = IsBuilt rules keeps unit
 HasBuilt rules keeps (command.Replace name unit) = IsBuilt rules keeps unit

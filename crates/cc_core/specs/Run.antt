@@ -1,4 +1,4 @@
--- Whole runs of the protocol core, and what holds after any of them.
+-- Whole runs of the protocol core, and what holds after every run.
 use Rattle.std.specs.Prelude.{ℕ, ◌≡◌, ◌-◌, ◌<◌, ◌≤◌, ◌⊎◌, List, [], ◌∷◌, ◌++◌, length, take, slice_get, Option, Some, None, All, Contains}
 use Rattle.std.specs.FinMap.{get, empty}
 use Rattle.cc_disk.specs.Model.{IsImage, bytes_of}
@@ -39,7 +39,7 @@ EachUnit is_right library = (name : List ℕ) (unit : StoredUnit) → get librar
 abbrev pub IsRightOr : (StoredUnit → Type 0) → Units → StoredUnit → Type 0
 IsRightOr is_right base unit = ((name : List ℕ) × (get base name ≡ Some unit)) ⊎ is_right unit
 
--- the sequence numbers of these commands rise
+-- the sequence numbers of these commands ascend
 abbrev pub AreRising : List Numbered → Type 0
 AreRising numbered = (i j : ℕ) (a b : Numbered) → i < j → slice_get numbered i ≡ Some a → slice_get numbered j ≡ Some b → a.number.value < b.number.value
 
@@ -47,8 +47,8 @@ AreRising numbered = (i j : ℕ) (a b : Numbered) → i < j → slice_get number
 abbrev pub but_last : List Numbered → List Numbered
 but_last order = take (length order - 1) order
 
--- the library that clients see: that of the order, without the command in commit or failed, which is its last; from a crash
--- until the recovery it is empty
+-- the library that clients see: that of the order, without its last command if that one is in commit or has failed; from a crash until the
+-- recovery it is empty
 abbrev pub live : Phase → List Numbered → Units
 live Idle order = library_of (commands order)
 live (Committing client last due) order = library_of (commands (but_last order))
@@ -57,9 +57,9 @@ live (Failed (Some last)) order = library_of (commands (but_last order))
 live (Failed None) order = library_of (commands order)
 live Crashed order = empty
 
--- The image recovers, to the library of a prefix of the order and to no other. The prefix holds every acknowledged command, and
--- lacks at most the last of the order. The sequence numbers of both lists rise: so a command that was acknowledged twice stands
--- twice in the prefix.
+-- The image recovers to the library of a prefix of the order, and to no other. The prefix has every acknowledged command, and lacks at most
+-- the last command of the order. The sequence numbers of both lists ascend, so a command that was acknowledged twice is twice in the
+-- prefix.
 pub record Survives (image : List ℕ) (order acknowledged : List Numbered) : Type 0 where
   pub rising : AreRising order
   pub rising_acked : AreRising acknowledged
@@ -70,21 +70,21 @@ pub record Survives (image : List ℕ) (order acknowledged : List Numbered) : Ty
   pub acked : All (Contains kept) acknowledged
   pub recovers : RecoversAlone image (library_of (commands kept))
 
--- every image of the disk survives so
+-- every image of the disk survives in this way
 abbrev pub EachImageSurvives : Core → Type 0
 EachImageSurvives s = (image : List ℕ) → IsImage s.store.cells image → Survives image s.order s.acknowledged
 
--- each unit of whatever an image recovers to has this property, that of a command in commit or failed too
+-- each unit of the library to which an image recovers has this property, even the unit of a command that is in commit or has failed
 abbrev pub EachImageIsRight : (StoredUnit → Type 0) → Core → Type 0
 EachImageIsRight is_right s = (image : List ℕ) (library : Units) → IsImage s.store.cells image → Recovers image library → EachUnit is_right library
 
--- the source of a command's unit, where it has one
+-- the source of a command's unit, if it has one
 abbrev pub command_source : LibraryCommand → Option (List ℕ)
 command_source (command.Add name unit) = Some unit.source
 command_source (command.Replace name unit) = Some unit.source
 command_source (command.Withdraw name) = None
 
--- the unit of a command, where it has one, has this property
+-- the unit of a command, if it has one, has this property
 abbrev pub IsRightCommand : (StoredUnit → Type 0) → LibraryCommand → Type 0
 IsRightCommand is_right (command.Add name unit) = is_right unit
 IsRightCommand is_right (command.Replace name unit) = is_right unit
@@ -101,7 +101,8 @@ pub record Commits (client : ClientId) (numbered : Numbered) (old new : Core) : 
   pub writes_gate : Advances dues.WriteGate body_settled None gate_written
   pub syncs_gate : Advances dues.SyncGate gate_written None new
 
--- they leave the bytes of one record, its gate open, and a closed gate behind it, at the offset of the closed gate, and no other byte differs
+-- they leave the bytes of one record, its gate open, with a closed gate after it, at the offset of the earlier closed gate; no other byte
+-- differs
 abbrev pub LeavesRecord : Numbered → Core → Core → Type 0
 LeavesRecord numbered old new =
     IsWritten (bytes_of old.store.cells) (gate_of old.store) (record_bytes (body_of numbered.command) ++ 0 ∷ []) (bytes_of new.store.cells)
@@ -116,16 +117,16 @@ pub record Rewrites (old new : Core) : Type 0 where
   pub writes_area : RewriteAdvances left.WriteArea area_settled None byte_written
   pub syncs_area : RewriteAdvances left.SyncArea byte_written None new
 
--- they leave the bytes of the journal's one commit, by the area byte that there was, and the records are one Add per name then
+-- they leave the bytes of the journal's one commit, with the earlier area byte, and the records are then one Add per name
 pub record LeavesCompacted (old new : Core) : Type 0 where
   pub bytes : IsCommitted (rewrite_of old.store old.library) (bytes_of old.store.cells) (bytes_of new.store.cells)
   pub holds : HoldsRecords (bytes_of new.store.cells) new.store.area (compacted old.library)
 
--- a command that goes into the order has a spelling: its name is a name, its unit a unit, as their types keep
+-- a command that goes into the order has a spelling: its name is a name and its unit a possible unit, as their types keep
 abbrev pub PutsCommand : Core → Core → Type 0
 PutsCommand old new = (numbered : Numbered) → new.order ≡ old.order ++ numbered ∷ [] → IsCommand numbered.command
 
--- this order has the commands that these records spell, numbered from 0 on, and the next Begin has the number behind them
+-- this order has the commands that these records spell, numbered from 0 on, and the next Begin has the number after them
 pub record IsOrderOf (bodies : List (List ℕ)) (order : List Numbered) (upcoming : SequenceNumber) : Type 0 where
   pub spelled : AreSpelled bodies (commands order)
   pub counted : (k : ℕ) (a : Numbered) → slice_get order k ≡ Some a → a.number.value ≡ k
@@ -137,7 +138,7 @@ module _ {P : Type 0} where
   HandsIn keeps event = (worker : WorkerId) (piece : P) → event ≡ events.Done worker piece → keeps piece
 
   -- one turn of a run: an event that has a step takes it, and a command that it puts into the order has a spelling, as the types of names
-  -- and units keep; at each other event the state stays
+  -- and units keep; any other event leaves the state as it is
   abbrev pub Turn : Rules P → (P → Type 0) → Contents P → Event P → Contents P → Type 0
   Turn rules keeps old event new =
       ((reply : Option Reply) × Step rules old event reply new × PutsCommand old.core new.core × HandsIn keeps event) ⊎ (IsImpossible rules old event × (new ≡ old))
@@ -147,8 +148,8 @@ module _ {P : Type 0} where
   Run rules keeps old [] new = new ≡ old
   Run rules keeps old (event ∷ later) new = (mid : Contents P) × (Turn rules keeps old event mid × Run rules keeps mid later new)
 
-  -- A disk of any size was opened, in either area: all is settled, and the records of its area stand for the live map, which is
-  -- the library of an order that some commands before made. All of these are acknowledged. Nothing is asked of the units that were found.
+  -- A disk of any size was opened, in either area. Everything is settled, and the records of its area represent the live map, which is the
+  -- library of an order of some earlier commands. All of these are acknowledged. Nothing is asked of the units that were found.
   pub record IsOpened (new : Contents P) : Type 0 where
     pub phase : new.core.phase ≡ Idle
     pub library : new.core.library ≡ library_of (commands new.core.order)
@@ -169,11 +170,11 @@ module _ {P : Type 0} where
   abbrev pub IsBeginning : Contents P → Type 0
   IsBeginning new = ((area : ℕ) × IsStart area new) ⊎ IsOpened new
 
-  -- any piece at all: where it stands for what pieces keep, workers may hand in what they like
+  -- any piece at all; used for "what pieces keep", it lets workers hand in whatever they like
   abbrev pub IsAnyPiece : P → Type 0
   IsAnyPiece piece = Unit {0}
 
-  -- from a crash to the recovery these alone may happen
+  -- from a crash to the recovery only these events may happen
   abbrev pub IsOfCrash : Event P → Type 0
   IsOfCrash event = ((choice : List ℕ) × (event ≡ events.Crash choice)) ⊎ (event ≡ events.Recover)
 

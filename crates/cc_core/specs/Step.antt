@@ -1,4 +1,4 @@
--- The protocol core, one step at a time: from an old state an event may give this reply, or none, and go on to the new state.
+-- The protocol core, one step at a time: in an old state an event may give this reply, or none, and lead to the new state.
 use Rattle.std.specs.Prelude.{ℕ, ◌≡◌, ◌+◌, ◌<◌, ◌≤◌, ◌⊎◌, IsTrue, List, [], ◌∷◌, ◌++◌, length, map, take, slice_get, Option, Some, None, Result, Ok, Err}
 use Rattle.std.specs.Ordering.{nat_cmp}
 use Rattle.std.specs.FinMap.{FinMap, get, insert, remove, empty}
@@ -45,7 +45,7 @@ IsUp (Rewriting commit due) = Unit {0}
 IsUp (Failed failed) = Unit {0}
 IsUp Crashed = ⊥
 
--- a commit may begin where no other and no rewrite is under way; after a failed step it is refused
+-- a commit may begin if no other commit and no rewrite is under way; after a failed step it is refused
 abbrev pub IsFree : Phase → Type 0
 IsFree Idle = Unit {0}
 IsFree (Committing client numbered due) = ⊥
@@ -67,7 +67,7 @@ pub record IsLongest (library : Units) (order kept : List Numbered) : Type 0 whe
 
 -- ---- the commit, over the core alone
 
--- one Begin more took a step
+-- one more Begin took a step
 abbrev pub ticked : Core → Core
 ticked old = record old { upcoming = record { value = old.upcoming.value + 1 } }
 
@@ -75,7 +75,7 @@ ticked old = record old { upcoming = record { value = old.upcoming.value + 1 } }
 abbrev pub numbered_now : Core → LibraryCommand → Numbered
 numbered_now old command = record { number = old.upcoming; command = command }
 
--- what a beginning comes to: a refusal is the reply; a command goes last in the order, and the write of its body is due
+-- the result of a Begin: a refusal is the reply; a command goes last in the order, and the write of its body is due
 abbrev pub Begun : Core → ClientId → Result LibraryCommand Refusal → Option Reply → Core → Type 0
 Begun old client (Err refused) reply new = (reply ≡ Some (replies.Refused refused)) × (new ≡ ticked old)
 Begun old client (Ok command) reply new =
@@ -89,7 +89,7 @@ pub record Advances (due : Due) (old : Core) (reply : Option Reply) (new : Core)
   pub silent : reply ≡ None
   pub new_is : new ≡ record old { store = stepped due numbered.command old.store; phase = Committing client numbered (due_after due) }
 
--- the device step that is due for this client fails: the reply is 35, and no device step is made any more
+-- the device step that is due for this client fails: the reply is 35, and no further device step is made
 pub record Fails (client : ClientId) (old : Core) (reply : Option Reply) (new : Core) : Type 0 where
   pub numbered : Numbered
   pub due : Due
@@ -99,7 +99,7 @@ pub record Fails (client : ClientId) (old : Core) (reply : Option Reply) (new : 
   pub told : reply ≡ Some (replies.Refused refusal.DiskFault)
   pub new_is : new ≡ record old { store = store; phase = Failed (Some numbered) }
 
--- the reply to the command that is on the disk: the library takes it
+-- the reply to the command that is on the disk: the library takes the command
 pub record Acknowledges (client : ClientId) (old : Core) (reply : Option Reply) (new : Core) : Type 0 where
   pub numbered : Numbered
   pub committing : old.phase ≡ Committing client numbered due.Acknowledge
@@ -112,9 +112,9 @@ pub record Acknowledges (client : ClientId) (old : Core) (reply : Option Reply) 
 
 -- ---- a rewrite, over the core alone
 
--- Between two commits, where the shortest journal of the live map fits an area, the first write of a rewrite is done: its
--- records and their closed gate are written into the area that is not in use. Nothing is due before it, so one that fails or is
--- torn needs no case: it is this step, and then the failure of the sync or a crash, since its range is unsettled.
+-- Between two commits, if the shortest journal of the live map fits an area, the first write of a rewrite is done: its records and their
+-- closed gate are written to the area that is not in use. Nothing is due before it, so a write that fails or is torn needs no case of its
+-- own: it is this step followed by the failure of the sync or by a crash, since its range is unsettled.
 pub record RewritesAll (old : Core) (reply : Option Reply) (new : Core) : Type 0 where
   pub idle : old.phase ≡ Idle
   pub fits : room_of (compacted old.library) ≤ old.store.area
@@ -124,20 +124,20 @@ pub record RewritesAll (old : Core) (reply : Option Reply) (new : Core) : Type 0
     phase = Rewriting (rewrite_of old.store old.library) left.SyncAll;
   }
 
--- the phase after a step of a rewrite: the next one is due, and after the last one none
+-- the phase after a step of a rewrite: the next step is due, and after the last one no step is
 abbrev pub phase_after : Commit → RewriteDue → Phase
 phase_after commit left.SyncAll = Rewriting commit left.WriteArea
 phase_after commit left.WriteArea = Rewriting commit left.SyncArea
 phase_after commit left.SyncArea = Idle
 
--- the device step of a rewrite that is due is done; map and order stay
+-- the device step of a rewrite that is due is done; map and order stay the same
 pub record RewriteAdvances (due : RewriteDue) (old : Core) (reply : Option Reply) (new : Core) : Type 0 where
   pub commit : Commit
   pub rewriting : old.phase ≡ Rewriting commit due
   pub silent : reply ≡ None
   pub new_is : new ≡ record old { store = rewrite_stepped due commit old.store; phase = phase_after commit due }
 
--- it fails: there is no job in commit that could end, so there is no reply, and no device step is made any more
+-- it fails: there is no job in commit that could end, so there is no reply, and no further device step is made
 pub record RewriteFails (old : Core) (reply : Option Reply) (new : Core) : Type 0 where
   pub commit : Commit
   pub due : RewriteDue
@@ -149,13 +149,13 @@ pub record RewriteFails (old : Core) (reply : Option Reply) (new : Core) : Type 
 
 -- ---- a crash, over the core alone
 
--- the disk crashes, at any time; the live map is gone
+-- the disk crashes, at any time; the live map is lost
 pub record Crashes (choice : List ℕ) (old : Core) (reply : Option Reply) (new : Core) : Type 0 where
   pub silent : reply ≡ None
   pub new_is : new ≡ record old { library = empty; phase = Crashed; store = crashed_store choice old.store }
 
--- the library is opened: the live map is what the disk's records stand for, in the area that its area byte names, and the order
--- its longest prefix that leads there
+-- the library is opened: the live map is what the disk's records represent, in the area that its area byte names, and the order is its
+-- longest prefix that leads to that map
 pub record Reopens (old : Core) (reply : Option Reply) (new : Core) : Type 0 where
   pub crashed : old.phase ≡ Crashed
   pub bodies : List (List ℕ)
@@ -172,7 +172,7 @@ pub record Reopens (old : Core) (reply : Option Reply) (new : Core) : Type 0 whe
     store = record old.store { area_byte = holds.area_byte; used = length (records bodies) };
   }
 
--- ---- the core beside jobs and workers
+-- ---- the core together with jobs and workers
 
 module _ {P : Type 0} where
   -- nothing has happened, and the disk is formatted with areas of that size
@@ -207,7 +207,7 @@ module _ {P : Type 0} where
       workers = insert old.workers worker.number (record { client = client; part = part });
     }
 
-  -- a busy worker hands in the piece that it took, by a value that names that job's source and that piece
+  -- a busy worker hands in the piece that it took: a value that names that job's source and that piece
   pub record Finishes (rules : Rules P) (worker : WorkerId) (piece : P) (old : Contents P) (reply : Option Reply) (new : Contents P) : Type 0 where
     pub work : Work
     pub job : Job P
@@ -238,7 +238,7 @@ module _ {P : Type 0} where
   jobs_begun jobs client (Ok command) = jobs
   jobs_begun jobs client (Err refused) = remove jobs client.number
 
-  -- a job whose pieces are all there begins, where no other commits
+  -- a job whose pieces are all there begins, if no other is in commit
   pub record BeginsCommit (rules : Rules P) (client : ClientId) (old : Contents P) (reply : Option Reply) (new : Contents P) : Type 0 where
     pub job : Job P
     pub free : IsFree old.core.phase
@@ -274,7 +274,7 @@ module _ {P : Type 0} where
     pub jobs : new.jobs ≡ empty
     pub workers : new.workers ≡ empty
 
-  -- the step that an event takes; no reply is a reply
+  -- the step that an event takes; "no reply" counts as a reply
   abbrev pub Step : Rules P → Contents P → Event P → Option Reply → Contents P → Type 0
   Step rules old (event.Submit client call request) reply new = Submits rules client call request old reply new
   Step rules old (event.Take worker client part) reply new = Takes worker client part old reply new

@@ -1,6 +1,6 @@
--- The disk of the core: a journal in one of its areas, written step by step. The steps of a command and those of a rewrite are
--- those of one commit of the journal each: a first write, where its bytes count for nothing yet, a sync, the write of the one
--- byte that decides, and a sync.
+-- The disk of the core: a journal in one of its areas, written step by step. The steps of a command, and those of a rewrite, are the steps
+-- of one commit of the journal: a first write, whose bytes count for nothing yet, a sync, the write of the one byte that decides, and a
+-- sync.
 use Rattle.std.specs.Prelude.{◌≡◌, ℕ, ◌+◌, ◌-◌, ◌*◌, List, [], ◌∷◌, ◌++◌, length}
 use Rattle.cc_disk.specs.Model.{Cell, bytes_of, IsImage, written, synced, crashed}
 use Rattle.cc_disk.specs.Images.{LeavesAlone}
@@ -27,11 +27,11 @@ pub record IsFormatted (area : ℕ) (store : StoreState) : Type 0 where
   pub first_area : store.area_byte ≡ 0
   pub unused : store.used ≡ 0
 
--- the offset of the closed gate behind the last record
+-- the offset of the closed gate after the last record
 abbrev pub gate_of : StoreState → ℕ
 gate_of store = area_begin store.area_byte store.area + store.used
 
--- how many bytes of the area the records and their closed gate take with one more record of this body
+-- the number of bytes of the area that the records and their closed gate take, together with one more record with this body
 abbrev pub room_taken : StoreState → List ℕ → ℕ
 room_taken store body = store.used + (length body + 6)
 
@@ -45,7 +45,7 @@ with_cells store cells = record store { cells = cells }
 abbrev pub first_written : Commit → StoreState → StoreState
 first_written commit store = with_cells store (written store.cells commit.offset commit.bytes)
 
--- the second: the byte that decides
+-- its second write: the byte that decides
 abbrev pub decided : Commit → StoreState → StoreState
 decided commit store = with_cells store (written store.cells commit.deciding_offset (commit.deciding_byte ∷ []))
 
@@ -53,22 +53,22 @@ decided commit store = with_cells store (written store.cells commit.deciding_off
 abbrev pub settled_all : StoreState → StoreState
 settled_all store = with_cells store (synced store.cells)
 
--- a first write that fails leaves any bytes, unsettled, in its range
+-- a first write that fails leaves any bytes in its range, unsettled
 abbrev pub FirstFails : Commit → StoreState → StoreState → Type 0
 FirstFails commit old new = (bytes : List ℕ) × (length bytes ≡ length commit.bytes) × (new ≡ with_cells old (written old.cells commit.offset bytes))
 
--- a second that fails leaves any byte there, unsettled
+-- a second write that fails leaves any byte there, unsettled
 abbrev pub DecidingFails : Commit → StoreState → StoreState → Type 0
 DecidingFails commit old new = (byte : ℕ) × (new ≡ with_cells old (written old.cells commit.deciding_offset (byte ∷ [])))
 
--- ---- of a command
+-- ---- the steps of a command
 
--- the commit that puts the record of a command behind the last one
+-- the commit that puts the record of a command after the last one
 abbrev pub append_of : StoreState → LibraryCommand → Commit
 append_of store command = append_commit (gate_of store) (body_of command)
 
--- the disk after the step that was due: the body and the next gate, closed, are written in one write; they are synced; the
--- record's own gate is written open; it is synced, and the record is one of the journal's
+-- the disk after the step that was due: the body and the next gate, closed, are written in one write; they are synced; the record's own
+-- gate is written open; it is synced, and the record belongs to the journal
 abbrev pub stepped : Due → LibraryCommand → StoreState → StoreState
 stepped WriteBody command store = first_written (append_of store command) store
 stepped SyncBody command store = settled_all store
@@ -84,8 +84,7 @@ due_after WriteGate = SyncGate
 due_after SyncGate = Acknowledge
 due_after Acknowledge = Acknowledge
 
--- the step that was due fails: a write leaves any bytes, unsettled, in its range; a sync changes nothing; a reply is no step
--- of the device
+-- the step that was due fails: a write leaves any bytes in its range, unsettled; a sync changes nothing; a reply is no step of the device
 abbrev pub FailsTo : Due → LibraryCommand → StoreState → StoreState → Type 0
 FailsTo WriteBody command old new = FirstFails (append_of old command) old new
 FailsTo SyncBody command old new = new ≡ old
@@ -93,14 +92,14 @@ FailsTo WriteGate command old new = DecidingFails (append_of old command) old ne
 FailsTo SyncGate command old new = new ≡ old
 FailsTo Acknowledge command old new = ⊥
 
--- ---- of a rewrite
+-- ---- the steps of a rewrite
 
--- the commit that writes the shortest journal of a map into the area that is not in use
+-- the commit that writes the shortest journal of a map to the area that is not in use
 abbrev pub rewrite_of : StoreState → Units → Commit
 rewrite_of store library = rewrite_commit store.area_byte store.area (compacted library)
 
--- the disk after the step of a rewrite that was due: the new area is synced; the area byte is written; it is synced, and that
--- area is in use, with the records that were written there: all but the closed gate behind them
+-- the disk after the step of a rewrite that was due: the new area is synced; the area byte is written; it is synced, and that area is in
+-- use, with the records that were written there: all bytes but the closed gate after them
 abbrev pub rewrite_stepped : RewriteDue → Commit → StoreState → StoreState
 rewrite_stepped SyncAll commit store = settled_all store
 rewrite_stepped WriteArea commit store = decided commit store
@@ -114,6 +113,6 @@ RewriteFailsTo SyncArea commit old new = new ≡ old
 
 -- ---- a crash
 
--- the disk after a crash that leaves this choice at the unsettled offsets; which area is in use is read when it is opened
+-- the disk after a crash that leaves this choice at the unsettled offsets; which area is in use is read at the next opening
 abbrev pub crashed_store : List ℕ → StoreState → StoreState
 crashed_store choice store = with_cells store (crashed store.cells choice)

@@ -1,4 +1,4 @@
--- What serves proofs and private contracts.
+-- Definitions for proofs and private contracts.
 -- what a step needs of the state, and the test of a recovery
 pub mod Ready
 -- how a handler answers for its step

@@ -1,4 +1,4 @@
-// What the core asks of a compiler: pieces of a source that are made one by one, and a unit of all of them.
+// What the core needs of a compiler: pieces of a source that are made one by one, and the unit that all of them give.
 
 ghost use Rattle.std.specs.Prelude.{◌≡◌, ◌↔◌, ℕ, List, Result, Ok, IfOk, IfErr, IsTrue, All, map};
 ghost use Rattle.std.specs.Arc.{arc_value};
@@ -11,21 +11,21 @@ use cc_unit::StoredUnit;
 use std::alloc::Global;
 use std::sync::Arc;
 
-/// What makes units from sources, piece by piece.
+/// Makes units from sources, piece by piece.
 pub trait Build: Drop {
     /// A compiled part of a source. It names its source and its part.
     type Piece: Drop;
 
-    // How many pieces a source has, what a piece names, and what pieces give.
+    // How many pieces a source has, what a piece names, and which unit pieces give.
     ghost rules: { Rules Self.Piece };
 
-    // What each piece of this type keeps, beside what it names.
+    // What each piece of this type keeps, apart from what it names.
     ghost keeps: { Self.Piece → Type 0 };
 
     // The unit's image is right for its source.
     ghost is_right: { StoredUnit → Type 0 };
 
-    /// How many pieces a source has, any bytes; or the number that refuses it.
+    /// The number of pieces of a source, which may be any bytes; or the number that refuses it.
     fn plan(&self, alloc: Global, source: &[u8]) -> Result<u32, BuildRefusal>
         ensures answer { IfOk result (λ pieces. rules.plan source.now (Ok pieces)) }
         ensures refused { IfErr result (λ fault. RefusesPlan fault (rules.plan source.now)) };
@@ -47,10 +47,10 @@ pub trait Build: Drop {
         ensures refused { IfErr result
             (λ fault. RefusesAs fault (rules.unit source.now (map (λ piece. piece.now) pieces.now))) };
 
-    // Each source has some number of pieces, or one that refuses it.
+    // Each source has a number of pieces, or a number that refuses it.
     ghost planned: { (source : List ℕ) → (plan : Result ℕ ℕ) × rules.plan source plan };
 
-    // The unit that all pieces of a source give, each with what it keeps, is of that source, and right for it.
+    // The unit that all pieces of a source give, if each has what it keeps, is of that source and right for it.
     ghost law: { (source : List ℕ) (pieces : List Self.Piece) (unit : StoredUnit)
         → AreWhole rules source pieces → All keeps pieces → rules.unit source pieces ≡ Ok unit → (unit.source ≡ source) × is_right unit };
 }

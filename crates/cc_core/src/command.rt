@@ -1,4 +1,4 @@
-// What clients ask, the commands that go into the order, each with a number of its own, and what is answered.
+// What clients ask for, the commands that go into the order, each with a number of its own, and the answers.
 
 ghost use Rattle.std.specs.Prelude.{◌≡◌, IfOk};
 
@@ -8,7 +8,7 @@ use crate::sequence_number::SequenceNumber;
 use cc_library::{LibraryCommand, Name};
 use std::alloc::AllocError;
 
-/// What a client asks for: a name, and for the first two a source, any bytes.
+/// What a client asks for: a name, and for the first two a source, which may be any bytes.
 #[derive(Drop)]
 pub enum Request {
     Add(Name, Sequence<u8>),
@@ -16,8 +16,8 @@ pub enum Request {
     Withdraw(Name),
 }
 
-/// A command with its name: the sequence number of its Begin, among all Begins that took a step.
-/// Two commands that ask the same have two numbers.
+/// A command with its name: the sequence number of its Begin among all Begins that took a step. Two commands that ask for the same have
+/// different numbers.
 #[derive(Drop)]
 pub struct Numbered {
     pub number: SequenceNumber,
@@ -25,7 +25,7 @@ pub struct Numbered {
 }
 
 impl Numbered {
-    /// The same command with its number once more.
+    /// A copy of the command with the same number.
     pub(crate) fn again(&self) -> Result<Numbered, AllocError>
         ensures { IfOk result (λ numbered. numbered ≡ self.now) }
     {
@@ -36,7 +36,7 @@ impl Numbered {
     }
 }
 
-/// What a client is answered: done, or why it is refused.
+/// The answer to a client: done, or why it is refused.
 #[derive(Drop)]
 pub enum Reply {
     Done,

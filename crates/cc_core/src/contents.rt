@@ -1,4 +1,4 @@
-// What a state holds: the library with its order and its disk, how far a commit or a rewrite is, jobs, and what workers hold.
+// What a state holds: the library with its order and its disk, how far a commit or a rewrite has come, jobs, and what workers have taken.
 
 use crate::command::Numbered;
 use crate::ids::ClientId;
@@ -10,10 +10,10 @@ use crate::table::Table;
 use cc_journal::Commit;
 use cc_library::UnitMap;
 
-/// What is due in a commit: a device step, or the reply.
+/// What comes next in a commit: a device step, or the reply.
 #[derive(Drop)]
 pub enum Due {
-    /// The write of the record's body and of the closed gate behind it.
+    /// The write of the record's body, and of the closed gate after it.
     WriteBody,
     /// The sync that settles them.
     SyncBody,
@@ -25,7 +25,7 @@ pub enum Due {
     Acknowledge,
 }
 
-/// What is due in a rewrite, whose first write is done: one of its other device steps.
+/// What comes next in a rewrite after its first write: one of its other device steps.
 #[derive(Drop)]
 pub enum RewriteDue {
     /// The sync that settles the new area.
@@ -36,23 +36,24 @@ pub enum RewriteDue {
     SyncArea,
 }
 
-/// Whether a command is in commit or a rewrite under way, and whether the disk is usable.
+/// Whether a command is in commit or a rewrite is under way, and whether the disk is usable.
 #[derive(Drop)]
 pub enum Phase {
     /// No command is in commit, no rewrite is under way, and the disk is usable.
     Idle,
-    /// This client's command is in commit, and this is due next.
+    /// This client's command is in commit, and this step is due next.
     Committing(ClientId, Numbered, Due),
-    /// The records are written anew by this commit of the journal, and this is due next.
+    /// The records are being rewritten by this commit of the journal, and this step is due next.
     Rewriting(Commit, RewriteDue),
-    /// A device step has failed, one of this command's where a command was in commit: no more are made until the library is opened again.
+    /// A device step has failed, one of this command's if a command was in commit. No device step is made until the library is opened
+    /// again.
     Failed(Option<Numbered>),
     /// The disk has crashed: the library has to be opened.
     Crashed,
 }
 
 impl Phase {
-    ghost use Rattle.std.specs.Prelude.{◌≡◌, ℕ};
+    ghost use Rattle.std.specs.Prelude.{◌≡◌};
     ghost use Rattle.cc_core.specs.declared.command.Numbered.{Numbered};
     ghost use Rattle.cc_journal.specs.Commit as journal;
     ghost use Rattle.cc_core.specs.declared.contents.Due.{Due};
@@ -60,7 +61,7 @@ impl Phase {
     ghost use Rattle.cc_core.specs.declared.ids.ClientId.{ClientId};
     ghost use Rattle.cc_core.specs.declared.contents.Phase.TheVariants.{Committing, Rewriting};
 
-    /// In a commit, this is due next.
+    /// In a commit, makes this step the next one.
     pub(crate) fn go_on(&mut self, next: Due)
         ensures { (client : ClientId) (numbered : Numbered) (due : Due)
             → self.old ≡ Committing client numbered due → self.new ≡ Committing client numbered next }
@@ -70,7 +71,7 @@ impl Phase {
         }
     }
 
-    /// In a rewrite, this is due next.
+    /// In a rewrite, makes this step the next one.
     pub(crate) fn rewrite_on(&mut self, next: RewriteDue)
         ensures { (commit : journal.Commit) (due : RewriteDue) → self.old ≡ Rewriting commit due → self.new ≡ Rewriting commit next }
     {
@@ -80,14 +81,14 @@ impl Phase {
     }
 }
 
-/// What commits go over: the library, its order and the disk.
+/// What commits work on: the library, its order and the disk.
 #[derive(Drop)]
 pub struct Core {
     /// The live map.
     pub library: UnitMap,
     /// The commands that were accepted, in the order in which they began.
     pub order: Sequence<Numbered>,
-    /// The commands whose reply was given, in that order.
+    /// The commands whose reply was given, in the order of the replies.
     pub acknowledged: Sequence<Numbered>,
     pub phase: Phase,
     /// The disk.
@@ -99,7 +100,7 @@ pub struct Core {
 impl Core {
     ghost use Rattle.std.specs.Prelude.{◌≡◌};
 
-    /// Goes on to this phase.
+    /// Enters this phase.
     pub(crate) fn enter(&mut self, phase: Phase)
         ensures { self.new ≡ record self.old { phase = phase } }
     {
@@ -107,12 +108,12 @@ impl Core {
     }
 }
 
-/// What a state of the core holds, beside its build.
+/// What a state of the core holds, apart from its build.
 #[derive(Drop)]
 pub struct Contents<P> {
     pub core: Core,
     /// The job of each client that has one.
     pub jobs: Table<Job<P>>,
-    /// What each worker has taken; a worker that is not named is idle.
+    /// What each worker has taken; a worker without an entry is idle.
     pub workers: Table<Work>,
 }

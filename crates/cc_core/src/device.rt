@@ -1,7 +1,6 @@
 // The device steps of a command's commit, and their failure.
 
-ghost use Rattle.std.specs.Prelude.{◌≡◌, ◌≤◌, ◌^◌, ℕ, List, Option, Some, IfOk, OnErr, IsErrOf, length};
-ghost use Rattle.cc_library.specs.Body.{body_of};
+ghost use Rattle.std.specs.Prelude.{◌≡◌, Some, IfOk, length};
 ghost use Rattle.cc_core.specs.declared.command.Reply.{Reply};
 ghost use Rattle.cc_core.specs.declared.contents.Contents.{Contents};
 ghost use Rattle.cc_core.specs.declared.contents.Due.TheVariants as due;
@@ -20,7 +19,7 @@ use cc_journal::Commit;
 use cc_library::{LibraryCommand, body_length, body_of_command};
 use std::alloc::{AllocError, Global};
 
-// The commit that puts the record of a command behind the last one.
+// The commit that puts the record of a command after the last one.
 fn append_of(alloc: Global, store: &Store, command: &LibraryCommand) -> Result<Commit, AllocError>
     requires { IsFitting store.now command.now }
     ensures commit { IfOk result (λ commit. commit ≡ append_of store.now command.now) }
@@ -30,7 +29,7 @@ fn append_of(alloc: Global, store: &Store, command: &LibraryCommand) -> Result<C
     store.append(alloc, &body)
 }
 
-// The body's write is done. The bytes are made before the device is called.
+// Writes the body. The bytes are made before the device is called.
 pub(crate) fn write_body(alloc: Global, core: &mut Core) -> Answer
     requires { IsReady core.old }
     ensures { Answers (Advances due.WriteBody core.old) result core.old core.new }
@@ -47,7 +46,7 @@ pub(crate) fn write_body(alloc: Global, core: &mut Core) -> Answer
     Ok(None)
 }
 
-// The sync after it is done.
+// Syncs the body.
 pub(crate) fn sync_body(core: &mut Core) -> Answer
     requires { IsReady core.old }
     ensures { Answers (Advances due.SyncBody core.old) result core.old core.new }
@@ -60,7 +59,7 @@ pub(crate) fn sync_body(core: &mut Core) -> Answer
     Ok(None)
 }
 
-// The write that opens the gate is done.
+// Writes the gate open.
 pub(crate) fn write_gate(alloc: Global, core: &mut Core) -> Answer
     requires { IsReady core.old }
     ensures { Answers (Advances due.WriteGate core.old) result core.old core.new }
@@ -77,7 +76,7 @@ pub(crate) fn write_gate(alloc: Global, core: &mut Core) -> Answer
     Ok(None)
 }
 
-// The sync after it is done: the record is one of the journal's.
+// Syncs the gate: the record now belongs to the journal.
 pub(crate) fn sync_gate(core: &mut Core) -> Answer
     requires { IsReady core.old }
     ensures { Answers (Advances due.SyncGate core.old) result core.old core.new }
@@ -96,7 +95,7 @@ pub(crate) fn sync_gate(core: &mut Core) -> Answer
     Ok(None)
 }
 
-// The device step of a commit that is due fails. A write has reached the disk then, in whole, unsettled.
+// The device step of a commit that is due fails. A write has then reached the disk as a whole, unsettled.
 fn fail_core(alloc: Global, core: &mut Core, client: ClientId) -> Answer
     requires { IsReady core.old }
     ensures { Answers (Fails client core.old) result core.old core.new }

@@ -1,4 +1,5 @@
-// What may happen: clients hand in jobs, workers take pieces, a commit and a rewrite go step by step, the device fails, the disk crashes.
+// What may happen: clients hand in jobs, workers take pieces, a commit and a rewrite advance step by step, the device fails, the disk
+// crashes.
 
 use crate::command::Request;
 use crate::ids::{CallId, ClientId, PartIndex, WorkerId};
@@ -15,9 +16,9 @@ pub enum Event<P> {
     Done(WorkerId, P),
     /// A worker refuses the piece that it took: worker, number.
     Refuse(WorkerId, u32),
-    /// A client's job, whose pieces are all there, begins its commit.
+    /// A client's job, all of whose pieces are there, begins its commit.
     Begin(ClientId),
-    /// The first device step of the commit: the record's body is written, and the closed gate behind it.
+    /// The first device step of the commit: the record's body is written, with the closed gate after it.
     WriteBody,
     /// The second: they are synced.
     SyncBody,
@@ -25,8 +26,8 @@ pub enum Event<P> {
     WriteGate,
     /// The fourth: it is synced.
     SyncGate,
-    /// Between two commits the records are written anew, one Add per name. The first device step of this rewrite: they are
-    /// written into the area that is not in use, and a closed gate behind them.
+    /// Between two commits the records are written again, one Add per name. The first device step of this rewrite: they are written to the
+    /// area that is not in use, with a closed gate after them.
     RewriteAll,
     /// The second: they are synced.
     SyncAll,
@@ -36,10 +37,10 @@ pub enum Event<P> {
     SyncArea,
     /// The device step of a commit or of a rewrite that is due fails.
     Fail,
-    /// The reply is given to the client whose command is in commit, when all four steps are done.
+    /// The reply is given to the client whose command is in commit, after all four steps.
     Ack(ClientId),
-    /// The disk crashes, and leaves byte `i` of this choice at each unsettled offset `i`, 0 past its end. After the event
-    /// of a write this is a crash within that write; before that of a sync, one within that sync.
+    /// The disk crashes. At each unsettled offset `i` it leaves byte `i` of this choice, or 0 past its end. After the event of a write this
+    /// is a crash within that write; before the event of a sync, a crash within that sync.
     Crash(Sequence<u8>),
     /// The library is opened after a crash.
     Recover,

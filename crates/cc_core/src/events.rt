@@ -1,6 +1,6 @@
 // The step of each event: whether it is possible, what it changes, and what it answers.
 
-ghost use Rattle.std.specs.Prelude.{◌≡◌, ◌↔◌, ◌++◌, ◌∷◌, [], ℕ, Option, None, Some, Ok, Result, IfOk, IfErr, OnErr, IsErrOf, OnOk, IsTrue};
+ghost use Rattle.std.specs.Prelude.{◌≡◌, ◌↔◌, ℕ, Option, None, Some, Ok, Result, IfOk, IfErr, OnErr, OnOk, IsTrue};
 ghost use Rattle.std.specs.FinMap as table;
 ghost use Rattle.cc_core.specs.declared.command.Reply.{Reply};
 ghost use Rattle.cc_core.specs.declared.contents.Contents.{Contents};
@@ -27,14 +27,13 @@ use crate::job::{
 };
 use crate::recovery::{crash, recover};
 use crate::rewriting::{fail, rewrite_all, sync_all, sync_area, write_area};
-use crate::sequence::Sequence;
 use cc_library::{LibraryCommand, SharedUnit, UnitMap, body_length};
 use std::alloc::{AllocError, Global};
 
-/// What an event answers: a reply or none; 29 where it is not possible, 40 where memory was refused.
+/// What an event answers: a reply or none; 29 if the event is not possible, 40 if memory was refused.
 pub(crate) type Answer = Result<Option<Reply>, CoreFault>;
 
-// How many pieces a request has, or the number that refuses it.
+// The number of pieces of a request, or the number that refuses it.
 fn plan_of<B: Build>(build: &B, alloc: Global, request: &Request) -> Result<u32, BuildRefusal>
     ensures answer { IfOk result (λ pieces. IsPlanned B.rules request.now (Ok pieces)) }
     ensures refused { IfErr result (λ fault. RefusesPlan fault (IsPlanned B.rules request.now)) }
@@ -145,7 +144,7 @@ fn names_part<B: Build>(build: &B, request: &Request, piece: &B::Piece, part: Pa
     }
 }
 
-// What a worker has come to with the piece that it took.
+// Sets what a worker has made of the piece that it took.
 fn settle<P: Drop>(contents: &mut Contents<P>, worker: WorkerId, work: Work, progress: Progress<P>)
     ensures { (job : Job P) → table.get contents.old.jobs work.client.number ≡ Some job
         → contents.new ≡ record contents.old {
@@ -239,7 +238,7 @@ fn make_command<B: Build>(
     }
 }
 
-// Why the map refuses a command, where it does.
+// Why the map refuses a command, if it does.
 fn map_refusal(library: &UnitMap, command: &LibraryCommand) -> Option<Refusal>
     ensures { result ≡ map_refusal library.now command.now }
 {
@@ -258,8 +257,8 @@ fn map_refusal(library: &UnitMap, command: &LibraryCommand) -> Option<Refusal>
     None
 }
 
-// Why a command is refused, where it is: 36, then 31 or 32, then 34. The length of its body is enough, so no body is made
-// that has no room.
+// Why a command is refused, if it is: 36, then 31 or 32, then 34. The length of its body is enough, so no body is made for which there is
+// no room.
 fn refusal_of(core: &Core, command: &LibraryCommand) -> Option<Refusal>
     ensures refusal { result ≡ command_refusal core.now.phase core.now.library core.now.store command.now }
     ensures spelled { result ≡ None → IsCommand command.now }
@@ -270,7 +269,7 @@ fn refusal_of(core: &Core, command: &LibraryCommand) -> Option<Refusal>
     if let Some(refusal) = map_refusal(&core.library, command) {
         return Some(refusal);
     }
-    // What the type keeps of an area's size.
+    // What the type keeps about the size of an area.
     let _kept = core.store.used();
     if core.store.fits(body_length(command)) {
         None
@@ -329,7 +328,7 @@ fn put_in_order(
     Ok(())
 }
 
-// Whether a commit may begin, if only to be refused.
+// Whether a commit may begin, even if only to be refused.
 fn is_free(phase: &Phase) -> bool
     ensures { IsTrue result ↔ IsFree phase.now }
 {
@@ -339,7 +338,7 @@ fn is_free(phase: &Phase) -> bool
     }
 }
 
-// A job whose pieces are all there begins, where no other commits.
+// A job whose pieces are all there begins, if no other is in commit.
 pub(crate) fn begin<B: Build>(
     build: &B,
     alloc: Global,
@@ -371,7 +370,7 @@ pub(crate) fn begin<B: Build>(
     }
 }
 
-// The reply is given to the client whose command is in commit: the library takes the command.
+// The reply is given to the client whose command is in commit, and the library takes the command.
 fn acknowledge_core(core: &mut Core, client: ClientId) -> Answer
     ensures { Answers (Acknowledges client core.old) result core.old core.new }
 {
@@ -406,8 +405,8 @@ pub(crate) fn acknowledge<P: Drop>(contents: &mut Contents<P>, client: ClientId)
     }
 }
 
-/// Takes the step of one event, and answers its reply, where it gives one; 29 where the event is not possible.
-/// After 29 and 40 the contents are as before.
+/// Takes the step of one event, and answers its reply, if it gives one; 29 if the event is not possible, 40 if memory was refused. After 29
+/// and 40 the contents are as before.
 pub(crate) fn take_step<B: Build>(
     build: &B,
     alloc: Global,

@@ -19,7 +19,7 @@ pub enum CoreFault {
 impl CoreFault {
     ghost use Rattle.cc_core.specs.Fault.{fault_number};
 
-    /// The fault's number: 29 where the event is not possible, 40 where memory ran out.
+    /// The fault's number: 29 if the event is not possible, 40 if memory ran out.
     pub fn number(&self) -> u32
         ensures { result ≡ fault_number self.now }
     {
@@ -46,13 +46,13 @@ pub enum Refusal {
     /// That number: the build refuses the source or its pieces with it.
     #[error("Build")]
     Build(u32),
-    /// 31: the name that is to be added is there.
+    /// 31: the name to be added is there already.
     #[error("Exists")]
     Exists,
-    /// 32: the name that is to be replaced or withdrawn is not there.
+    /// 32: the name to be replaced or withdrawn is not there.
     #[error("Absent")]
     Absent,
-    /// 34: the record does not fit its area.
+    /// 34: the record does not fit the area.
     #[error("Full")]
     Full,
     /// 35: the device step that was due failed.
@@ -81,7 +81,7 @@ impl Refusal {
     }
 }
 
-/// Why a build gives no answer, or no unit.
+/// Why a build gives no plan, or no unit.
 #[derive(Debug, Drop, Error)]
 pub enum BuildRefusal {
     /// That number: the source or its pieces are refused with it.
@@ -95,7 +95,7 @@ pub enum BuildRefusal {
 impl BuildRefusal {
     ghost use Rattle.cc_core.specs.Fault.{build_fault_number};
 
-    /// The number that refuses, or 40 where memory ran out.
+    /// The number that refuses, or 40 if memory ran out.
     pub fn number(&self) -> u32
         ensures { result ≡ build_fault_number self.now }
     {

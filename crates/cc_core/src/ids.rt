@@ -1,18 +1,18 @@
-// Clients, workers, calls and pieces are told apart by numbers.
+// Numbers for clients, workers, calls and pieces.
 
-/// A client, by any number.
+/// A client, with any number.
 #[derive(Clone, Copy)]
 pub struct ClientId {
     pub number: u64,
 }
 
-/// A worker, by any number.
+/// A worker, with any number.
 #[derive(Clone, Copy)]
 pub struct WorkerId {
     pub number: u64,
 }
 
-/// A call of a client, by any number.
+/// A call of a client, with any number.
 #[derive(Clone, Copy)]
 pub struct CallId {
     pub number: u64,

@@ -1,7 +1,6 @@
 // What a client has handed in, piece by piece, and what a worker has taken of it.
 
-ghost use Rattle.std.specs.Prelude.{◌≡◌, ℕ, IfOk, map, replicate};
-ghost use Rattle.std.specs.Ordering.{nat_cmp};
+ghost use Rattle.std.specs.Prelude.{◌≡◌, IfOk, map, replicate};
 ghost use Rattle.std.specs.FinMap as table;
 ghost use Rattle.cc_core.specs.Job.{is_there, all_there, first_refused, made_pieces, with_piece};
 ghost use Rattle.cc_core.specs.declared.job.Job.{Job};
@@ -13,7 +12,7 @@ use crate::sequence::Sequence;
 use crate::table::Table;
 use std::alloc::{AllocError, Global};
 
-/// How far a piece of a job is.
+/// How far a piece of a job has come.
 #[derive(Drop)]
 pub enum Progress<P> {
     /// No worker has taken it.
@@ -26,8 +25,8 @@ pub enum Progress<P> {
     Refused(u32),
 }
 
-/// What a client handed in: the number of its call, what it asks for, the number that refuses its source,
-/// where one does, and how far each piece is.
+/// What a client handed in: the number of its call, what it asks for, the number that refuses its source, if one does, and how far each
+/// piece has come.
 #[derive(Drop)]
 pub struct Job<P> {
     pub call: CallId,
@@ -61,7 +60,7 @@ pub(crate) fn are_all_there<P>(pieces: &[Progress<P>]) -> bool
     pieces.iter().all(|progress| progress.is_there())
 }
 
-// The number of the least piece that was refused.
+// The number that refused the first of the refused pieces.
 pub(crate) fn least_refused<P>(pieces: &[Progress<P>]) -> Option<u32>
     ensures { result ≡ first_refused pieces.now }
 {
@@ -86,7 +85,7 @@ pub(crate) fn all_made<P>(alloc: Global, pieces: &[Progress<P>]) -> Result<Vec<&
     Ok(made)
 }
 
-// So many pieces that wait.
+// This many waiting pieces.
 pub(crate) fn all_waiting<P: Drop>(
     alloc: Global,
     count: u32,
@@ -100,7 +99,7 @@ pub(crate) fn all_waiting<P: Drop>(
     Ok(pieces)
 }
 
-// Sets how far one piece of a client's job is.
+// Sets how far one piece of a client's job has come.
 pub(crate) fn set_progress<P: Drop>(
     jobs: &mut Table<Job<P>>,
     client: ClientId,

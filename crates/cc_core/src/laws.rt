@@ -1,6 +1,6 @@
-// Laws of the protocol core, each the contract of a function that does nothing: what holds of every run, and how a run can go on.
+// Laws of the protocol core. Each is the contract of a function that does nothing: what holds after every run, and how a run can go on.
 
-ghost use Rattle.std.specs.Prelude.{◌≡◌, ◌++◌, ℕ, Option, None, Some, List};
+ghost use Rattle.std.specs.Prelude.{◌≡◌, ◌++◌, ℕ, Option, None, List};
 ghost use Rattle.std.specs.FinMap.{get, empty};
 ghost use Rattle.cc_library.specs.Apply.{Units, after};
 ghost use Rattle.cc_library.specs.declared.command.LibraryCommand.{LibraryCommand};
@@ -19,10 +19,11 @@ ghost use Rattle.cc_core.specs.Turns.{BeginsSpelled, IsNoSubmit, IsNoTake, CanBe
 
 use crate::build::Build;
 
-/// Whatever the rules by which units are made, and whatever pieces workers hand in; and whatever the events, from a fresh disk or an opened
-/// one, with any units on it, where each command that goes into the order has a spelling, as the types of names and units keep: whatever a
-/// crash leaves of the disk survives so, and the live map is what the order gives. In a crashed state the recovery is possible, and nothing else but another crash; and a commit leaves exactly the bytes of its record. Between two
-/// commits a rewrite is always possible, since it never takes more room than the records do, and it leaves one Add per name.
+/// Holds for any rules by which units are made, any pieces that workers hand in, and any events, from a fresh disk or from an opened one
+/// with any units on it, if each command that goes into the order has a spelling, as the types of names and units keep. Whatever a crash
+/// leaves of the disk survives, and the live map is what the order gives. In a crashed state the recovery is possible, and otherwise only
+/// another crash. A commit leaves exactly the bytes of its record. Between two commits a rewrite is always possible, since it never takes
+/// more room than the records do, and it leaves one Add per name.
 pub fn survival_law<B: Build>()
     ensures survives { (first new : Contents B.Piece) (events : List (Event B.Piece))
         → IsBeginning first → Run B.rules IsAnyPiece first events new → EachImageSurvives new.core }
@@ -43,8 +44,8 @@ pub fn survival_law<B: Build>()
         → IsBeginning first → Run B.rules IsAnyPiece first events new → Rewrites new.core after → LeavesCompacted new.core after }
 {}
 
-/// Where each piece keeps what its type keeps: whatever a crash leaves of the disk survives so; each unit of it is one of those that were
-/// found at the opening, or is right, and so all are right where those were; and a command that begins has the source that was handed in.
+/// The same if each piece keeps what its type keeps. Whatever a crash leaves of the disk survives. Each of its units is one of those that
+/// were found at the opening, or is right; so all are right if those were. A command that begins has the source that was handed in.
 pub fn crash_law<B: Build>()
     ensures survives { (first new : Contents B.Piece) (events : List (Event B.Piece))
         → IsBeginning first → Run B.rules B.keeps first events new → EachImageSurvives new.core }
@@ -58,8 +59,8 @@ pub fn crash_law<B: Build>()
     survival_law::<B>();
 }
 
-/// What a command leaves of the units of a map. Where each is right, or each is right or found in a base, and so is the unit of the
-/// command, each is so after the command. The empty map has none.
+/// What a command leaves of the units of a map. If each unit is right, and so is the command's unit, each is right after the command; the
+/// same holds for "right, or found in a base". The empty map has no units.
 pub fn units_law<B: Build>()
     ensures right { (library : Units) (command : LibraryCommand)
         → EachUnit B.is_right library → IsRightCommand B.is_right command → EachUnit B.is_right (after library command) }
@@ -68,9 +69,9 @@ pub fn units_law<B: Build>()
     ensures none { EachUnit B.is_right empty }
 {}
 
-/// How a run can go on. Each step of an event that has one is a turn, where a piece that is handed in keeps what its type keeps, and a
-/// command that goes into the order has a spelling; and one run goes on by another. Only a Submit gives a client a job, and only a Take gives a
-/// worker a piece. Where no crash is before, a command whose unit pieces give can be handed in by a client without a job, and made ready
+/// How a run can go on. Each step of an event is a turn of a run, if a piece that is handed in keeps what its type keeps, and a command
+/// that goes into the order has a spelling. A run can be continued by another. Only a Submit gives a client a job, and only a Take gives a
+/// worker a piece. Unless the disk has crashed, a command whose unit pieces give can be handed in by a client without a job, and made ready
 /// by an idle worker.
 pub fn turn_law<B: Build>()
     ensures turn { (old new : Contents B.Piece) (event : Event B.Piece) (reply : Option Reply)

@@ -1,9 +1,9 @@
-// Opening a disk: what its records stand for, and where a run goes on from there.
+// Opening a disk: what its records represent, and the point from which a run goes on.
 
-ghost use Rattle.std.specs.Prelude.{◌≡◌, ◌^◌, ◌≤◌, true, List, ℕ, IfOk, IfErr, MatchResult, length};
+ghost use Rattle.std.specs.Prelude.{◌≡◌, ◌^◌, ◌≤◌, true, IfOk, IfErr, MatchResult, length};
 ghost use Rattle.cc_disk.specs.Model.{bytes_of, IsImage};
 ghost use Rattle.cc_disk.specs.Images.{AddsNone};
-ghost use Rattle.cc_journal.specs.Format.{HoldsRecords, records, room_of};
+ghost use Rattle.cc_journal.specs.Format.{records, room_of};
 ghost use Rattle.cc_library.specs.Answers.{OpenFaults};
 ghost use Rattle.cc_core.specs.Run.{IsOrderOf};
 ghost use Rattle.cc_core.specs.internal.Opening.{IsFound, IsOpenedAt};
@@ -17,7 +17,7 @@ use cc_journal::{Body, Journal};
 use cc_library::{LibraryFault, UnitMap, read_command, replay};
 use std::alloc::{AllocError, Global};
 
-/// A disk that was opened: its journal, the map that the records stand for, and how many bytes of the area they take.
+/// A disk that was opened: its journal, the map that its records represent, and the number of bytes of the area that they take.
 #[derive(Drop)]
 pub(crate) struct Found {
     pub journal: Journal<MemoryDisk>,
@@ -25,8 +25,8 @@ pub(crate) struct Found {
     pub used: usize,
 }
 
-/// What a run begins with on an opened disk: the disk, settled; the map that its records stand for; their commands, numbered from
-/// 0 on, all of which are acknowledged; and the number of the next Begin.
+/// The beginning of a run on an opened disk: the disk, settled; the map that its records represent; their commands, numbered from 0 on, all
+/// of which are acknowledged; and the number of the next Begin.
 #[derive(Drop)]
 pub(crate) struct Opened {
     pub store: Store,
@@ -36,8 +36,8 @@ pub(crate) struct Opened {
     pub upcoming: SequenceNumber,
 }
 
-/// Opens the journal of a disk, and does the commands of its records one after the other. It refuses as the opening of a
-/// library does, and hands the disk back.
+/// Opens the journal of a disk, and carries out the commands of its records one after the other. It refuses as the opening of a library
+/// does, and hands the disk back.
 pub(crate) fn find(alloc: Global, disk: MemoryDisk) -> Result<Found, (LibraryFault, MemoryDisk)>
     ensures answer { IfOk result (λ found.
         IsFound (bytes_of disk.cells) found.journal.area found.journal.bodies found.library found.used) }
@@ -66,7 +66,7 @@ pub(crate) fn find(alloc: Global, disk: MemoryDisk) -> Result<Found, (LibraryFau
     }
 }
 
-// How many bytes these records take.
+// The number of bytes that these records take.
 fn bytes_taken(bodies: &[Body]) -> usize
     requires { room_of bodies.now ≤ 2 ^ 30 }
     ensures { result ≡ length (records bodies.now) }
@@ -78,7 +78,7 @@ fn bytes_taken(bodies: &[Body]) -> usize
     taken
 }
 
-// The same commands once more.
+// A copy of the commands.
 fn again(alloc: Global, order: &[Numbered]) -> Result<Sequence<Numbered>, AllocError>
     ensures { IfOk result (λ copy. copy ≡ order.now) }
 {
@@ -89,8 +89,8 @@ fn again(alloc: Global, order: &[Numbered]) -> Result<Sequence<Numbered>, AllocE
     Ok(copy)
 }
 
-// The commands that these records spell, numbered from 0 on, once more as those that are acknowledged, and the number after them. Where each of them spells one, only
-// memory can be refused.
+// The commands that these records spell, numbered from 0 on; the same commands again, as the acknowledged ones; and the number after them.
+// If each record spells a command, the only refusal is lack of memory.
 fn read_order(
     alloc: Global,
     bodies: &[Body],

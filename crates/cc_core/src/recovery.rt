@@ -1,13 +1,10 @@
 // The crash, and the opening after it.
 
-ghost use Rattle.std.specs.Prelude.{◌≡◌, ◌↔◌, ◌-◌, ℕ, List, Option, Some, IfOk, OnErr, IsErrOf, IsTrue, length, take};
-ghost use Rattle.std.specs.Arc.{arc_value};
+ghost use Rattle.std.specs.Prelude.{◌↔◌, ◌-◌, Some, IsTrue};
 ghost use Rattle.cc_core.specs.declared.command.Numbered.{Numbered};
-ghost use Rattle.cc_core.specs.declared.command.Reply.{Reply};
 ghost use Rattle.cc_core.specs.declared.contents.Contents.{Contents};
 ghost use Rattle.cc_core.specs.Step.{Crashes, EndsAll, Reopens};
 ghost use Rattle.cc_core.specs.internal.Answers.{Answers};
-ghost use Rattle.cc_core.specs.Run.{but_last};
 ghost use Rattle.cc_core.specs.internal.Ready.{IsReady, IsInEffect, IsPrefixKept};
 
 use crate::command::Numbered;
@@ -19,7 +16,7 @@ use crate::table::Table;
 use cc_library::{LibraryCommand, UnitMap};
 use std::alloc::Global;
 
-// The disk crashes; the live map is gone.
+// The disk crashes; the live map is lost.
 fn crash_core(alloc: Global, core: &mut Core, choice: &Sequence<u8>) -> Answer
     ensures { Answers (Crashes choice.now core.old) result core.old core.new }
 {
@@ -29,7 +26,7 @@ fn crash_core(alloc: Global, core: &mut Core, choice: &Sequence<u8>) -> Answer
     Ok(None)
 }
 
-// The disk crashes; the live map, jobs and workers are gone.
+// The disk crashes; the live map, jobs and workers are lost.
 pub(crate) fn crash<P: Drop>(
     alloc: Global,
     contents: &mut Contents<P>,
@@ -62,7 +59,7 @@ fn is_in_effect(library: &UnitMap, command: &LibraryCommand) -> bool
     }
 }
 
-// Drops the last command where the map is not as it leaves it.
+// Drops the last command if the map is not as that command leaves it.
 fn drop_undone(order: &mut Sequence<Numbered>, library: &UnitMap)
     ensures { IsPrefixKept library.now order.old order.new }
 {

@@ -1,7 +1,5 @@
-// The device steps of a rewrite, and their failure. What they write is one commit of the journal, made before the first of them.
+// The device steps of a rewrite, and their failure. All that they write is one commit of the journal, made before the first step.
 
-ghost use Rattle.std.specs.Prelude.{◌≡◌, ◌⊎◌, Option, IfOk, OnErr, IsErrOf};
-ghost use Rattle.cc_core.specs.declared.command.Reply.{Reply};
 ghost use Rattle.cc_core.specs.declared.contents.Contents.{Contents};
 ghost use Rattle.cc_core.specs.declared.contents.RewriteDue.TheVariants as left;
 ghost use Rattle.cc_core.specs.internal.Answers.{Answers};
@@ -14,8 +12,8 @@ use crate::events::Answer;
 use crate::fault::CoreFault;
 use std::alloc::Global;
 
-// The first write is done: one Add per name, and the closed gate, into the area that is not in use. They always fit, since they
-// never take more room than the records that stand for the map.
+// Makes the first write: one Add per name, and the closed gate, to the area that is not in use. They always fit, since they never take more
+// room than the records that represent the map.
 pub(crate) fn rewrite_all(alloc: Global, core: &mut Core) -> Answer
     requires { IsReady core.old }
     ensures { Answers (RewritesAll core.old) result core.old core.new }
@@ -23,7 +21,7 @@ pub(crate) fn rewrite_all(alloc: Global, core: &mut Core) -> Answer
     let Phase::Idle = &core.phase else {
         return Err(CoreFault::NotNow);
     };
-    // What the type keeps of an area's size.
+    // What the type keeps about the size of an area.
     let _kept = core.store.used();
     let bodies = core.library.bodies(alloc)?;
     let commit = core.store.rewrite(alloc, &bodies)?;
@@ -32,7 +30,7 @@ pub(crate) fn rewrite_all(alloc: Global, core: &mut Core) -> Answer
     Ok(None)
 }
 
-// The sync after it is done.
+// Syncs the new records.
 pub(crate) fn sync_all(core: &mut Core) -> Answer
     ensures { Answers (RewriteAdvances left.SyncAll core.old) result core.old core.new }
 {
@@ -44,7 +42,7 @@ pub(crate) fn sync_all(core: &mut Core) -> Answer
     Ok(None)
 }
 
-// The write of the area byte is done.
+// Writes the area byte.
 pub(crate) fn write_area(core: &mut Core) -> Answer
     requires { IsReady core.old }
     ensures { Answers (RewriteAdvances left.WriteArea core.old) result core.old core.new }
@@ -60,7 +58,7 @@ pub(crate) fn write_area(core: &mut Core) -> Answer
     Ok(None)
 }
 
-// The sync after it is done: the other area is in use, and its records are the journal's.
+// Syncs the area byte: the other area is now in use, and its records are the journal's.
 pub(crate) fn sync_area(core: &mut Core) -> Answer
     requires { IsReady core.old }
     ensures { Answers (RewriteAdvances left.SyncArea core.old) result core.old core.new }
@@ -79,7 +77,7 @@ pub(crate) fn sync_area(core: &mut Core) -> Answer
     Ok(None)
 }
 
-// The device step of a rewrite that is due fails. A write has reached the disk then, in whole, unsettled.
+// The device step of a rewrite that is due fails. A write has then reached the disk as a whole, unsettled.
 fn fail_rewrite(core: &mut Core) -> Answer
     requires { IsReady core.old }
     ensures { Answers (RewriteFails core.old) result core.old core.new }

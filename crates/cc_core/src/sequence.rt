@@ -43,7 +43,7 @@ impl<T> Sequence<T> {
         self.items.as_slice()
     }
 
-    /// The item at an index, counted from 0, where there is one.
+    /// The item at an index, counted from 0, if there is one.
     pub fn get(&self, index: usize) -> Option<&T>
         ensures { option_copied result ≡ slice_get self.now index }
     {
@@ -52,7 +52,7 @@ impl<T> Sequence<T> {
 }
 
 impl<T: Drop> Sequence<T> {
-    /// Puts an item last. Without memory the list stays as it was.
+    /// Puts an item last. If memory runs out, the list stays as it was.
     pub(crate) fn push(&mut self, item: T) -> Result<(), AllocError>
         ensures ok { OnOk result (self.new ≡ self.old ++ item ∷ []) }
         ensures err { OnErr result (self.new ≡ self.old) }
@@ -61,7 +61,7 @@ impl<T: Drop> Sequence<T> {
         Ok(())
     }
 
-    /// Drops the last item, where there is one.
+    /// Drops the last item, if there is one.
     pub(crate) fn drop_last(&mut self)
         ensures { self.new ≡ take (length self.old - 1) self.old }
     {

@@ -1,12 +1,12 @@
-// A number that contracts alone see, so that commands that ask the same are told apart.
+// A number that only contracts see, to distinguish commands that ask for the same.
 
 ghost use Rattle.std.specs.Prelude.{◌≡◌, ℕ, ◌+◌};
 ghost use Rattle.std.specs.Borrow.{ftrue};
 
 use std::marker::Model;
 
-/// The sequence number of a Begin among those that took a step, counted from 0 at the start.
-/// Contracts alone see it, as `value`, which has no upper end. It takes no bytes at run time.
+/// The sequence number of a Begin among those that took a step, counted from 0. Only contracts see it, as `value`, which has no upper
+/// limit. It takes no bytes at run time.
 #[derive(Drop)]
 pub struct SequenceNumber {
     pub ghost value: { ℕ },
@@ -32,7 +32,7 @@ impl SequenceNumber {
         SequenceNumber {}
     }
 
-    /// This number once more.
+    /// A copy of the number.
     pub(crate) fn same(&self) -> SequenceNumber
         ensures { result ≡ self.now }
     {

@@ -1,4 +1,4 @@
-// The machine: a state, the step of an event, and the runs that lead to it from a beginning.
+// The machine: a state, the step of an event, and the runs that lead to a state from a beginning.
 
 ghost use Rattle.std.specs.Prelude.{◌≡◌, ◌≢◌, ◌↔◌, ◌≤◌, ◌^◌, true, ℕ, Option, IfOk, IfErr, OnErr, OnOk, IsErrOf, All, Contains, List};
 ghost use Rattle.std.specs.FinMap.{empty};
@@ -33,14 +33,14 @@ use cc_library::{LibraryFault, UnitMap};
 use std::alloc::{AllocError, Global};
 use std::marker::Model;
 
-/// The protocol core over a build and a disk in memory. Contracts see its contents, and its type keeps that some list of
-/// events leads to them from a beginning: a new disk, or one that was opened with a library on it.
+/// The protocol core with a build and a disk in memory. Contracts see its contents. Its type keeps that some list of events leads to them
+/// from a beginning: a new disk, or one that was opened with a library on it.
 pub struct State<B: Build> {
     build: B,
     contents: Contents<B::Piece>,
 }
 
-// By hand, so that crates above call it and do not prove anew how each part is dropped.
+// Written by hand, so that crates above call it and need not prove again how each part is dropped.
 impl<B: Build> Drop for State<B> {
     fn drop(self) {
         let State { build, contents } = self;
@@ -65,8 +65,7 @@ impl<B: Build> Model for State<B> {
 }
 
 impl<B: Build> State<B> {
-    /// The state in which nothing has happened, on a formatted disk of `16 + 2 * area` bytes.
-    /// 40 `OutOfMemory` alone.
+    /// The state before any event, on a formatted disk of `16 + 2 * area` bytes. The only refusal is 40 `OutOfMemory`.
     pub fn new(alloc: Global, build: B, area: u32) -> Result<State<B>, CoreFault>
         requires least { 64 ≤ area }
         requires most { area ≤ 2 ^ 30 }
@@ -85,13 +84,13 @@ impl<B: Build> State<B> {
         Ok(State::idle(alloc, build, core))
     }
 
-    /// The state in which nothing has happened yet, on a disk with a library: of any size, in either area, with units in it.
-    /// The live map is what the disk's bytes recover to, and the order the commands of its records, numbered from 0 on.
+    /// The state before any event, on a disk with a library: of any size, in either area, with units in it. The live map is what the disk's
+    /// bytes recover to. The order has the commands of its records, numbered from 0 on.
     ///
-    /// That each unit found is right by the build's law is for the caller to know: it is where this build alone wrote the disk.
+    /// The caller must know that each unit that is found is right by the build's law. That is so if only this build wrote the disk.
     ///
-    /// Refusals, with the disk handed back as it was: 38 `NotALibrary` where there is no right header, 37 `Damaged` where there is
-    /// one and the bytes recover to no library, 40 `OutOfMemory`. 35 never comes, since a disk in memory does not fail.
+    /// Refusals, with the disk handed back as it was: 38 `NotALibrary` if there is no valid header, 37 `Damaged` if there is one and the
+    /// bytes recover to no library, 40 `OutOfMemory`. 35 never comes, since a disk in memory does not fail.
     pub fn open(
         alloc: Global,
         build: B,
@@ -132,7 +131,7 @@ impl<B: Build> State<B> {
         }
     }
 
-    // A state in which nothing has happened yet, over this core.
+    // A state before any event, with this core.
     fn idle(alloc: Global, build: B, core: Core) -> State<B>
         requires begins { IsBeginning {P = B.Piece} (record { core = core; jobs = empty; workers = empty }) }
         requires right { EachUnit B.is_right core.library }
@@ -148,9 +147,8 @@ impl<B: Build> State<B> {
         }
     }
 
-    /// Takes the step of an event, and answers the reply where the event gives one: done, or a number.
-    /// 29 `NotNow` where the event is not possible; 40 `OutOfMemory` where memory ran out.
-    /// After both the state is as before.
+    /// Takes the step of an event, and answers the reply, if the event gives one: done, or a number. 29 `NotNow` if the event is not
+    /// possible; 40 `OutOfMemory` if memory ran out. After both the state is as before.
     pub fn step(
         &mut self,
         alloc: Global,
@@ -167,7 +165,7 @@ impl<B: Build> State<B> {
         take_step(&self.build, alloc, &mut self.contents, event)
     }
 
-    // Takes the step of an event, where it has one.
+    // Takes the step of an event, if it has one.
     fn turn(&mut self, alloc: Global, event: Event<B::Piece>) -> Result<(), AllocError>
         ensures { OnOk result (Turn B.rules B.keeps self.old event self.new) }
     {
@@ -177,7 +175,7 @@ impl<B: Build> State<B> {
         }
     }
 
-    /// The live map: what the order gives, without the command in commit or failed; empty from a crash to the recovery.
+    /// The live map: what the order gives, without the command that is in commit or has failed; empty from a crash to the recovery.
     pub fn library(&self) -> &UnitMap
         ensures library { result.now ≡ self.now.core.library }
         ensures replay { self.now.core.library ≡ live self.now.core.phase self.now.core.order }
@@ -187,8 +185,8 @@ impl<B: Build> State<B> {
         &self.contents.core.library
     }
 
-    /// The commands whose reply was given, each with its sequence number, in the order of the replies. Whatever a crash leaves of the
-    /// disk recovers to a library that holds them.
+    /// The commands whose reply was given, each with its sequence number, in the order of the replies. Whatever a crash leaves of the disk
+    /// recovers to a library that has them.
     pub fn acked(&self) -> &[Numbered]
         ensures acked { result.now ≡ self.now.core.acknowledged }
         ensures in_order { All (Contains self.now.core.order) self.now.core.acknowledged }
@@ -201,23 +199,23 @@ impl<B: Build> State<B> {
     }
 }
 
-/// Takes these events in turn, and skips each that is not possible when its turn comes.
-/// It refuses with 40 `OutOfMemory` alone, and gives the state up then.
+/// Takes these events in turn, and skips each that is not possible when its turn comes. The only refusal is 40 `OutOfMemory`; the state is
+/// dropped then.
 pub fn run_events<B: Build>(
     alloc: Global,
     mut state: State<B>,
     events: Vec<Event<B::Piece>>,
 ) -> Result<State<B>, CoreFault>
-    // It is the run: a step for each event that has one, the state kept at each other.
+    // This is the run: one step for each event that has one; any other event leaves the state as it is.
     ensures run { IfOk result (λ new. Run B.rules B.keeps state events.items new) }
-    // Whatever a crash leaves of the disk recovers to the library of a prefix of the order, which holds every acknowledged
-    // command and lacks at most the last one.
+    // Whatever a crash leaves of the disk recovers to the library of a prefix of the order, which has every acknowledged command and lacks
+    // at most the last command.
     ensures survives { IfOk result (λ new. EachImageSurvives new.core) }
-    // Each unit of what is recovered is right for its source.
+    // Each recovered unit is right for its source.
     ensures right { IfOk result (λ new. EachImageIsRight B.is_right new.core) }
-    // The live map is what the order gives, without the command in commit or failed; empty from a crash to the recovery.
+    // The live map is what the order gives, without the command that is in commit or has failed; empty from a crash to the recovery.
     ensures replay { IfOk result (λ new. new.core.library ≡ live new.core.phase new.core.order) }
-    // Each command of the order was one that the library took in its turn.
+    // The library accepted each command of the order in its turn.
     ensures accepted { IfOk result (λ new. AreAccepted empty (commands new.core.order)) }
     // Every acknowledged command is in the order, by its sequence number.
     ensures acked { IfOk result (λ new. All (Contains new.core.order) new.core.acknowledged) }

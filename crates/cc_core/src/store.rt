@@ -1,7 +1,7 @@
 // The core's disk: a journal in one of its two areas, written one device step at a time, by the journal's own commits.
 
-ghost use Rattle.std.specs.Prelude.{◌≡◌, ◌↔◌, ◌+◌, ◌^◌, ◌≤◌, [], ◌∷◌, List, ℕ, IsTrue, length, IfOk, IfErr, OnOk, OnErr};
-ghost use Rattle.cc_disk.specs.Model.{bytes_of, IsImage, synced};
+ghost use Rattle.std.specs.Prelude.{◌≡◌, ◌↔◌, ◌+◌, ◌^◌, ◌≤◌, [], List, ℕ, IsTrue, length, IfOk, IfErr, OnOk, OnErr};
+ghost use Rattle.cc_disk.specs.Model.{bytes_of, IsImage};
 ghost use Rattle.cc_disk.specs.Images.{LeavesAlone};
 ghost use Rattle.cc_journal.specs.Commit.{append_commit, rewrite_commit};
 ghost use Rattle.cc_journal.specs.Format.{HoldsRecords, IsArea, records, room_of};
@@ -18,11 +18,11 @@ use cc_library::{LibraryFault, UnitMap};
 use std::alloc::{AllocError, Global};
 use std::marker::Model;
 
-/// The bytes in front of the first area.
+/// The bytes before the first area.
 const HEADER: usize = 16;
 
-/// A journal on a disk in memory, of which contracts see the cells, the area byte, the size of an area in bytes, and how many
-/// bytes of the area that the byte names its records take.
+/// A journal on a disk in memory. Contracts see the cells, the area byte, the size of an area in bytes, and the number of bytes that
+/// records take in the area that the byte names.
 #[derive(Drop)]
 pub struct Store {
     disk: MemoryDisk,
@@ -44,7 +44,7 @@ impl Model for Store {
 }
 
 impl Store {
-    /// A formatted disk of `16 + 2 * area` bytes without a record. Its only fault is lack of memory.
+    /// A formatted disk of `16 + 2 * area` bytes without a record. Err: memory ran out.
     pub(crate) fn new(alloc: Global, area: u32) -> Result<Store, AllocError>
         requires least { 64 ≤ area }
         requires most { area ≤ 2 ^ 30 }
@@ -52,7 +52,7 @@ impl Store {
     {
         let mut disk = MemoryDisk::new(alloc, HEADER + 2 * area as usize)?;
         format(&mut disk, area).unwrap();
-        // All of the disk is settled from here on, the areas too.
+        // From here on the whole disk is settled, the areas too.
         let _ = disk.sync();
         Ok(Store {
             disk,
@@ -62,7 +62,7 @@ impl Store {
         })
     }
 
-    /// The journal of a disk with records, which take this many bytes of their area. All of the disk is settled from here on.
+    /// The journal of a disk with records, which take this many bytes of their area. From here on the whole disk is settled.
     pub(crate) fn of_disk(mut disk: MemoryDisk, used: usize) -> Store
         requires { (area : ℕ) × (bodies : List (List ℕ)) × HoldsRecords (bytes_of disk.cells) area bodies × (used ≡ length (records bodies)) }
         ensures bytes { bytes_of result.cells ≡ bytes_of disk.cells }
@@ -90,7 +90,7 @@ impl Store {
         6 <= left && count <= left - 6
     }
 
-    // The offset of the closed gate behind the last record.
+    // The offset of the closed gate after the last record.
     fn gate(&self) -> usize
         ensures gate { result ≡ gate_of self.now }
         ensures within { gate_of self.now ≤ 16 + self.now.area + self.now.used }
@@ -103,18 +103,18 @@ impl Store {
         begin + self.used
     }
 
-    /// The commit that puts a record with this body behind the last one.
+    /// The commit that puts a record with this body after the last one. Err: memory ran out.
     pub(crate) fn append(&self, alloc: Global, body: &[u8]) -> Result<Commit, AllocError>
         requires { room_taken self.now body.now ≤ self.now.area }
         ensures commit { IfOk result (λ commit. commit ≡ append_commit (gate_of self.now) body.now) }
         ensures within { IfOk result (λ commit. IsWithin commit self.now) }
     {
-        // What the type keeps of the disk's size.
+        // What the type keeps about the size of the disk.
         let _ = &self.disk;
         Commit::append(alloc, self.gate(), body)
     }
 
-    /// The commit that writes records with these bodies into the area that is not in use.
+    /// The commit that writes records with these bodies to the area that is not in use. Err: memory ran out.
     pub(crate) fn rewrite(&self, alloc: Global, bodies: &[Body]) -> Result<Commit, AllocError>
         requires { room_of bodies.now ≤ self.now.area }
         ensures commit { IfOk result (λ commit. commit ≡ rewrite_commit self.now.area_byte self.now.area bodies.now) }
@@ -131,7 +131,7 @@ impl Store {
         let _ = self.disk.write_at(commit.offset(), commit.bytes());
     }
 
-    /// Writes the byte of a commit that decides.
+    /// Writes the deciding byte of a commit.
     pub(crate) fn decide(&mut self, commit: &Commit)
         requires { IsWithin commit.now self.old }
         ensures { self.new ≡ decided commit.now self.old }
@@ -155,7 +155,7 @@ impl Store {
         self.used = used;
     }
 
-    /// Takes this area, and counts this many of its bytes as taken by records.
+    /// Switches to this area, and counts this many of its bytes as taken by records.
     pub(crate) fn take_area(&mut self, area_byte: u8, used: usize)
         requires { used + 1 ≤ self.old.area }
         ensures { self.new ≡ record self.old { area_byte = area_byte; used = used } }
@@ -164,7 +164,7 @@ impl Store {
         self.used = used;
     }
 
-    /// How many bytes of the area the records take.
+    /// The number of bytes of the area that the records take.
     pub(crate) fn used(&self) -> usize
         ensures used { result ≡ self.now.used }
         ensures fits { self.now.used + 1 ≤ self.now.area }
@@ -173,7 +173,7 @@ impl Store {
         self.used
     }
 
-    /// A crash that leaves the choice's bytes where it may. Without memory the disk stays as it was.
+    /// A crash that leaves the bytes of the choice at the unsettled offsets. If memory runs out, the disk stays as it was.
     pub(crate) fn crash(&mut self, alloc: Global, choice: &[u8]) -> Result<(), AllocError>
         ensures ok { OnOk result (self.new ≡ crashed_store choice.now self.old) }
         ensures err { OnErr result (self.new ≡ self.old) }
@@ -182,8 +182,8 @@ impl Store {
         Ok(())
     }
 
-    /// Opens a copy of the disk, and reads the map that its records stand for, the area byte, and how many bytes they take.
-    /// 40 `OutOfMemory` alone: no other refusal can come of a disk whose bytes recover to a map.
+    /// Opens a copy of the disk, and reads the map that its records represent, the area byte, and the number of bytes that the records
+    /// take. The only refusal is 40 `OutOfMemory`: a disk whose bytes recover to a map gives no other.
     pub(crate) fn reopen(&self, alloc: Global) -> Result<(UnitMap, u8, usize), LibraryFault>
         requires alone { LeavesAlone (bytes_of self.now.cells) (IsImage self.now.cells) }
         requires recovers { (units : Units) × Recovers (bytes_of self.now.cells) units }

@@ -1,6 +1,6 @@
 // Values by number: jobs by client, work by worker.
 
-ghost use Rattle.std.specs.Prelude.{◌≡◌, OnOk, OnErr, IsSome, IsOk};
+ghost use Rattle.std.specs.Prelude.{◌≡◌, OnOk, OnErr};
 ghost use Rattle.std.specs.Option.{option_copied};
 ghost use Rattle.std.specs.Ordering.{nat_cmp};
 ghost use Rattle.std.specs.FinMap as map;
@@ -28,7 +28,7 @@ impl<V> Model for Table<V> {
 }
 
 impl<V: Drop> Table<V> {
-    /// The table without a value.
+    /// The empty table.
     pub(crate) fn new(alloc: Global) -> Table<V>
         ensures { result ≡ map.empty }
     {
@@ -37,14 +37,14 @@ impl<V: Drop> Table<V> {
         }
     }
 
-    /// The value of this number, where there is one. It takes no memory.
+    /// The value of this number, if there is one. It takes no memory.
     pub(crate) fn get(&self, number: u64) -> Option<&V>
         ensures { option_copied result ≡ map.get self.now number }
     {
         self.values.get(&number)
     }
 
-    /// Sets the value of this number. Without memory the table stays as it was.
+    /// Sets the value of this number. If memory runs out, the table stays as it was.
     pub(crate) fn put(&mut self, number: u64, value: V) -> Result<(), AllocError>
         ensures ok { OnOk result (self.new ≡ map.insert self.old number value) }
         ensures err { OnErr result (self.new ≡ self.old) }
@@ -53,7 +53,7 @@ impl<V: Drop> Table<V> {
         Ok(())
     }
 
-    /// Takes the value of this number out, where there is one.
+    /// Removes the value of this number, if there is one.
     pub(crate) fn remove(&mut self, number: u64)
         ensures { self.new ≡ map.remove self.old number }
     {

@@ -1,3 +1,5 @@
--- A part of a run is shallow if it does not go wrong for depth: expressions and statements by recursion on the tree, where each call that they
--- make is shallow; calls by recursion on the steps, as the rank of what is called and the number of open calls stay below 1,024 together.
+-- A part of a run is shallow if it does not go wrong for depth. For expressions and statements this is shown by recursion on the
+-- tree, given that each call they make is shallow; for calls by recursion on the steps, because the rank of the called function
+-- and the number of open calls together stay below 1,024.
+-- runs that do not go wrong for depth
 pub mod Shallow

@@ -110,7 +110,7 @@ turns_shallow (suc n) test body behind a b c s =
 block_shallow : (part : State → Run Flow) → ((s : State) → Shallow (part s)) → (s : State) → Shallow (in_block part s)
 block_shallow part h s = then_shallow (part s) (λ flow t. Gives flow (left_scope (length s.locals) t)) (h s) (λ flow t. tt)
 
--- ---- expressions and statements, where each call that they make is shallow
+-- ---- expressions and statements, if each call that they make is shallow
 
 module _ (call : Calls) (Is : List ℕ → Type 0) (each : (f : List ℕ) → Is f → (ws : List ℕ) (s : State) → Shallow (call f ws s)) where
   mutual
@@ -248,7 +248,7 @@ module _ (call : Calls) (Is : List ℕ → Type 0) (each : (f : List ℕ) → Is
 -- ---- calls
 
 module _ (rank : List ℕ → ℕ) where
-  -- the function of a name calls only functions of lower ranks than that name
+  -- the function with a name calls only functions of lower rank than that name
   abbrev Lower : List ℕ → Option Function → Type 0
   Lower x None = Unit {0}
   Lower x (Some f) = InStatements (λ g. rank g < rank x) f.body

@@ -5,7 +5,7 @@ use Rattle.cc_ast.specs.Tree as tree
 use Rattle.cc_ast.specs.Tree.{Expr, Exprs, none, more, Number, Variable, Element, Call, Parenthesised, Unary, Cast, Binary, Conditional, Target, AtVariable, AtElement, Action, Assign, Step, Evaluate, Declarator, Beginning, Declares, Performs, Stmt, Stmts, end, next, Block, Perform, Return, Break, Continue, If, IfElse, While, DoWhile, For, External}
 use Rattle.cc_c_laws.specs.Meaning.{Function, functions, most_open}
 
--- each function that an expression calls is so, by its name
+-- `Is` holds of each function that an expression calls, by its name
 abbrev mutual
   pub InExpression : (List ℕ → Type 0) → Expr → Type 0
   InExpression Is (Number t n) = Unit {0}
@@ -47,7 +47,7 @@ abbrev pub InBeginning : (List ℕ → Type 0) → Beginning → Type 0
 InBeginning Is (Declares t ds) = InDeclarators Is ds
 InBeginning Is (Performs a) = InOptionalAction Is a
 
--- so each that a statement calls, or a list of statements
+-- the same of each function that a statement, or a list of statements, calls
 abbrev mutual
   pub InStatement : (List ℕ → Type 0) → Stmt → Type 0
   InStatement Is (Block all) = InStatements Is all
@@ -66,12 +66,12 @@ abbrev mutual
   InStatements Is end = Unit {0}
   InStatements Is (next first rest) = InStatement Is first × InStatements Is rest
 
--- a function calls only functions of lower ranks
+-- a function calls only functions of lower rank
 abbrev pub CallsLower : (rank : List ℕ → ℕ) → Function → Type 0
 CallsLower rank f = InStatements (λ g. rank g < rank f.name) f.body
 
--- The calls of a unit have no cycle: its functions have ranks, by name, and each calls only functions of lower ranks; that of main is below 1,024,
--- as it may be in every unit without a cycle, which has 64 functions at most.
+-- The calls of a unit have no cycle: its functions have ranks, by name, and each calls only functions of lower rank. The rank of
+-- main is below 1,024, which is always possible without a cycle, since a unit has at most 64 functions.
 pub record HasNoCycle (unit : List External) : Type 0 where
   pub rank : List ℕ → ℕ
   pub falls : AllByRecursion (CallsLower rank) (functions unit)

@@ -6,6 +6,6 @@ use Rattle.cc_c_laws.specs.Outcome.{Wrong}
 use Rattle.cc_c_laws.specs.declared.cause.Cause.TheVariants.{Depth}
 use Rattle.cc_depth.specs.Cycles.{HasNoCycle}
 
--- it never goes wrong for too many open calls
+-- such a program never goes wrong for too many open calls
 abbrev pub AcyclicProgramsAreNeverDeep : Type 0
 AcyclicProgramsAreNeverDeep = (s : Source) → HasNoCycle s.externals → (input : List ℕ) (n : ℕ) → (source_behavior s input n).stop ≢ Wrong Depth

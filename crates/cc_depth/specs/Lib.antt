@@ -1,4 +1,4 @@
 -- which functions a body calls, and units whose calls have no cycle
 pub mod Cycles
--- what holds of them
+-- what holds of such units
 pub mod Laws

@@ -1,4 +1,4 @@
-//! Which programs never have too many open calls: those whose calls have no cycle.
+//! Programs that never have too many open calls: those whose calls have no cycle.
 #![tactic(auto)]
 
 mod laws;

@@ -1,4 +1,4 @@
--- Taking one descriptor leaves the later ones as they were, so what is held for each tells whether it was free at the start.
+-- Taking one descriptor leaves the later ones as they were, so what is held for each says whether it was free at the start.
 use Rattle.std.proofs.Common.{◌≡◌, ◌∙◌, Bool, Option, None, Some, IfSome, not, if◌then◌else◌, refl, ap, subst}
 use Rattle.cc_descriptors.specs.Uses.{AreHeld, is_used, opened}
 use Rattle.cc_descriptors.specs.declared.descriptors.Access.TheVariants.{Reading, Writing}

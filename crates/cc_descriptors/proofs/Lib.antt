@@ -1,2 +1,2 @@
--- Each stand-in that is held is that of the descriptor whose place it has.
+-- Each stand-in that is held is for the descriptor that was free.
 pub mod Held

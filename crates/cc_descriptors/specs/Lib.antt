@@ -1,2 +1,2 @@
--- What the descriptors 0 to 2 are used for, what opening a stand-in makes of that, and what taking all that are free does.
+-- What the descriptors 0 to 2 are used for, how opening a stand-in changes that, and how taking all free ones does.
 pub mod Uses

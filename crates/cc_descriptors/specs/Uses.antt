@@ -18,7 +18,7 @@ use_of Input all = all.input
 use_of Output all = all.output
 use_of Error all = all.error
 
--- after a stand-in was opened: the least one that was free has it, if one of the three was
+-- after a stand-in was opened: the lowest of the three that was free has it, if one was
 abbrev pub opened : Access → Uses → Uses
 opened access all =
     if is_used all.input then
@@ -27,16 +27,16 @@ opened access all =
     else record { input = all.input; output = StandIn access; error = all.error })
     else record { input = StandIn access; output = all.output; error = all.error }
 
--- a stand-in if nothing else uses it
+-- a stand-in if nothing else uses the descriptor
 abbrev pub stood_in : Access → Use → Use
 stood_in access Free = StandIn access
 stood_in access Given = Given
 stood_in access (StandIn other) = StandIn other
 
--- all three are in use: the stand-in for standard input can only be written, those for the other two only read
+-- all three are in use: the stand-in for standard input can only be written, the other two can only be read
 abbrev pub taken : Uses → Uses
 taken all = record { input = stood_in Writing all.input; output = stood_in Reading all.output; error = stood_in Reading all.error }
 
--- whether a stand-in is held for each of them: for those that were free, and for no other
+-- stand-ins are held for exactly those that were free
 abbrev pub AreHeld : (input output error : Bool) → Uses → Type 0
 AreHeld input output error all = (input ≡ not (is_used all.input)) × (output ≡ not (is_used all.output)) × (error ≡ not (is_used all.error))

@@ -1,12 +1,12 @@
-// A system whose descriptors 0 to 2 contracts see.
+// A system whose descriptors 0 to 2 contracts can see.
 
-ghost use Rattle.std.specs.Prelude.{◌≡◌, Some, IfSome, OnOk, OnErr};
-ghost use Rattle.cc_descriptors.specs.Uses.{is_used, opened, use_of};
+ghost use Rattle.std.specs.Prelude.{◌≡◌, Some};
+ghost use Rattle.cc_descriptors.specs.Uses.{is_used};
 
 use crate::descriptors::{Access, Descriptors, Standard, Use, Uses};
 use std::io;
 
-/// A system whose descriptors 0 to 2 are known, and which refuses no stand-in: for tests.
+/// A system whose descriptors 0 to 2 are known, and which refuses no stand-in. For tests.
 #[derive(Clone, Copy, Debug, Drop)]
 pub struct KnownDescriptors {
     pub uses: Uses,

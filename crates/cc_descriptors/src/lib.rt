@@ -1,11 +1,14 @@
 //! The descriptors 0 to 2: standard input, output and error.
 //!
-//! The system gives a file that is opened the least descriptor that is free. So in a process that was started with one of these three closed
-//! the next file gets it, as the file of a library, and what is printed goes into that file. A program takes the free ones before it opens
-//! anything: a stand-in for standard input, which can't be read, and one each for the other two, which can't be written.
+//! The system gives a file that is opened the lowest free descriptor. So if a process is started with one of these three closed,
+//! the next file gets that descriptor: for example, a library's file, and then what the process prints goes into it. To prevent
+//! this, a program takes the free ones before it opens anything: a stand-in that cannot be read for standard input, and one that
+//! cannot be written for each of the other two.
 //!
-//! `descriptors` has what is asked of a system, `taking` takes what is free, `system` is the real system, `known` one whose descriptors
-//! contracts see.
+//! - `descriptors`: what is needed of a system.
+//! - `taking`: takes the free descriptors.
+//! - `system`: the real system.
+//! - `known`: a system whose descriptors contracts can see.
 #![tactic(auto)]
 
 mod descriptors;

@@ -1,4 +1,4 @@
-// The real system, of whose descriptors no contract says what they are used for.
+// The real system. No contract says what its descriptors are used for.
 
 ghost use Rattle.std.specs.Prelude.{None};
 
@@ -7,7 +7,7 @@ use std::fs::{File, OpenOptions};
 use std::io;
 use std::os::fd::AsFd;
 
-/// The system's number for a call on a descriptor that is not in use (EBADF).
+/// The system's error number for a call on a descriptor that is not in use (EBADF).
 const NOT_IN_USE: i32 = 9;
 
 /// The real system.
@@ -16,7 +16,7 @@ pub struct System {
     pub rt: HostRuntime,
 }
 
-// Whether a descriptor is in use: a copy of one that is may be refused for want of room, but not by that number.
+// Whether a descriptor is in use. To copy one that is in use may fail for lack of resources, but not with that number.
 fn is_used<F: AsFd>(file: &F) -> bool {
     match file.as_fd().try_clone_to_owned() {
         Ok(_) => true,
@@ -37,7 +37,7 @@ impl Descriptors for System {
         }
     }
 
-    // A directory can't be read as a file nor written, so it serves too if there is no `/dev/null`.
+    // A directory can be neither read as a file nor written, so it serves too if there is no `/dev/null`.
     fn open(&mut self, access: Access) -> io::Result<File> {
         let mut how = OpenOptions::new();
         match access {

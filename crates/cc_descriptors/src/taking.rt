@@ -1,5 +1,5 @@
-// Takes those of the descriptors 0 to 2 that are free, the least first: a file gets the least that is free, so each stand-in gets the one
-// that it is meant for.
+// Takes the free ones of the descriptors 0 to 2, lowest first. A file gets the lowest free descriptor, so each stand-in gets the
+// one that it is meant for.
 
 ghost use Rattle.std.specs.Prelude.{◌≡◌, Some, IfOk, IfSome, OnOk, is_some, not, if◌then◌else◌};
 ghost use Rattle.cc_descriptors.specs.Uses.{AreHeld, is_used, opened, taken, use_of};
@@ -7,7 +7,7 @@ ghost use Rattle.cc_descriptors.specs.Uses.{AreHeld, is_used, opened, taken, use
 use crate::descriptors::{Access, Descriptors, Standard};
 use std::io;
 
-/// The stand-ins of the descriptors that were free. As long as it lives, no file that is opened gets one of the three.
+/// The stand-ins for the descriptors that were free. As long as they exist, no file that is opened gets one of the three.
 #[derive(Drop)]
 pub struct StandIns<S: Drop> {
     pub input: Option<S>,
@@ -34,10 +34,11 @@ fn take<D: Descriptors>(
     }
 }
 
-/// Takes those of the three descriptors that are free, before anything else is opened. A read of a stand-in for standard input fails, and so
-/// does a write to the other two.
+/// Takes the free ones of the three descriptors; call it before anything else is opened. A read of the stand-in for standard
+/// input fails, and so does a write to the other two.
 ///
-/// An `Err` if the system refused a stand-in. Then a file that is opened may get one of the three, so the program is not to open any.
+/// An `Err` means that the system refused a stand-in. Then a file that is opened may get one of the three, so the program must
+/// not open any.
 pub fn take_free<D: Descriptors>(system: &mut D) -> io::Result<StandIns<D::StandIn>>
     ensures taken { OnOk result (IfSome (D.uses system.old) (λ it. D.uses system.new ≡ Some (taken it))) }
     ensures held { IfOk result (λ all. IfSome (D.uses system.old) (AreHeld (is_some all.input) (is_some all.output) (is_some all.error))) }

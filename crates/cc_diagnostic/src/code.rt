@@ -1,10 +1,11 @@
-// What a tree becomes to be run once more: instructions over a stack of words, each of those that can go wrong with its place.
+// What a tree becomes in order to be run once more: instructions over a stack of words; those that can go wrong have their
+// places.
 
 use cc_resolve::{Extent, UnaryOperation};
 use cc_syntax::{BinaryOperator, Identifier};
 use cc_tokens::Scalar;
 
-/// An array whose element is read or written, as the text names it there, and the type of the index.
+/// An array whose element is read or written, with the name in the text, and the type of the index.
 #[derive(Clone, Copy)]
 pub struct Element<'a> {
     pub array: &'a Identifier,
@@ -12,7 +13,7 @@ pub struct Element<'a> {
     pub index: Scalar,
 }
 
-/// A binary operator, the offset of its token where it can go wrong, the type in which it works, and that of its right operand.
+/// A binary operator, the offset of its token if it can go wrong, the type in which it works, and the type of its right operand.
 #[derive(Clone, Copy)]
 pub struct TypedOperator {
     pub operator: BinaryOperator,
@@ -21,7 +22,7 @@ pub struct TypedOperator {
     pub right: Scalar,
 }
 
-/// One step of the replay. A jump goes to the instruction with a number.
+/// One step of the replay. A jump goes to the instruction with the given number.
 #[derive(Clone, Copy)]
 pub enum Instruction<'a> {
     /// Pushes a word.
@@ -32,44 +33,44 @@ pub enum Instruction<'a> {
     Global(usize),
     /// Replaces an index by the array's element.
     Element(Element<'a>),
-    /// Puts the array's element below the newest word; its index is the word below that, and stays.
+    /// Puts the array's element below the newest word. Its index, the word below that, stays.
     ElementBelow(Element<'a>),
     /// Swaps the two newest words.
     Swap,
-    /// Takes a word into a variable of the function.
+    /// Takes a word and stores it in a variable of the function.
     SetLocal(usize),
-    /// Takes a word into a word of the objects at file scope.
+    /// Takes a word and stores it in a word of the objects at file scope.
     SetGlobal(usize),
-    /// Takes a word, and an index below it, and stores the word in the array's element.
+    /// Takes a word and the index below it, and stores the word in the array's element.
     SetElement(Element<'a>),
     Unary(UnaryOperation),
-    /// Replaces two words, the left one below the right one, by one.
+    /// Replaces two words, the left one below the right one, by the operator's value.
     Binary(TypedOperator),
-    /// Takes a word away.
+    /// Removes a word.
     Drop,
-    /// Replaces a word by 1, and 0 stays.
+    /// Replaces a word other than 0 by 1, and keeps 0.
     Truth,
-    /// Where the word is 0, leaves it and jumps; else takes it away.
+    /// If the word is 0, keeps it and jumps; otherwise removes it.
     AndThen(usize),
-    /// Where the word is not 0, replaces it by 1 and jumps; else takes it away.
+    /// If the word is not 0, replaces it by 1 and jumps; otherwise removes it.
     OrElse(usize),
     Jump(usize),
-    /// Takes a word, and jumps where it is 0.
+    /// Takes a word, and jumps if it is 0.
     JumpIfZero(usize),
     /// Spends a step.
     Step,
-    /// Calls the function with a number, named here.
+    /// Calls the function with this number, by the given name.
     Call(usize, &'a Identifier),
-    /// Pushes the next word of the input, and 0 where none is left.
+    /// Pushes the next word of the input, or 0 if none is left.
     Read,
     /// Replaces the word that is written by 0.
     Write,
-    /// Leaves the function with a word.
+    /// Returns from the function with a word.
     Return,
 }
 
-/// A function: its name, and, once it is defined, where its instructions begin, how many parameters it has and how many other
-/// variables.
+/// A function: its name, and, once it is defined, the number of its first instruction, how many parameters it has and how many
+/// other variables.
 #[derive(Clone, Copy)]
 pub struct Function<'a> {
     pub name: &'a Identifier,
@@ -78,7 +79,7 @@ pub struct Function<'a> {
     pub variables: usize,
 }
 
-/// What a unit becomes: the instructions of its functions one behind the other, and its functions in the order of their first
+/// What a unit becomes: the instructions of its functions one after another, and its functions in the order of their first
 /// declarations.
 #[derive(Drop)]
 pub struct Bytecode<'a> {
@@ -87,7 +88,7 @@ pub struct Bytecode<'a> {
 }
 
 impl<'a> Bytecode<'a> {
-    /// The number of the function of a name.
+    /// The number of the function with this name.
     pub fn function(&self, name: &[u8]) -> Option<usize> {
         self.functions
             .iter()

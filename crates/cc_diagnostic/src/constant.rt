@@ -1,21 +1,21 @@
-// Why a constant expression is none: it has a name, or a call, or its value is not defined.
+// Why an expression is not a constant expression: it has a name, or a call, or its value is not defined.
 //
-// The reason is read off its tokens: the first name decides.
+// The reason is found in its tokens: the first name decides.
 
 use cc_tokens::{NextToken, Token, TokenKind, next_token};
 
-/// Why a constant expression is none.
+/// Why an expression is not a constant expression.
 #[derive(Clone, Copy)]
 pub enum Cause {
-    /// It has a name, which stands in these bytes of the text.
+    /// It has a name, at these bytes of the text.
     Name(usize, usize),
-    /// It has a call of a name.
+    /// It has a call of a name, at these bytes.
     Call(usize, usize),
-    /// It divides by 0, or shifts too far.
+    /// It divides by 0, or shifts by too much.
     Undefined,
 }
 
-// The token at an offset or behind it.
+// The token at or after an offset.
 fn token_at(text: &[u8], at: usize) -> Option<Token> {
     match next_token(text, at.min(text.len())) {
         NextToken::Token(token) => Some(token),
@@ -23,7 +23,7 @@ fn token_at(text: &[u8], at: usize) -> Option<Token> {
     }
 }
 
-// Whether a token ends a constant expression that has had no name.
+// Whether a token ends a constant expression that has no name so far.
 fn is_end(text: &[u8], token: Token) -> bool {
     match text.get(token.from) {
         Some(byte) => matches!(*byte, b',' | b';' | b']' | b'}'),
@@ -31,7 +31,7 @@ fn is_end(text: &[u8], token: Token) -> bool {
     }
 }
 
-// A name, or a call of it where a parenthesis follows.
+// The cause for a name, or for a call of it if a parenthesis follows.
 fn of_name(text: &[u8], name: Token) -> Cause {
     match token_at(text, name.to) {
         Some(token) if text.get(token.from) == Some(&b'(') => Cause::Call(name.from, name.to),
@@ -39,7 +39,7 @@ fn of_name(text: &[u8], name: Token) -> Cause {
     }
 }
 
-/// Why the constant expression is none that begins at an offset of a text.
+/// Why the expression at this offset of a text is not a constant expression.
 pub fn why(text: &[u8], at: usize) -> Cause {
     let mut at = at;
     for _ in 0..text.len() {

@@ -58,7 +58,7 @@ pub fn first_of<'a>(list: &[Declaration<'a>], name: &[u8]) -> Option<Declaration
         .find(|declaration| declaration.name.bytes.as_slice() == name)
 }
 
-/// The declaration whose name stands at an offset.
+/// The declaration whose name is at an offset.
 pub fn named_at<'a>(list: &[Declaration<'a>], at: usize) -> Option<Declaration<'a>> {
     list.iter()
         .copied()

@@ -1,4 +1,4 @@
-// Whether a statement is never left at its end.
+// Whether the end of a statement is never reached.
 
 use cc_syntax::{Expression, Statement};
 
@@ -33,7 +33,7 @@ fn breaks(tree: &Statement) -> bool {
     }
 }
 
-/// Whether a list of statements is never left at its end: it returns there, or goes round a loop without end.
+/// Whether the end of a list of statements is never reached: it returns before, or loops for ever.
 #[cycle(ends)]
 pub fn never_left(trees: &[Statement]) -> bool {
     match trees.last() {

@@ -1,8 +1,9 @@
-// The errors of scope and type behind the first.
+// The errors of scope and type after the first.
 //
-// `check` tells one. The next one is found in a copy of the text in which the one before is mended, so that no rule is written twice;
-// what is told of it is told of the text itself. A name that was told to be declared nowhere, or twice, is not told again, nor is what
-// only a mend has made wrong. Each turn checks the copy once and walks over the text, and there are 20 turns at most.
+// `check` reports one error. The next one is found in a copy of the text in which the previous one is mended, so that no rule is
+// implemented twice; the report is about the text itself. A name that was reported as undeclared, or as declared twice, is not
+// reported again, and neither is an error that only a mend has caused. Each turn checks the copy once and walks over the text,
+// and there are at most 20 turns.
 
 use super::declarations::{Declaration, declarations, first_of, named_at};
 use super::mended::Mended;
@@ -15,7 +16,7 @@ use cc_typing::check;
 use std::alloc::{AllocError, Global};
 use std::mem::replace;
 
-/// How many errors are told at most, the first among them.
+/// The most errors that are reported, the first one included.
 const MOST_TOLD: usize = 20;
 
 /// A fault of the copy, and its offset in the text.
@@ -25,9 +26,9 @@ struct Found {
     at: usize,
 }
 
-/// A search for errors: the text with its tree, what its file scope declares, and its copy; the names that it declares twice; the number
-/// and the offset of the fault that was mended last, the offset of the last one that was told, and whether 19 or 20 was found, which come
-/// behind all others; and what is told.
+/// A search for errors: the text with its tree, its declarations at file scope, and its copy; the names that it declares twice;
+/// the number and the offset of the fault that was mended last, and the offset of the last one that was reported; whether 19 or
+/// 20 was found, which come after all others; and the reports.
 #[derive(Drop)]
 struct Search<'a> {
     unit: &'a Unit,
@@ -41,7 +42,7 @@ struct Search<'a> {
     told: Vec<Diagnostic>,
 }
 
-// Whether a name is used.
+// Whether this is a use of a name.
 fn is_use(done: Use) -> bool {
     match done {
         Use::Read | Use::Indexed | Use::Written | Use::Called(_) => true,
@@ -49,7 +50,7 @@ fn is_use(done: Use) -> bool {
     }
 }
 
-// The fault of a unit, where it breaks a rule and passes no limit.
+// The fault of a unit, or `None` if it breaks no rule and passes no limit.
 fn fault_of(alloc: Global, unit: Unit) -> Result<Option<TypeFault>, AllocError> {
     match check(alloc, unit) {
         Ok(typed) => {
@@ -62,7 +63,7 @@ fn fault_of(alloc: Global, unit: Unit) -> Result<Option<TypeFault>, AllocError> 
     }
 }
 
-// The fault of a text that has a tree, and its offset behind this many bytes.
+// The fault of a text that has a tree, and its offset less this many bytes.
 fn found_in(alloc: Global, text: &[u8], shift: usize) -> Result<Option<Found>, AllocError> {
     match parse(alloc, text) {
         Ok(unit) => match fault_of(alloc, unit)? {
@@ -105,7 +106,7 @@ impl<'a> Search<'a> {
         false
     }
 
-    // Whether a fault of the copy is one of the text that was not told.
+    // Whether a fault of the copy is one of the text, and has not been reported.
     fn is_new(&self, fault: &TypeFault, at: usize, note: Option<Note<'a>>) -> bool {
         let word = word_at(self.unit.text(), at);
         match (fault, note) {
@@ -119,7 +120,8 @@ impl<'a> Search<'a> {
         }
     }
 
-    // Up to where a name that breaks a rule at an offset becomes another one: as far as it stands for nothing, or for the later of two.
+    // Up to which offset a name that breaks a rule at an offset is renamed: as far as it denotes nothing, or the later of two
+    // declarations.
     fn until(&self, fault: &TypeFault, at: usize, word: &[u8]) -> usize {
         let declared = self.declarations.as_slice();
         let end = self.unit.text().len();
@@ -162,7 +164,7 @@ impl<'a> Search<'a> {
         mended
     }
 
-    // Keeps what is to be known later of a fault at an offset.
+    // Notes what must be known later about a fault at an offset.
     fn keep(&mut self, fault: &TypeFault, at: usize) -> Result<(), AllocError> {
         self.number = fault.number();
         self.at = at;
@@ -200,8 +202,8 @@ impl<'a> Search<'a> {
         }
     }
 
-    // Tells of a fault of the copy at an offset, where it is new and not too many were told, and mends it. Answers whether it is not the
-    // one that was mended last.
+    // Reports a fault of the copy at an offset, if it is new and not too many were reported, and mends it. Returns false if it is
+    // the one that was mended last.
     fn turn(&mut self, alloc: Global, fault: &TypeFault, at: usize) -> Result<bool, AllocError> {
         if at == self.at && fault.number() == self.number {
             return Ok(false);
@@ -209,7 +211,7 @@ impl<'a> Search<'a> {
         let note = noted(alloc, self.unit, at)?;
         if self.is_new(fault, at, note) {
             self.last = at;
-            // The first is told by another call.
+            // The first one is reported by another call.
             if self.told.len() + 1 < MOST_TOLD {
                 let told = told_of(alloc, self.unit, note, fault, at)?;
                 self.told.push(told)?;
@@ -219,7 +221,7 @@ impl<'a> Search<'a> {
         Ok(true)
     }
 
-    // The fault of the copy.
+    // The next fault of the copy.
     fn next(&self, alloc: Global) -> Result<Option<Found>, AllocError> {
         let joined = self.copy.joined(alloc)?;
         let found = found_in(alloc, joined.as_slice(), self.copy.shift());
@@ -227,7 +229,7 @@ impl<'a> Search<'a> {
         found
     }
 
-    // Tells of the errors behind the one that was mended last.
+    // Reports the errors after the one that was mended last.
     fn go_on(&mut self, alloc: Global) -> Result<(), AllocError> {
         for _ in 0..MOST_TOLD {
             let Some(Found { fault, at }) = self.next(alloc)? else {
@@ -249,7 +251,7 @@ impl<'a> Search<'a> {
         Ok(())
     }
 
-    // Tells of the errors behind the first one.
+    // Reports the errors after the first one.
     fn begin(&mut self, alloc: Global, first: &TypeFault) -> Result<(), AllocError> {
         if let Some(at) = offset_in(self.unit.text(), first.place()) {
             let note = noted(alloc, self.unit, at)?;
@@ -261,7 +263,7 @@ impl<'a> Search<'a> {
     }
 }
 
-// What is told of the errors of a unit behind the first one.
+// The reports of the errors of a unit after the first one.
 fn of_unit(alloc: Global, unit: &Unit, first: &TypeFault) -> Result<Vec<Diagnostic>, AllocError> {
     let mut search = Search::new(alloc, unit)?;
     let found = search.begin(alloc, first);
@@ -276,11 +278,11 @@ fn of_unit(alloc: Global, unit: &Unit, first: &TypeFault) -> Result<Vec<Diagnost
     }
 }
 
-/// What is told of the errors of scope and type behind the first one, which is the fault that `check` answers for the tree of a text:
-/// up to 19, in the order of their places, those of 19 and 20 last, and that there are more. A limit that is passed (21) is told only where
-/// it is the first. Nothing for a text without a tree.
+/// Makes diagnostics of the errors of scope and type after the first one, which is the fault that `check` returned for the text's
+/// tree: up to 19, in the order of their places, with 19 (NoMain) and 20 (Undefined) last, and a note if there are more. A limit
+/// that is passed (21) is reported only if it comes first. A text without a tree has none.
 ///
-/// A text is checked 20 times at most. `AllocError` where memory for it runs out.
+/// Checks at most 20 versions of the text. `AllocError` if memory runs out.
 pub fn further_of_typing(
     alloc: Global,
     text: &[u8],

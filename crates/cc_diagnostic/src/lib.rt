@@ -1,14 +1,16 @@
-//! What a person is told of a text beside its answer: of a fault what stands there and what was expected, and of a program what it is
-//! warned of.
+//! What to report about a text beside its fault: what was found and what was expected, and for a program its warnings.
 //!
-//! What is told, how it is written, and what is told of a text without a tree, is that of `cc_syntax_diagnostic`, and handed out here too.
-//! `typing` tells of a tree that breaks a rule, and `constant` why a constant expression is none; `further` tells of the errors behind the
-//! first, by checking a copy of the text in which that one is `mended`. `walk` goes over a tree with the names in scope (`names`); it notes
-//! what a name stood for, finds what is warned of (`warning`, `ends`), and writes instructions (`code`), with the places of the `operators`
-//! that can go wrong: what is told of runs, in `cc_run_diagnostic`, is found by running these.
+//! Diagnostics, how they are written, and those of a text without a tree are in `cc_syntax_diagnostic`, whose items this crate
+//! exports too.
 //!
-//! The answers themselves are those of the crates below: what is told here rests on the text and the answer alone, and no promise
-//! rests on it. Each call is safe, ends, and refuses nothing but for lack of memory.
+//! - `typing`: a tree that breaks a rule; `constant`: why an expression is not constant.
+//! - `further`: the errors after the first, found by checking a copy of the text in which that one is `mended`.
+//! - `walk`: visits a tree with the names in scope (`names`). It notes what a name denotes, finds what to warn about (`warning`,
+//!   `ends`), and writes instructions (`code`) with the places of the `operators` that can go wrong. `cc_run_diagnostic` runs
+//!   these to report on runs.
+//!
+//! The faults themselves come from the crates below; a report depends only on the text and the fault, and no promise depends on a
+//! report. Each call is safe and ends, and fails only for lack of memory.
 #![tactic(auto)]
 
 mod code;

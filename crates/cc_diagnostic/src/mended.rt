@@ -1,32 +1,32 @@
 // A copy of a text in which errors of scope and type are mended, to find the next ones.
 //
-// A name that breaks a rule gets another first letter, with which it stands nowhere else, and a declaration in front of the text makes of
-// the new name what its use needs. A word that stands wrong becomes blank, and a constant expression that is none becomes `1`. So each
-// byte of the text keeps its offset.
+// A name that breaks a rule gets another first letter, such that the new name occurs nowhere else, and a declaration before the
+// text makes the new name what its use needs. A wrong keyword becomes blank, and an expression that is not constant becomes `1`.
+// So each byte of the text keeps its offset.
 
 use super::walk::Use;
 use cc_tokens::{SyntaxFault, Token, tokens};
 use std::alloc::{AllocError, Global};
 
-/// With what a new name may begin.
+/// What a new name may begin with.
 const LETTERS: &[u8] = b"ABCDEFGHIJKLMNOPQRSTUVWXYZabcdefghijklmnopqrstuvwxyz_";
 
 /// As many parameters as a function may have.
 const PARAMETERS: &[u8] = b"int a,int b,int c,int d,int e,int f,int g,int h";
 
-/// A copy of a text, and the declarations in front of it.
+/// A copy of a text, and the declarations before it.
 #[derive(Drop)]
 pub struct Mended {
     declared: Vec<u8>,
     text: Vec<u8>,
 }
 
-// A word behind its first letter.
+// A word without its first letter.
 fn tail(word: &[u8]) -> &[u8] {
     word.get(1..).unwrap_or(b"")
 }
 
-// The first token behind an offset.
+// The first token after an offset.
 fn token_behind(tokens: &[Token], at: usize) -> Option<Token> {
     for token in tokens {
         if token.from > at {
@@ -37,7 +37,7 @@ fn token_behind(tokens: &[Token], at: usize) -> Option<Token> {
 }
 
 impl Mended {
-    /// A text, nothing mended.
+    /// Returns a copy of a text, with nothing mended.
     pub fn new(alloc: Global, text: &[u8]) -> Result<Mended, AllocError> {
         Ok(Mended {
             declared: Vec::new(alloc),
@@ -45,12 +45,12 @@ impl Mended {
         })
     }
 
-    /// How many bytes stand in front of the text.
+    /// How many bytes precede the text.
     pub fn shift(&self) -> usize {
         self.declared.len()
     }
 
-    /// The declarations, and the text behind them.
+    /// The declarations followed by the text.
     pub fn joined(&self, alloc: Global) -> Result<Vec<u8>, AllocError> {
         let mut joined = Vec::from_slice(alloc, self.declared.as_slice())?;
         match joined.extend_from_slice(self.text.as_slice()) {
@@ -84,7 +84,7 @@ impl Mended {
         }
     }
 
-    /// Makes the bytes from an offset to another one blank. Ends of lines stay.
+    /// Makes the bytes from one offset up to another blank. Ends of lines remain.
     pub fn blank(&mut self, from: usize, to: usize) {
         for at in from..to.min(self.text.len()) {
             if self.byte(at) != b'\n' {
@@ -93,13 +93,13 @@ impl Mended {
         }
     }
 
-    // Whether a token is a word with another first letter.
+    // Whether a token is this word with another first letter.
     fn is(&self, token: Token, letter: u8, word: &[u8]) -> bool {
         let bytes = self.text.get(token.from..token.to).unwrap_or(b"");
         bytes.first() == Some(&letter) && tail(bytes) == tail(word)
     }
 
-    // Whether a word stands in the text with another first letter.
+    // Whether this word occurs in the text with another first letter.
     fn has(&self, tokens: &[Token], letter: u8, word: &[u8]) -> bool {
         for token in tokens {
             if self.is(*token, letter, word) {
@@ -109,7 +109,7 @@ impl Mended {
         false
     }
 
-    // The first letter with which the name does not stand in the text; its own where there is none.
+    // The first letter with which the name does not occur in the text, or its own letter if it occurs with each.
     fn free_letter(&self, tokens: &[Token], word: &[u8]) -> u8 {
         for letter in LETTERS {
             if !self.has(tokens, *letter, word) {
@@ -119,7 +119,7 @@ impl Mended {
         word.first().copied().unwrap_or(b'_')
     }
 
-    // Gives a name that stands at an offset another first letter, there and up to another offset.
+    // Gives the name at an offset another first letter, there and up to another offset.
     fn rename(&mut self, tokens: &[Token], word: &[u8], letter: u8, at: usize, to: usize) {
         let old = self.byte(at);
         for token in tokens {
@@ -129,7 +129,7 @@ impl Mended {
         }
     }
 
-    // Declares a name with a first letter as a use needs it.
+    // Declares a name with a first letter, as its use needs it.
     fn declare(&mut self, letter: u8, word: &[u8], done: Use) -> Result<(), AllocError> {
         self.declared.extend_from_slice(b"int ")?;
         self.declared.push(letter)?;
@@ -147,8 +147,8 @@ impl Mended {
         }
     }
 
-    /// Mends a name that breaks a rule at an offset: wherever it stands from there to another offset it becomes another one, which is declared
-    /// as it is used there. What is no use but a declaration declares it.
+    /// Mends a name that breaks a rule at an offset: from there up to another offset it is renamed, and the new name is declared
+    /// as it is used there. A use that is itself a declaration declares it.
     pub fn mend_name(
         &mut self,
         tokens: &[Token],
@@ -165,7 +165,7 @@ impl Mended {
         }
     }
 
-    // Where the constant expression ends that begins at an offset.
+    // The offset at which the constant expression ends that begins at an offset.
     fn end_of_constant(&self, tokens: &[Token], at: usize) -> usize {
         let mut depth: usize = 0;
         for token in tokens {
@@ -182,14 +182,14 @@ impl Mended {
         self.text.len()
     }
 
-    /// Mends a constant expression that begins at an offset and is none.
+    /// Mends an expression at an offset that should be constant and is not.
     pub fn mend_constant(&mut self, tokens: &[Token], at: usize) {
         let end = self.end_of_constant(tokens, at);
         self.blank(at, end);
         self.put(at, b'1');
     }
 
-    /// Mends the length of an array whose name stands at an offset: its list gives it, or it is 1.
+    /// Mends the length of the array whose name is at an offset: its list gives the length, or it is 1.
     pub fn mend_length(
         &mut self,
         tokens: &[Token],
@@ -209,13 +209,13 @@ impl Mended {
             self.put(open.to, b'1');
             return Ok(());
         }
-        // There is no room between the brackets, so the array stands in front of the text.
+        // There is no room between the brackets, so the array is declared before the text.
         self.blank(open.from, close.saturating_add(1));
         self.declare(self.byte(at), word, Use::Indexed)?;
         self.mend_name(tokens, word, Use::Declared, at, at.saturating_add(1))
     }
 
-    /// Adds a definition of `main` in front of the text.
+    /// Adds a definition of `main` before the text.
     pub fn add_main(&mut self) -> Result<(), AllocError> {
         self.declared.extend_from_slice(b"int main(void){}")
     }

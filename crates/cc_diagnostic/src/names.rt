@@ -1,24 +1,24 @@
-// The names in scope, with where each was declared and where it leads.
+// The names in scope, with the place of each declaration and what the name refers to.
 
 use cc_resolve::Extent;
 use cc_syntax_diagnostic::near_name;
 use cc_types::{Bindings, Entity, READ_WORD, WRITE_WORD};
 use std::alloc::{AllocError, Global};
 
-/// Where a name leads.
+/// What a name refers to.
 #[derive(Clone, Copy)]
 pub enum Lead {
-    /// The variable of the function with this number; its parameters come first.
+    /// The variable of the function with this number; parameters come first.
     Local(usize),
     /// These words of the objects at file scope.
     Words(Extent),
     /// The function with this number, in the order of first declarations.
     Function(usize),
-    /// A function that is built in.
+    /// A builtin function.
     Builtin,
 }
 
-/// What a name stands for, the offset of the name in its first declaration, none for what is built in, and where it leads.
+/// What a name denotes, the offset of the name in its first declaration (`None` for a builtin), and what it refers to.
 #[derive(Clone, Copy)]
 pub struct Standing<'a> {
     pub entity: Entity<'a>,
@@ -26,7 +26,7 @@ pub struct Standing<'a> {
     pub lead: Lead,
 }
 
-/// The names in scope. Those from `inner` on belong to the innermost scope.
+/// The names in scope. Those from number `inner` on belong to the innermost scope.
 #[derive(Drop)]
 pub struct Names<'a> {
     bindings: Bindings<'a>,
@@ -46,7 +46,7 @@ impl<'a> Names<'a> {
         }
     }
 
-    /// Adds the functions that are built in.
+    /// Adds the builtin functions.
     pub fn add_builtins(&mut self) -> Result<(), AllocError> {
         let (at, lead) = (None, Lead::Builtin);
         self.declare(
@@ -75,13 +75,13 @@ impl<'a> Names<'a> {
         Ok(())
     }
 
-    /// What a name stands for.
+    /// What a name denotes.
     pub fn find(&self, name: &[u8]) -> Option<Standing<'a>> {
         let newest = self.bindings.find(name)?;
         self.standings.get(newest.number).copied()
     }
 
-    /// What a name stands for that the innermost scope declared.
+    /// What a name denotes, if the innermost scope declared it.
     pub fn find_inner(&self, name: &[u8]) -> Option<Standing<'a>> {
         let newest = self.bindings.find(name)?;
         if newest.number < self.inner {
@@ -90,19 +90,20 @@ impl<'a> Names<'a> {
         self.standings.get(newest.number).copied()
     }
 
-    /// The name in scope that is nearest to another one, where one is near.
+    /// The name in scope that is nearest to another one, if one is near.
     pub fn near(&self, name: &[u8]) -> Option<&'a [u8]> {
         near_name(self.words.as_slice(), name)
     }
 
-    /// Begins an inner scope, and answers where the one around it began, for the `close` that ends it.
+    /// Opens an inner scope, and returns the number of the first name of the scope around it. The `close` that ends the inner
+    /// scope takes that number.
     pub fn open(&mut self) -> usize {
         let around = self.inner;
         self.inner = self.standings.len();
         around
     }
 
-    /// Ends the innermost scope, whose names go.
+    /// Closes the innermost scope and removes its names.
     pub fn close(&mut self, around: usize) {
         for _ in self.inner..self.standings.len() {
             self.standings.pop();

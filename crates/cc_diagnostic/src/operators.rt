@@ -1,9 +1,9 @@
-// The operators of a text that can go wrong, by their tokens.
+// The operators of a text that can go wrong, found by their tokens.
 
 use cc_tokens::{Punctuator, Token, TokenKind, tokens};
 use std::alloc::{AllocError, Global};
 
-// The operators that can go wrong are these punctuators.
+// Whether a token is an operator that can go wrong.
 fn can_go_wrong(token: Token) -> bool {
     // ORDER BinaryOperator
     match token.kind {
@@ -22,7 +22,7 @@ fn can_go_wrong(token: Token) -> bool {
     }
 }
 
-/// The offsets of the operators that can go wrong in a text that has tokens, in its order.
+/// The offsets of the operators that can go wrong, in the order of the text; `None` if the text has no tokens.
 pub fn operators(alloc: Global, text: &[u8]) -> Result<Option<Vec<usize>>, AllocError> {
     match tokens(alloc, text) {
         Ok(tokens) => {

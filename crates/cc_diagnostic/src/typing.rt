@@ -1,4 +1,4 @@
-// What is told of a tree that breaks a rule or passes a limit.
+// Messages about a tree that breaks a rule or passes a limit.
 
 ghost use Rattle.std.specs.Prelude.{◌≡◌, ◌≤◌, length, is_some, IfOk, IfSome};
 ghost use Rattle.cc_types.specs.Fault.{fault_place};
@@ -17,7 +17,7 @@ use cc_types::{
 };
 use std::alloc::{AllocError, Global};
 
-/// A text in which a fault stands: the fault's offset, the word there, what the walk noted of it, and all that file scope declares.
+/// A text with a fault: the fault's offset, the word there, what the walk noted about it, and all declarations of file scope.
 #[derive(Clone, Copy)]
 struct View<'a> {
     text: &'a [u8],
@@ -57,7 +57,7 @@ impl<'a> View<'a> {
         }
     }
 
-    // The offset of the first declaration of what the name stands for, where it is not built in.
+    // The offset of the first declaration of what the name denotes, unless it is a builtin.
     fn declared_at(&self) -> Option<usize> {
         match self.standing {
             Some(standing) => standing.at,
@@ -65,19 +65,19 @@ impl<'a> View<'a> {
         }
     }
 
-    // The word, what is said of it, and a place.
+    // The word, what to say about it, and a place.
     fn with_place(&self, alloc: Global, said: &'a str, at: usize) -> Result<String, AllocError> {
         let place = MessagePart::Place(place_in(self.text, at));
         message(alloc, &[self.word(), MessagePart::Words(said), place])
     }
 
-    // The word, and what is said of it.
+    // The word, and what to say about it.
     fn with(&self, alloc: Global, said: &'a str) -> Result<String, AllocError> {
         message(alloc, &[self.word(), MessagePart::Words(said)])
     }
 }
 
-// What a name stands for.
+// What a name denotes.
 fn kind(standing: Standing<'_>) -> &'static str {
     match standing.entity {
         Entity::Variable(_) => " is a variable",
@@ -97,7 +97,7 @@ fn not_done(done: Use) -> &'static str {
     }
 }
 
-// A constant expression that is none.
+// An expression that should be constant and is not.
 fn no_constant(alloc: Global, view: &View<'_>) -> Result<String, AllocError> {
     let (said, from, to) = match why(view.text, view.at) {
         Cause::Name(from, to) => ("it has the name ", from, to),
@@ -113,7 +113,7 @@ fn no_constant(alloc: Global, view: &View<'_>) -> Result<String, AllocError> {
     message(alloc, &[told, MessagePart::Words(said), name])
 }
 
-// A name that is no name for what is done with it, or a constant expression that is none.
+// A name that cannot be used as it is, or an expression that should be constant and is not.
 fn misused(alloc: Global, view: &View<'_>) -> Result<String, AllocError> {
     let (Some(done), Some(standing)) = (view.done, view.standing) else {
         return no_constant(alloc, view);
@@ -140,7 +140,7 @@ fn misused(alloc: Global, view: &View<'_>) -> Result<String, AllocError> {
     }
 }
 
-// A name that is declared nowhere: what is said of it, or what could be meant.
+// A name that is declared nowhere: what to say about it, or what might be meant.
 fn not_declared(alloc: Global, view: &View<'_>) -> Result<String, AllocError> {
     let what = MessagePart::Words(" is not declared");
     if let Some(said) = said_of_foreign(view.word) {
@@ -183,7 +183,7 @@ fn unknown(alloc: Global, view: &View<'_>) -> Result<String, AllocError> {
     }
 }
 
-// The offset of a definition of a function with the word's name that stands before it.
+// The offset of an earlier definition of a function with the word's name.
 fn definition_before(view: &View<'_>) -> Option<usize> {
     for declaration in view.declarations {
         let name = declaration.name;
@@ -205,7 +205,7 @@ fn is_definition(view: &View<'_>) -> bool {
     }
 }
 
-// A second declaration of what is built in, as this.
+// A second declaration of a builtin. `declared` is how it is declared.
 fn built_in(alloc: Global, view: &View<'_>, declared: &'static str) -> Result<String, AllocError> {
     let refused = if is_definition(view) {
         ", and cannot be defined"
@@ -261,7 +261,7 @@ fn redeclared(alloc: Global, view: &View<'_>) -> Result<String, AllocError> {
     }
 }
 
-// How many parameters what a name stands for has.
+// How many parameters the function that a name denotes has.
 fn parameters(standing: Standing<'_>) -> usize {
     match standing.entity {
         Entity::Function(signature) => signature.parameters.len(),
@@ -429,7 +429,7 @@ pub fn noted<'a>(alloc: Global, unit: &'a Unit, at: usize) -> Result<Option<Note
     Ok(note)
 }
 
-// The first declaration of a function, where one differs from it.
+// A note on the first declaration of a function, if another one contradicts it.
 fn related(view: &View<'_>, fault: &TypeFault) -> Option<Related> {
     let at = view.declared_at()?;
     if matches!(fault, TypeFault::Redeclared(_)) && !is_object(view) {
@@ -442,14 +442,14 @@ fn related(view: &View<'_>, fault: &TypeFault) -> Option<Related> {
     }
 }
 
-/// What is told of a unit: the words, and another place.
+/// A report about a unit: the words, and another place.
 #[derive(Drop)]
 struct Told {
     message: String,
     related: Option<Related>,
 }
 
-// The view of an offset of a unit, of which this is noted.
+// The view of an offset of a unit, given what was noted there.
 fn view_of<'a>(
     unit: &'a Unit,
     note: Option<Note<'a>>,
@@ -484,7 +484,7 @@ fn view_of<'a>(
     view
 }
 
-// What is told of a fault of a unit at an offset, of which this is noted.
+// The report of a fault of a unit at an offset, given what was noted there.
 fn of_note<'a>(
     alloc: Global,
     unit: &'a Unit,
@@ -500,9 +500,9 @@ fn of_note<'a>(
     })
 }
 
-/// What is told of a fault of a unit at an offset, of which this is noted.
+/// Makes a diagnostic of a fault of a unit at an offset, given what was noted there.
 ///
-/// `AllocError` where memory for it runs out.
+/// `AllocError` if memory runs out.
 pub fn told_of<'a>(
     alloc: Global,
     unit: &'a Unit,
@@ -519,22 +519,22 @@ pub fn told_of<'a>(
     })
 }
 
-// What is told of a fault of a unit at an offset.
+// The report of a fault of a unit at an offset.
 fn of_unit(alloc: Global, unit: &Unit, fault: &TypeFault, at: usize) -> Result<Told, AllocError> {
     let note = noted(alloc, unit, at)?;
     of_note(alloc, unit, note, fault, at)
 }
 
-/// What is told of the fault that `check` answers for the tree of a text: the name, what it stands for and where that was first
-/// declared, the counts, or the limit that was passed. Nothing for a text without a tree.
+/// Makes a diagnostic of the fault that `check` returned for a text's tree: the name, what it denotes and the place of its first
+/// declaration, the counts, or the limit that was exceeded. `None` for a text without a tree.
 ///
-/// `AllocError` where memory for it runs out.
+/// `AllocError` if memory runs out.
 pub fn of_typing(
     alloc: Global,
     text: &[u8],
     fault: &TypeFault,
 ) -> Result<Option<Diagnostic>, AllocError>
-    // It stands in the text exactly where the fault does.
+    // The diagnostic has a place exactly if the fault has one.
     ensures placed { IfOk result (λ some. IfSome some (λ told. is_some told.at ≡ is_some (fault_place fault.now))) }
     ensures within { IfOk result (λ some. IfSome some (λ told. IfSome told.at (λ at. at ≤ length text.now))) }
 {

@@ -1,11 +1,12 @@
-// One walk over a tree in the order of its text, with the names in scope.
+// One walk over a tree, in the order of its text, with the names in scope.
 //
-// It notes what stands at one offset of the text, and writes the instructions of each function. Of the operators that can go wrong
-// the tree does not keep the places; but they stand in the tree in the order of their tokens, so the walk takes the places of those
-// tokens one after the other. A tree that breaks rules is walked over as any other: what has no meaning becomes no instruction, or a
+// It notes what is at one offset of the text, and writes the instructions of each function. The tree does not keep the places of
+// the operators that can go wrong; but they are in the tree in the order of their tokens, so the walk takes the places of those
+// tokens one after another. A tree that breaks rules is visited like any other: what has no meaning becomes no instruction, or a
 // constant.
 //
-// Where memory is refused, that is noted and the walk goes on; `externals` tells of it at the end. So no step of it has an error.
+// If memory is refused, this is noted and the walk continues; `externals` reports it at the end. So no step of the walk returns
+// an error.
 
 mod expressions;
 mod statements;
@@ -39,8 +40,8 @@ pub enum Use {
     Constant,
 }
 
-/// What stands at an offset: what is done there, what the name stood for before, in which function, and which name in scope is nearest
-/// to one that stands for nothing.
+/// What is at an offset: what is done there, what the name denoted before, in which function it is, and, for a name that denotes
+/// nothing, the nearest name in scope.
 #[derive(Clone, Copy)]
 pub struct Note<'a> {
     pub done: Use,
@@ -50,8 +51,8 @@ pub struct Note<'a> {
 }
 
 /// A walk: the names in scope, how many variables the function has so far, and the function; the places of operators that can go
-/// wrong, and how many of them were taken; the offset of which a note is wanted, and the note; and what is written. Jumps out of
-/// loops that have no goal yet are kept by the number of their instruction.
+/// wrong, and how many of them were taken; the offset for which a note is wanted, and the note; and what has been written. Jumps
+/// out of loops that have no target yet are kept by the numbers of their instructions.
 #[derive(Drop)]
 pub struct Walk<'a> {
     names: Names<'a>,
@@ -70,12 +71,13 @@ pub struct Walk<'a> {
     first: Option<usize>,
     // How many words the objects so far have.
     words: usize,
-    // Whether memory was refused for something that was to be written.
+    // Whether memory was refused for something to be written.
     failed: bool,
 }
 
 impl<'a> Walk<'a> {
-    /// A walk before its first external declaration, over a text with operators at these offsets, that notes what stands at an offset.
+    /// Returns a walk before its first external declaration, over a text with operators at these offsets. It notes what is at the
+    /// wanted offset.
     pub fn new(
         alloc: Global,
         operators: Vec<usize>,
@@ -102,7 +104,7 @@ impl<'a> Walk<'a> {
         })
     }
 
-    // Notes what stands at an offset, where it is the wanted one. What was noted first stays.
+    // Notes what is at an offset, if it is the wanted one. A later note does not replace an earlier one.
     fn note(&mut self, at: usize, done: Use, standing: Option<Standing<'a>>) {
         if self.wanted == Some(at) && self.note.is_none() {
             self.note = Some(Note {
@@ -114,7 +116,7 @@ impl<'a> Walk<'a> {
         }
     }
 
-    // What a name stands for, which is used here.
+    // What a name denotes that is used here.
     fn look_up(&mut self, name: &'a Identifier, done: Use) -> Option<Standing<'a>> {
         let standing = self.names.find(name.bytes.as_slice());
         self.note(name.at, done, standing);
@@ -132,7 +134,7 @@ impl<'a> Walk<'a> {
         self.failed |= self.warnings.push(warning).is_err();
     }
 
-    // The constant that the instructions from a number on push, where they do nothing else.
+    // The constant that the instructions from a number on push, if they do nothing else.
     fn constant_since(&self, start: usize) -> Option<u32> {
         let count = self.code.len().saturating_sub(start);
         match (self.code.get(start), self.code.get(start.saturating_add(1))) {
@@ -143,7 +145,7 @@ impl<'a> Walk<'a> {
         }
     }
 
-    // Warns of an index that the instructions from a number on push, where it is a constant outside its array.
+    // Warns about an index that the instructions from a number on push, if it is a constant outside its array.
     fn warn_of_index(&mut self, start: usize, element: Element<'a>) {
         if let Some(word) = self.constant_since(start)
             && word as usize >= element.extent.length
@@ -152,7 +154,7 @@ impl<'a> Walk<'a> {
         }
     }
 
-    // Whether the instructions from a number on call something.
+    // Whether the instructions from a number on call anything.
     fn calls_since(&self, start: usize) -> bool {
         for i in start..self.code.len() {
             if let Some(Instruction::Call(_, _) | Instruction::Read | Instruction::Write) = self
@@ -165,7 +167,7 @@ impl<'a> Walk<'a> {
         false
     }
 
-    // Warns of an expression whose value is not used, where the instructions from a number on call nothing.
+    // Warns about an expression whose value is not used, if the instructions from a number on call nothing.
     fn warn_of_effect(&mut self, start: usize) {
         if let Some(at) = self.first
             && !self.calls_since(start)
@@ -187,14 +189,14 @@ impl<'a> Walk<'a> {
         }
     }
 
-    // Writes an instruction that a jump will replace, and answers its number.
+    // Writes an instruction that a jump will replace, and returns its number.
     fn open_jump(&mut self) -> usize {
         let number = self.code.len();
         self.emit(Instruction::Drop);
         number
     }
 
-    // Writes another instruction in the place of one.
+    // Replaces an instruction.
     fn replace(&mut self, number: usize, instruction: Instruction<'a>) {
         if let Some(place) = self.code.get_mut(number) {
             *place = instruction;
@@ -209,7 +211,7 @@ impl<'a> Walk<'a> {
     }
 }
 
-// What a walk over a unit writes, with operators at these offsets that can go wrong.
+// What a walk over a unit writes, given the offsets of its operators that can go wrong.
 fn written<'a>(
     alloc: Global,
     unit: &'a Unit,
@@ -231,9 +233,10 @@ fn written<'a>(
     }
 }
 
-/// What the tree of a unit becomes to be run once more. Nothing for a text without tokens, which no unit has.
+/// Returns the instructions that a unit's tree becomes in order to be run once more. `None` for a text without tokens, which no
+/// unit has.
 ///
-/// `AllocError` where memory for it runs out.
+/// `AllocError` if memory runs out.
 pub fn code_of(alloc: Global, unit: &Unit) -> Result<Option<Bytecode<'_>>, AllocError> {
     match operators(alloc, unit.text())? {
         Some(operators) => Ok(Some(written(alloc, unit, operators)?)),

@@ -1,6 +1,6 @@
-// What is warned of in a program: it may run, but hardly as it was meant.
+// Warnings about a program: it may run, but hardly as it was meant.
 //
-// The walk finds what stands in expressions and statements; here are what is read off the tokens, and the messages.
+// The walk finds what is in expressions and statements. Here are the warnings that tokens give rise to, and the messages.
 
 use super::code::Element;
 use super::walk::Walk;
@@ -9,21 +9,21 @@ use cc_syntax_diagnostic::{Diagnostic, MessagePart, message};
 use cc_tokens::{NextToken, Token, next_token};
 use std::alloc::{AllocError, Global};
 
-/// How many warnings are told at most.
+/// The most warnings that are reported.
 const MOST_WARNINGS: usize = 20;
 
-/// What is warned of.
+/// What a warning is about.
 #[derive(Clone, Copy)]
 pub enum Warning<'a> {
     /// A constant index outside its array.
     Index(Element<'a>, u32),
     /// A statement without effect, at the offset of its first name.
     NoEffect(usize),
-    /// A function with a result whose end is reached.
+    /// A function with a result whose end can be reached.
     NoReturn(&'a Identifier),
 }
 
-// The token at an offset or behind it.
+// The token at or after an offset.
 fn token_at(text: &[u8], at: usize) -> Option<Token> {
     match next_token(text, at.min(text.len())) {
         NextToken::Token(token) => Some(token),
@@ -35,7 +35,7 @@ fn byte_at(text: &[u8], at: usize) -> u8 {
     text.get(at).copied().unwrap_or(0)
 }
 
-// The offset of the brace that ends the body of the function whose name stands at an offset.
+// The offset of the brace that ends the body of the function whose name is at an offset.
 fn end_of_body(text: &[u8], at: usize) -> usize {
     let mut at = at;
     let mut depth: usize = 0;
@@ -90,7 +90,7 @@ fn index(alloc: Global, element: Element<'_>, word: u32) -> Result<Diagnostic, A
     })
 }
 
-// A warning of words alone.
+// Makes a warning of some words.
 fn plain(alloc: Global, at: usize, words: &str) -> Result<Diagnostic, AllocError> {
     let message = String::from_str(alloc, words)?;
     Ok(Diagnostic {
@@ -108,7 +108,7 @@ fn told(alloc: Global, text: &[u8], warning: Warning<'_>) -> Result<Diagnostic, 
     }
 }
 
-// What is said of `=` with a sign directly behind it, and a space behind that.
+// What to say about `=` with a sign directly after it, and a space after that.
 fn of_sign(text: &[u8], token: Token) -> Option<&'static str> {
     let is_assignment = byte_at(text, token.from) == b'='
         && token.to == token.from.saturating_add(1);
@@ -120,7 +120,7 @@ fn of_sign(text: &[u8], token: Token) -> Option<&'static str> {
     }
 }
 
-// Adds what is warned of by the tokens of a text.
+// Adds the warnings that a text's tokens give rise to.
 fn add_signs(alloc: Global, text: &[u8], list: &mut Vec<Diagnostic>) -> Result<(), AllocError> {
     let mut at = 0;
     for _ in 0..text.len() {
@@ -137,7 +137,7 @@ fn add_signs(alloc: Global, text: &[u8], list: &mut Vec<Diagnostic>) -> Result<(
     Ok(())
 }
 
-// Adds what a walk found.
+// Adds the warnings that a walk found.
 fn add_found(
     alloc: Global,
     text: &[u8],
@@ -152,7 +152,7 @@ fn add_found(
     Ok(())
 }
 
-// What is warned of in a text in which a walk found this.
+// All warnings about a text in which a walk found these.
 fn all(alloc: Global, text: &[u8], found: &[Warning<'_>]) -> Result<Vec<Diagnostic>, AllocError> {
     let mut list = Vec::new(alloc);
     add_found(alloc, text, found, &mut list)?;
@@ -160,7 +160,7 @@ fn all(alloc: Global, text: &[u8], found: &[Warning<'_>]) -> Result<Vec<Diagnost
     Ok(list)
 }
 
-// What is warned of in a unit.
+// The warnings about a unit.
 fn of_unit(alloc: Global, unit: &Unit) -> Result<Vec<Diagnostic>, AllocError> {
     let mut walk = Walk::new(alloc, Vec::new(alloc), None)?;
     let walked = walk.externals(unit.externals());
@@ -175,10 +175,10 @@ fn of_unit(alloc: Global, unit: &Unit) -> Result<Vec<Diagnostic>, AllocError> {
     }
 }
 
-/// What is warned of in a text that is a program, at most 20 warnings: a constant index outside its array, a statement without effect, a
-/// function whose end is reached without a `return`, and `=+` or `=-` with a space behind it.
+/// Returns the warnings about a text that is a program, at most 20: a constant index outside its array, a statement without
+/// effect, a function whose end can be reached without a `return`, and `=+` or `=-` with a space after it.
 ///
-/// `AllocError` where memory for it runs out.
+/// `AllocError` if memory runs out.
 pub fn warnings(alloc: Global, text: &[u8]) -> Result<Vec<Diagnostic>, AllocError> {
     match parse(alloc, text) {
         Ok(unit) => {

@@ -1,4 +1,4 @@
--- There is no line exactly for equal maps.
+-- There is no line exactly if the maps are equal.
 use Rattle.std.proofs.Common.{◌≡◌, ℕ, List, [], ◌∷◌, ◌++◌, Bool, true, false, ◌&&◌, ◌||◌, refl, sym, ap, ◌∙◌, Option, Some, None}
 use Rattle.std.specs.Prelude.{is_some}
 use Rattle.std.specs.List.{flat_map, list_any}
@@ -60,7 +60,7 @@ same_image a b e =
 its_image : (a : Image) → is_same_image a a ≡ true
 its_image a = ap (λ (x : Bool). x && bytes_eq a.globals a.globals) (itself a.code) ∙ itself a.globals
 
--- units of one name without a line are the same
+-- units with one name and without a line are the same
 same_units : (name : List ℕ) (a b : Option StoredUnit) → lines_of name a b ≡ [] → a ≡ b
 same_units name None None e = refl
 same_units name None (Some y) e = cc

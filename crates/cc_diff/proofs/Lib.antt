@@ -1,4 +1,6 @@
--- Lines that are added one after the other (Lines), the names of both maps (Names), and that there is no line only for equal maps (Equal).
+-- Lines that are added one after the other.
 pub mod Lines
+-- The names of both maps.
 pub mod Names
+-- There is no line exactly if the maps are equal.
 pub mod Equal

@@ -9,7 +9,7 @@ three (Err e) a b c d xs ys zs one two last = tt
 three (Ok done) a b c d xs ys zs one two last =
     last ∙ (ap (λ l. l ++ zs) (two ∙ ap (λ l. l ++ ys) one) ∙ (append_assoc (a ++ xs) ys zs ∙ append_assoc a xs (ys ++ zs)))
 
--- the lines of one name more
+-- the lines of one more name
 pub one_more : {A B : Type 0} (of : A → List B) (names : List A) (i : ℕ) (name : A) (old new : List B) → i < length names → name ≡ get_or names i name
     → old ≡ flat_map of (take i names) → new ≡ old ++ of name → new ≡ flat_map of (take (i + 1) names)
 one_more of names i name old new within is before added =

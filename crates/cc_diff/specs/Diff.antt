@@ -1,5 +1,5 @@
 -- Where two libraries differ, and why they are not compared.
-use Rattle.std.specs.Prelude.{◌≡◌, ◌↔◌, ℕ, ◌&&◌, ◌||◌, Bool, true, false, List, [], ◌∷◌, ◌++◌, Option, Some, None}
+use Rattle.std.specs.Prelude.{◌≡◌, ◌↔◌, ℕ, ◌&&◌, ◌||◌, Bool, true, false, IsTrue, List, [], ◌∷◌, ◌++◌, Option, Some, None}
 use Rattle.std.specs.List.{flat_map}
 use Rattle.std.specs.Str.{bytes_eq}
 use Rattle.std.specs.FinMap.{contains_key, get, keys}
@@ -21,7 +21,7 @@ use Rattle.cc_diff.specs.declared.disks.DiffFault.TheVariants as fault
 abbrev pub is_same_image : Image → Image → Bool
 is_same_image left right = bytes_eq left.code right.code && bytes_eq left.globals right.globals
 
--- there are two certificates of the same bytes, or none
+-- there are two certificates with the same bytes, or none
 abbrev pub is_same_certificate : Option (List ℕ) → Option (List ℕ) → Bool
 is_same_certificate None None = true
 is_same_certificate None (Some right) = false
@@ -36,14 +36,14 @@ abbrev pub unless : (same : Bool) → (name : List ℕ) → Difference → List 
 unless true name part = []
 unless false name part = line_of name part ∷ []
 
--- the lines of two units of one name: a line for each of source, image and certificate that differs
+-- the lines of two units with one name: one line for each of source, image and certificate that differs
 abbrev pub lines_of_both : (name : List ℕ) → (left right : StoredUnit) → List DiffLine
 lines_of_both name left right =
     unless (bytes_eq left.source right.source) name Source
     ++ (unless (is_same_image left.image right.image) name ImagePart
     ++ unless (is_same_certificate left.certificate right.certificate) name Certificate)
 
--- the lines of a name by the units that it has on both sides
+-- the lines of a name, from the units that it has on the two sides
 abbrev pub lines_of : (name : List ℕ) → (left right : Option StoredUnit) → List DiffLine
 lines_of name None None = []
 lines_of name (Some left) None = line_of name Left ∷ []
@@ -52,11 +52,11 @@ lines_of name (Some left) (Some right) = lines_of_both name left right
 
 -- ---- all names
 
--- the map has a unit of each name of which one of the two has one, and of no other
+-- the map has a unit for each name for which one of the two has one, and for no other
 abbrev pub HasNamesOf : (left right both : Units) → Type 0
 HasNamesOf left right both = (name : List ℕ) → contains_key both name ≡ (contains_key left name || contains_key right name)
 
--- the lines are those of each name of the two, in the order of the names' bytes
+-- the lines are those of each name of the two maps, in the order of the names' bytes
 pub record IsDiff (left right : Units) (lines : List DiffLine) : Type 0 where
   -- a map with the names of both: its keys are in that order
   pub both : Units
@@ -65,7 +65,7 @@ pub record IsDiff (left right : Units) (lines : List DiffLine) : Type 0 where
 
 -- ---- disks
 
--- the disks recover to two maps, the lines are where these differ, and there is none exactly if they are the same
+-- the disks recover to two maps, the lines are the differences between these, and there are none exactly if the maps are the same
 pub record IsDiffOn (seen_left seen_right : List ℕ) (lines : List DiffLine) : Type 0 where
   pub left : Units
   pub right : Units
@@ -74,11 +74,15 @@ pub record IsDiffOn (seen_left seen_right : List ℕ) (lines : List DiffLine) : 
   pub is_diff : IsDiff left right lines
   pub equal : (lines ≡ []) ↔ (left ≡ right)
 
--- why they are not compared: the left library is not opened; or the left one is, and the right one is not; or memory ran out
+-- Why they are not compared: the left library is not opened, and the right disk is as it was; or the left one is opened, and the right one is not;
+-- or memory ran out.
 abbrev pub DiffFaults : (honest : Bool) (seen_left seen_right : List ℕ) (left_before left_after right_before right_after : ℕ) → DiffFault → Type 0
-DiffFaults honest seen_left seen_right left_before left_after right_before right_after (fault.Left f) = OpenFaults honest seen_left left_before left_after f
-DiffFaults honest seen_left seen_right left_before left_after right_before right_after (fault.Right f) = OpenFaults honest seen_right right_before right_after f
-DiffFaults honest seen_left seen_right left_before left_after right_before right_after fault.OutOfMemory = Unit {0}
+DiffFaults honest seen_left seen_right left_before left_after right_before right_after (fault.Left f) =
+    OpenFaults honest seen_left left_before left_after f × (right_after ≡ right_before)
+DiffFaults honest seen_left seen_right left_before left_after right_before right_after (fault.Right f) =
+    (left_after ≡ left_before) × (IsTrue honest → (left : Units) × Recovers seen_left left) × OpenFaults honest seen_right right_before right_after f
+DiffFaults honest seen_left seen_right left_before left_after right_before right_after fault.OutOfMemory =
+    (left_after ≡ left_before) × (right_after ≡ right_before)
 
 -- the number that a fault is known by
 abbrev pub fault_number : DiffFault → ℕ

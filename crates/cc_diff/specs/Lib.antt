@@ -1,6 +1,6 @@
--- Where two libraries differ, and why they are not compared.
+-- The differences between two libraries, and why they were not compared.
 pub mod Diff
--- What is written of that.
+-- The lines that are written for them.
 pub mod Written
--- What only private contracts speak of.
+-- Definitions for private contracts.
 pub mod internal

@@ -1,4 +1,4 @@
--- What is written of a comparison.
+-- The lines that are written for a comparison.
 use Rattle.std.specs.Prelude.{ℕ, List, ◌++◌, codes}
 use Rattle.std.specs.List.{flat_map}
 use Rattle.cc_diff.specs.declared.difference.Difference.{Difference}

@@ -1,2 +1,2 @@
--- A map with one name more.
+-- A map with one more name.
 pub mod Names

@@ -1,4 +1,4 @@
-// How the units of one name differ.
+// How the units with one name differ.
 
 ghost use Rattle.std.specs.Prelude.{◌≡◌, ◌++◌, false, OnOk, option_map};
 ghost use Rattle.std.specs.Arc.{arc_value};
@@ -14,15 +14,15 @@ use std::sync::Arc;
 /// How two libraries differ in a name.
 #[derive(Clone, Copy, Debug, Drop, PartialEq, Eq)]
 pub enum Difference {
-    /// The left one alone has a unit of the name.
+    /// Only the left one has a unit with the name.
     Left,
-    /// The right one alone has.
+    /// Only the right one has a unit with the name.
     Right,
     /// The sources of the units differ.
     Source,
     /// Their images differ.
     Image,
-    /// Their certificates differ, or one alone has one.
+    /// Their certificates differ, or only one has a certificate.
     Certificate,
 }
 
@@ -40,7 +40,7 @@ fn is_same_image(left: &Image, right: &Image) -> bool
     left.code.words() == right.code.words() && left.globals.words() == right.globals.words()
 }
 
-// Whether two units have certificates of the same bytes, or none.
+// Whether two units have certificates with the same bytes, or both have none.
 fn is_same_certificate(left: &Option<Certificate>, right: &Option<Certificate>) -> bool
     ensures { result ≡ is_same_certificate left.now right.now }
 {
@@ -69,7 +69,7 @@ fn push(lines: &mut Vec<DiffLine>, name: &Name, difference: Difference) -> Resul
     Ok(())
 }
 
-// Adds the line of a part that differs.
+// Adds the line of a part, if it differs.
 fn push_unless(
     lines: &mut Vec<DiffLine>,
     is_same: bool,
@@ -84,7 +84,7 @@ fn push_unless(
     push(lines, name, part)
 }
 
-// Adds the lines of two units of one name.
+// Adds the lines of two units with one name.
 #[tactic(auto, using(crate::proofs::Lines::three))]
 fn push_both(
     lines: &mut Vec<DiffLine>,
@@ -109,7 +109,7 @@ fn push_both(
     )
 }
 
-/// Adds the lines of a name, where it has these units.
+/// Adds the lines of a name that has these units.
 pub(crate) fn push_lines(
     lines: &mut Vec<DiffLine>,
     name: &Name,

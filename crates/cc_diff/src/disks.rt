@@ -1,4 +1,4 @@
-// Where the libraries of two disks differ.
+// The differences between the libraries on two disks.
 
 ghost use Rattle.std.specs.Prelude.{IsTrue, IfOk, IfErr};
 ghost use Rattle.cc_disk.specs.Images.{OnlyReads};
@@ -11,13 +11,13 @@ use cc_library::{Library, LibraryFault};
 use std::alloc::Global;
 use thiserror::Error;
 
-/// Why two libraries are not compared.
+/// Why two libraries were not compared.
 #[derive(Clone, Copy, Debug, Drop, Error)]
 pub enum DiffFault {
     /// 35, 37, 38, 40: the left one could not be opened.
     #[error(transparent)]
     Left(LibraryFault),
-    /// The same of the right one.
+    /// 35, 37, 38, 40: the right one could not be opened.
     #[error(transparent)]
     Right(LibraryFault),
     /// 40: memory ran out.
@@ -40,7 +40,8 @@ impl DiffFault {
     }
 }
 
-/// Where the libraries of two disks differ, as `diff_maps` has it; the disks are handed back, and nothing is written to them.
+/// The differences between the libraries on two disks, as `diff_maps` gives them. The disks are handed back, and nothing is written to
+/// them.
 ///
 /// Refusals: those of `Library::open` on the left disk, 35, 38, 37 and 40, then on the right one; then 40.
 pub fn diff_disks<D: Disk + Drop>(
@@ -48,7 +49,7 @@ pub fn diff_disks<D: Disk + Drop>(
     left: D,
     right: D,
 ) -> (Result<Vec<DiffLine>, DiffFault>, (D, D))
-    // Of an honest kind of disk: the maps to which the disks recover.
+    // On an honest kind of disk: the maps to which the disks recover.
     ensures lines { IfOk result.0 (λ lines. IsTrue D.honest → IsDiffOn (D.seen left) (D.seen right) lines.items) }
     ensures refused { IfErr result.0 (λ fault. DiffFaults D.honest (D.seen left) (D.seen right)
         (D.failures left) (D.failures result.1.0) (D.failures right) (D.failures result.1.1) fault) }

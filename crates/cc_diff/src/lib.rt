@@ -1,7 +1,7 @@
-//! Where two libraries differ, name by name.
+//! The differences between two libraries, name by name.
 //!
-//! `difference` compares the units of one name, `maps` two maps, `disks` the libraries of two disks; `written` writes the lines.
-//! Hands out `diff_disks`, `diff_maps`, `write_diff`, their types, and the definitions that the contracts name (`specs/`).
+//! `difference` compares the units with one name, `maps` two maps, `disks` the libraries on two disks; `written` writes the lines. The
+//! crate hands out `diff_disks`, `diff_maps`, `write_diff`, their types, and the definitions that the contracts cite (`specs/`).
 #![tactic(auto)]
 
 mod difference;

@@ -1,4 +1,4 @@
-// Where two maps differ.
+// The differences between two maps.
 
 ghost use Rattle.std.specs.Prelude.{◌≡◌, ◌↔◌, [], true, IfOk, OnOk};
 ghost use Rattle.std.specs.Arc.{arc_value};
@@ -14,7 +14,7 @@ use cc_unit::StoredUnit;
 use std::alloc::{AllocError, Global};
 use std::sync::Arc;
 
-// The map with this unit under this name, if it has none there.
+// Adds this unit with this name to a map, if the map has no unit with the name.
 fn add(both: &mut UnitMap, name: &Name, unit: &Arc<StoredUnit>) -> Result<(), AllocError>
     ensures { OnOk result (both.new ≡ after both.old (command.Add name.now (arc_value unit.now))) }
 {
@@ -25,7 +25,7 @@ fn add(both: &mut UnitMap, name: &Name, unit: &Arc<StoredUnit>) -> Result<(), Al
     answer
 }
 
-// The map with the unit that the other one has under this name, if it has none there.
+// Adds the unit that the other map has with this name, if the map has no unit with the name.
 #[tactic(auto, using(crate::proofs::Names::added_on))]
 fn add_name(both: &mut UnitMap, other: &UnitMap, name: &Name) -> Result<(), AllocError>
     requires { map.contains_key other.now name.now ≡ true }
@@ -49,14 +49,14 @@ fn with_names_of(alloc: Global, left: &UnitMap, right: &UnitMap) -> Result<UnitM
     Ok(both)
 }
 
-/// Where two maps differ: by name, in the order of the names' bytes.
+/// The differences between two maps: by name, in the order of the names' bytes. Err: memory ran out.
 pub fn diff_maps(
     alloc: Global,
     left: &UnitMap,
     right: &UnitMap,
 ) -> Result<Vec<DiffLine>, AllocError>
     ensures lines { IfOk result (λ lines. IsDiff left.now right.now lines.items) }
-    // There is none exactly if the two are the same.
+    // There are none exactly if the two maps are the same.
     ensures equal { IfOk result (λ lines. (lines.items ≡ []) ↔ (left.now ≡ right.now)) }
 {
     let both = with_names_of(alloc, left, right)?;

@@ -1,4 +1,4 @@
-// What is written of a comparison.
+// The lines that are written for a comparison.
 
 ghost use Rattle.std.specs.Prelude.{◌≡◌, OnOk};
 ghost use Rattle.std.specs.Io.KnownBytes.{Appends};
@@ -30,7 +30,7 @@ fn write_line<W: Write>(line: &DiffLine, writer: &mut W) -> io::Result<()>
     writer.write_all(b"\n")
 }
 
-/// Writes each line: what differs, and the name.
+/// Writes each line: what differs, and the name. Err: the writer failed.
 #[tactic(auto, using(cc_answers::proofs::Writing::one_more))]
 pub fn write_diff<W: Write>(lines: &[DiffLine], writer: &mut W) -> io::Result<()>
     ensures { OnOk result (Appends (W.contents writer.old) (W.contents writer.new) (diff_text lines.now)) }

@@ -1,4 +1,4 @@
--- The disks may go to another thread: one on a file, one in memory, and one that fails on purpose where the disk below it may.
+-- Disks may move to another thread: one on a file, one in memory, and one that fails on purpose if the disk inside it may.
 use denote.RattleType.{RattleType}
 use denote.Param.Send.{IsSend, sendable, recorded_send, view_send, struct_send}
 use denote.Struct.Declared.{shape}

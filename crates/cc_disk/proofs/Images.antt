@@ -1,5 +1,5 @@
--- What the calls of the disk in memory do to what a read gives and to what a crash may leave.
--- How: a disk is split at the range of a write into three parts, and each image with it.
+-- What the calls of the disk in memory do to what a read gives and to what a crash may leave. A disk is split into three parts at
+-- the range of a write, and so is each image.
 use Rattle.std.proofs.Common.{◌≡◌, ℕ, ◌+◌, ◌≤◌, List, [], ◌∷◌, ◌++◌, map, length, take, drop, refl, sym, ◌∙◌, ap, subst, arith, length-append, length-drop, append_assoc, take-append-drop}
 use Rattle.std.proofs.lemmas.List.{length-map, map-append, take-map, drop-map, take_at, drop_at, drop-drop, length-take-le}
 use Rattle.cc_disk.specs.Model.{Cell, unsettled, bytes_of, IsImage, written, synced}
@@ -56,7 +56,7 @@ in_parts cells offset n =
     ∙ ap (λ (l : List Cell). take offset cells ++ l) (take-append-drop n (drop offset cells))
     ∙ take-append-drop offset cells
 
--- an image after a write, with what a read gave before in the range, is an image from before
+-- an image after a write, with the range replaced by what a read gave there before, is an image from before
 pub written_images : (cells : List Cell) (offset : ℕ) (bytes : List ℕ) → offset + length bytes ≤ length cells → UnsettlesWithin offset (length bytes) (IsImage cells) (IsImage (written cells offset bytes))
 written_images cells offset bytes fits image now =
     let n = length bytes in

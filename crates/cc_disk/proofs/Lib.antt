@@ -1,5 +1,10 @@
+-- calls of the disk in memory, by what a read gives and by what a crash may leave
 pub mod Images
+-- bytes and marks as cells, after copying and filling ranges
 mod Zipped
+-- one more state in the history of a disk
 mod Moments
+-- the machine values of a history
 mod Walk
+-- disks may move to another thread
 pub mod Crossing

@@ -1,4 +1,4 @@
--- The machine values that the two walks over a history make: a struct with no field, and one with that as its only field.
+-- The machine values of the two proofs about a history: a struct without fields, and one with that as its only field.
 use Rattle.std.proofs.Common.{List, [], ◌∷◌, refl}
 use seplogic.Ra.Ura.{Ura}
 use mir.Val.{Val, vstruct, vcons, vnil}
@@ -14,11 +14,11 @@ no_field = vstruct vnil
 abbrev pub one_field : Val → Val
 one_field u = vstruct (vcons u vnil)
 
--- a struct of these fields, whatever its name
+-- a struct with these fields, whatever its name
 abbrev pub fields_only : List RattleType → RattleType
 fields_only Rs = Struct (record { name = []; args = []; types = []; fields = Rs })
 
--- what owns the field's value owns the struct of that field
+-- what owns the field's value owns the struct with that field
 pub wrapped : {M : Type 1} {𝓤 : Ura M} {𝓛 : Logic 𝓤} {K : Type 0} {Γ : List (Item 𝓤)} {G : Goal 𝓤 𝓛.H} → K → (R : RattleType) (x : R.Denot) (u : Val)
     → Step K 𝓛 (‵ ((fields_only (R ∷ [])).own_val (x, tt) (one_field u ∷ [])) ∷ Γ) G (‵ (R.own_val x (u ∷ [])) ∷ Γ) G
 wrapped t R x u = step (λ s.

@@ -1,4 +1,4 @@
--- The cells that a list of bytes and a list of marks stand for: what copying and filling ranges of the lists does to them.
+-- The cells that a list of bytes and a list of marks represent, after copying and filling ranges of the lists.
 use Rattle.std.proofs.Common.{◌≡◌, ℕ, zero, suc, Bool, true, false, ◌+◌, ◌<◌, ◌≤◌, List, [], ◌∷◌, ◌++◌, map, length, replicate, get_or, take, drop, refl, sym, ◌∙◌, ap, arith, append_assoc}
 use Rattle.std.proofs.lemmas.List.{length-take-le, length-map, length-replicate, map-append}
 use Rattle.std.proofs.Math.Seq.{drop-nil}
@@ -66,7 +66,7 @@ cells-written bytes marks offset new same fits =
     ∙ ap (λ (l : List Cell). l ++ cells_of (drop (offset + n) bytes) (drop (offset + n) marks)) (cells-alike new false)
     ∙ ap (λ (l : List Cell). map unsettled new ++ l) (cells-drop (offset + n) bytes marks))
 
--- the cell at an index, and those behind it
+-- the cell at an index, and those after it
 pub cells-from : (i : ℕ) (bytes : List ℕ) (marks : List Bool) → i < length bytes → length bytes ≡ length marks → (d : ℕ) (e : Bool)
     → drop i (cells_of bytes marks) ≡ record { byte = get_or bytes i d; settled = get_or marks i e } ∷ drop (suc i) (cells_of bytes marks)
 cells-from i [] marks within same d e = absurd (omega (arith, within))
@@ -74,7 +74,7 @@ cells-from i (b ∷ bytes) [] within same d e = absurd (omega (arith, same))
 cells-from zero (b ∷ bytes) (m ∷ marks) within same d e = refl
 cells-from (suc i) (b ∷ bytes) (m ∷ marks) within same d e = cells-from i bytes marks (omega (arith, within)) (omega (arith, same)) d e
 
--- one byte more of a crash: its choice, and what is chosen from there on
+-- one more byte of a crash: its choice, and what is chosen from there on
 crash-more : (cells : List Cell) (i : ℕ) (cell : Cell) (after choice : List ℕ) (byte x : ℕ) (rest : List ℕ) → drop i cells ≡ cell ∷ drop (suc i) cells
     → settled byte ≡ left cell x → map settled after ++ crashed (drop i cells) (x ∷ rest) ≡ crashed cells choice
     → map settled (after ++ byte ∷ []) ++ crashed (drop (suc i) cells) rest ≡ crashed cells choice
@@ -85,7 +85,7 @@ crash-more cells i cell after choice byte x rest here is so_far =
     ∙ ap (λ (l : List Cell). map settled after ++ crashed l (x ∷ rest)) (sym here)
     ∙ so_far
 
--- the same, of whatever is left of the choice
+-- the same for whatever is left of the choice
 pub crash-step : (cells : List Cell) (i : ℕ) (cell : Cell) (after choice : List ℕ) (byte : ℕ) (rest : List ℕ) → drop i cells ≡ cell ∷ drop (suc i) cells
     → settled byte ≡ left cell (get_or rest 0 0) → map settled after ++ crashed (drop i cells) rest ≡ crashed cells choice
     → map settled (after ++ byte ∷ []) ++ crashed (drop (suc i) cells) (drop 1 rest) ≡ crashed cells choice

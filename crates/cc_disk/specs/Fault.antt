@@ -3,6 +3,6 @@ use Rattle.std.specs.Prelude.{ℕ}
 use Rattle.cc_disk.specs.declared.disk.DiskFault.{DiskFault}
 use Rattle.cc_disk.specs.declared.disk.DiskFault.TheVariants.{DeviceFailed}
 
--- the device failed in the call
+-- the number of DeviceFailed
 abbrev pub fault_number : DiskFault → ℕ
 fault_number DeviceFailed = 35

@@ -1,14 +1,14 @@
 -- the number of the fault
 pub mod Fault
--- what any honest disk promises of its calls: what a read gives, and what a crash at any moment may leave
+-- what every honest disk promises of its calls: what a read gives, and what a crash at any moment may leave
 pub mod Images
--- the cells of the disk in memory, what its calls make of them, and what a crash may leave of them
+-- the cells of the disk in memory, what its calls do to them, and what a crash may leave of them
 pub mod Model
 -- what a crash since an earlier moment may have left of the disk in memory
 pub mod Past
 -- which calls of a fuse disk reach its disk, and which fail
 pub mod Fuse
--- worked rows of `Model`, computed
+-- worked examples of `Model`, by computation
 pub mod rows
--- what only proofs use
+-- definitions that only proofs use
 pub mod internal

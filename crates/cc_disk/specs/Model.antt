@@ -1,5 +1,5 @@
 -- The model of a disk: a fixed number of bytes, each settled or unsettled. A write unsettles its range, a sync settles
--- all, and a crash leaves any byte at an unsettled offset.
+-- everything, and a crash leaves an arbitrary byte at an unsettled offset.
 use Rattle.std.specs.Prelude.{◌≡◌, ℕ, Bool, ◌+◌, List, [], ◌∷◌, ◌++◌, map, length, take, drop, replicate, IsTrue, true, false, if◌then◌else◌}
 
 -- one byte of a disk: what a read gives, and whether a crash keeps it
@@ -19,7 +19,7 @@ unsettled byte = record { byte = byte; settled = false }
 abbrev pub bytes_of : List Cell → List ℕ
 bytes_of cells = map (λ (c : Cell). c.byte) cells
 
--- What a crash may leave: at each settled offset the byte that a read gives there, at the others any.
+-- What a crash may leave: at each settled offset the byte that a read gives there, at any other an arbitrary byte.
 abbrev pub IsImage : List Cell → List ℕ → Type 0
 IsImage [] [] = Unit {0}
 IsImage [] (byte ∷ image) = ⊥
@@ -38,11 +38,11 @@ written cells offset bytes = take offset cells ++ (map unsettled bytes ++ drop (
 abbrev pub synced : List Cell → List Cell
 synced cells = map (λ (c : Cell). settled c.byte) cells
 
--- one byte after a crash that leaves this one where it may
+-- one byte after a crash that leaves this byte if it can
 abbrev pub left : Cell → ℕ → Cell
 left cell byte = if cell.settled then settled cell.byte else settled byte
 
--- a crash that leaves, at each unsettled offset, the choice's byte of that offset, and 0 past its end
+-- a crash that leaves, at each unsettled offset, the choice's byte at that offset, or 0 past the choice's end
 abbrev pub crashed : List Cell → List ℕ → List Cell
 crashed [] choice = []
 crashed (cell ∷ cells) [] = left cell 0 ∷ crashed cells []

@@ -1,5 +1,5 @@
-// The cells of a disk in memory: what a read gives at each offset, and whether a crash keeps it. The bytes and the marks stand in two
-// vectors, so that a read, a write and a sync copy and fill whole ranges.
+// The cells of a disk in memory: the byte that a read gives at each offset, and whether a crash keeps it. The bytes and the marks
+// are in two vectors, so that a read, a write or a sync copies or fills whole ranges.
 
 ghost use Rattle.std.specs.Prelude.{◌≡◌, ◌+◌, ◌≤◌, ◌++◌, false, length, take, drop, map, replicate, IfOk};
 ghost use Rattle.cc_disk.specs.Model.{bytes_of, left, new_cells, settled, written, synced, crashed};
@@ -28,7 +28,7 @@ impl Model for Cells {
 }
 
 impl Cells {
-    /// Zeros, all settled.
+    /// Returns cells of zeros, all settled. `AllocError` if memory runs out.
     pub fn new(alloc: Global, size: usize) -> Result<Cells, AllocError>
         ensures cells { IfOk result (λ cells. cells ≡ new_cells size) }
     {
@@ -38,14 +38,14 @@ impl Cells {
         })
     }
 
-    /// How many there are.
+    /// How many cells there are.
     pub fn len(&self) -> usize
         ensures count { result ≡ length self.now }
     {
         self.bytes.len()
     }
 
-    /// The cells after a crash with this choice.
+    /// Returns the cells after a crash with this choice. `AllocError` if memory runs out.
     pub fn crash(&self, alloc: Global, choice: &[u8]) -> Result<Cells, AllocError>
         ensures cells { IfOk result (λ cells. cells ≡ crashed self.now choice.now) }
     {
@@ -106,7 +106,7 @@ fn clear_part(marks: &mut [bool], offset: usize, count: usize)
     marks[offset..offset + count].fill(false);
 }
 
-// The bytes that a crash with this choice leaves.
+// The bytes after a crash with this choice.
 fn bytes_left(
     alloc: Global,
     bytes: &[u8],
@@ -131,7 +131,7 @@ fn bytes_left(
     Ok(after)
 }
 
-// The byte that a crash leaves, which may leave the chosen one.
+// The byte after a crash. The crash may leave the chosen byte.
 fn byte_left(byte: u8, is_settled: bool, chosen: u8) -> u8
     ensures { settled result ≡ left (record { byte = byte; settled = is_settled }) chosen }
 {

@@ -1,4 +1,4 @@
-// A count without an upper end, of which the last number that fits is shown.
+// A count without an upper limit, which is shown as a 64-bit number as far as it fits.
 
 ghost use Rattle.std.specs.Prelude.{◌≡◌, ◌+◌, ◌-◌, ◌^◌, ℕ, min, length};
 
@@ -37,7 +37,7 @@ impl FailureCount {
         self.each = self.each.and(&());
     }
 
-    /// The count, and 2^64 - 1 where it is more.
+    /// The count, or 2^64 - 1 if it is larger.
     pub fn shown(&self) -> u64
         ensures { result ≡ min self.now (2 ^ 64 - 1) }
     {

@@ -1,4 +1,4 @@
-// What every disk is to those who use it: its calls, and the rules that an honest kind of disk keeps.
+// What every disk offers: its calls, and the rules that an honest kind of disk keeps.
 
 ghost use Rattle.std.specs.Prelude.{◌≡◌, ◌+◌, ◌-◌, ◌^◌, ◌≤◌, min, Bool, IsTrue, List, ℕ, ⊤, length, take, drop, OnOk, OnErr, is_ok, if◌then◌else◌};
 ghost use Rattle.cc_disk.specs.Images.{IsWritten, DiffersWithin, UnsettlesWithin, AddsNone, LeavesAlone, Elapses};
@@ -26,23 +26,23 @@ impl DiskFault {
     }
 }
 
-/// A fixed number of bytes that may lose power. Offsets and sizes are in bytes, offsets count from 0.
+/// A fixed number of bytes that may lose power. Offsets and sizes are in bytes; offsets count from 0.
 ///
-/// Each byte is settled or unsettled. A write sets its range and unsettles it; a sync that succeeds settles every
-/// byte. A crash leaves any byte at an unsettled offset, and what a read gives at a settled one. In the middle of a write
-/// its range is unsettled; in the middle of a sync nothing has settled. A write that fails leaves any bytes,
-/// unsettled, in its range; a read or a sync that fails changes no byte and settles nothing.
+/// Each byte is settled or unsettled. A write sets its range and unsettles it; a sync that succeeds settles every byte. A crash
+/// leaves an arbitrary byte at an unsettled offset, and at a settled one the byte that a read gives. In the middle of a write its
+/// range is unsettled; in the middle of a sync nothing has settled. A write that fails leaves arbitrary bytes, unsettled, in its
+/// range. A read or a sync that fails changes no byte and settles nothing.
 ///
-/// These rules are the promise of an honest kind of disk, and the clauses below say them under `honest`. Of another kind
-/// only the size and the count of failures are known. An image is what a crash may leave.
+/// These rules are the promise of an honest kind of disk; the clauses below state them under `honest`. For any other kind, only
+/// the size and the number of failures are known. An image is what a crash may leave.
 ///
-/// A kind may say more of its calls than the rules: its own model, by `reads`, `writes` and `syncs`. A disk over another
-/// one then says which of its calls are the other's.
+/// A kind may say more about its calls than these rules do: its own model, by `reads`, `writes` and `syncs`. A disk built on
+/// another one then says which of its calls are the other's.
 pub trait Disk {
-    /// How many bytes it has.
+    /// How many bytes the disk has.
     ghost size: { Self → ℕ };
 
-    /// How many of its calls failed, without an upper end.
+    /// How many of its calls have failed, without an upper limit.
     ghost failures: { Self → ℕ };
 
     /// Whether this kind of disk keeps the rules.
@@ -54,27 +54,27 @@ pub trait Disk {
     /// What a crash now may leave.
     ghost may_leave: { Self → List ℕ → Type 0 };
 
-    /// The moment, as a number that does not fall.
+    /// The present moment, as a number that never decreases.
     ghost moment: { Self → ℕ };
 
-    /// What a crash at some moment from that one on may have left, during a call or between two.
+    /// What a crash may have left at any moment since that one, during a call or between two.
     ghost left_since: { Self → ℕ → List ℕ → Type 0 };
 
-    /// The kind's own model of a read, where it has one: the disk before, the offset, the buffer before, whether it
-    /// answers Ok, the buffer and the disk afterwards.
+    /// The kind's own model of a read, if it has one: the disk before, the offset, the buffer before, whether the result is Ok,
+    /// the buffer and the disk afterwards.
     ghost reads: { Self → ℕ → List ℕ → Bool → List ℕ → Self → Type 0 } = { λ _ _ _ _ _ _. ⊤ };
 
-    /// The same of a write: the disk before, the offset, the bytes, whether it answers Ok, the disk afterwards.
+    /// The same for a write: the disk before, the offset, the bytes, whether the result is Ok, the disk afterwards.
     ghost writes: { Self → ℕ → List ℕ → Bool → Self → Type 0 } = { λ _ _ _ _ _. ⊤ };
 
-    /// The same of a sync: the disk before, whether it answers Ok, the disk afterwards.
+    /// The same for a sync: the disk before, whether the result is Ok, the disk afterwards.
     ghost syncs: { Self → Bool → Self → Type 0 } = { λ _ _ _. ⊤ };
 
     /// How many bytes the disk has.
     fn size(&self) -> usize
         ensures { result ≡ size self.now };
 
-    /// Fills the buffer with the bytes from `offset` on. A failure (35) leaves any bytes in the buffer.
+    /// Fills the buffer with the bytes from `offset` on. A failure (35) leaves arbitrary bytes in the buffer.
     fn read_at(&mut self, offset: usize, buffer: &mut [u8]) -> Result<(), DiskFault>
         requires { offset + length buffer.old ≤ size self.old }
         ensures model { reads self.old offset buffer.old (is_ok result) buffer.new self.new }
@@ -86,7 +86,7 @@ pub trait Disk {
         ensures time { IsTrue honest
             → Elapses (moment self.old) (moment self.new) (left_since self.old) (left_since self.new) (may_leave self.new) };
 
-    /// Writes the bytes from `offset` on, unsettled. A failure (35) leaves any bytes, unsettled, in the range.
+    /// Writes the bytes from `offset` on, unsettled. A failure (35) leaves arbitrary bytes, unsettled, in the range.
     fn write_at(&mut self, offset: usize, bytes: &[u8]) -> Result<(), DiskFault>
         requires { offset + length bytes.now ≤ size self.old }
         ensures model { writes self.old offset bytes.now (is_ok result) self.new }
@@ -109,19 +109,19 @@ pub trait Disk {
         ensures time { IsTrue honest
             → Elapses (moment self.old) (moment self.new) (left_since self.old) (left_since self.new) (may_leave self.new) };
 
-    /// How many calls failed, and 2^64 - 1 where there were more.
+    /// How many calls have failed, or 2^64 - 1 if there were more.
     fn failures(&self) -> u64
         ensures { result ≡ min (failures self.now) (2 ^ 64 - 1) };
 
     /// A read gives as many bytes as the disk has.
     ghost has_size: { (disk : Self) → IsTrue honest → length (seen disk) ≡ size disk };
 
-    /// What a read gives is an image.
+    /// The bytes that a read gives are an image.
     ghost seen_is_image: { (disk : Self) → IsTrue honest → may_leave disk (seen disk) };
 
-    /// This moment is one of those since an earlier one.
+    /// The present moment counts among those since an earlier one.
     ghost counts_now: { (disk : Self) (t : ℕ) (image : List ℕ) → IsTrue honest → t ≤ moment disk → may_leave disk image → left_since disk t image };
 
-    /// Since this moment there is no other.
+    /// Since the present moment there is no other.
     ghost only_now: { (disk : Self) (image : List ℕ) → IsTrue honest → left_since disk (moment disk) image → may_leave disk image };
 }

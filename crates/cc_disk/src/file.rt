@@ -1,6 +1,6 @@
 // The disk on a file.
 
-ghost use Rattle.std.specs.Prelude.{true, false, ◌≡◌, ◌+◌, ◌↔◌, [], ⊤, length, IfOk, IsOkAnd, IsTrue, OnOk, OnErr, is_ok, if◌then◌else◌};
+ghost use Rattle.std.specs.Prelude.{true, false, ◌≡◌, ◌+◌, ◌↔◌, [], ⊤, IfOk, IsOkAnd, IsTrue, is_ok, if◌then◌else◌};
 ghost use Rattle.std.proofs.lemmas.Bool.{false≢true};
 
 use crate::count::FailureCount;
@@ -10,46 +10,47 @@ use std::io::{self, Seek, SeekFrom};
 use std::os::unix::fs::{FileExt, FileTypeExt, OpenOptionsExt, PermissionsExt};
 use std::path::Path;
 
-/// Where the name begins by which a journal on a disk is known.
+/// The offset of the name by which a journal on a disk is recognised.
 const NAME: usize = 1;
 
-/// How many bytes a journal has up to the one that tells whether a record follows, with it.
+/// How many bytes a journal has up to and including the one that says whether a record follows.
 const BEGINNING: usize = 17;
 
-/// The rights of a file that is made: its owner's alone.
+/// The access rights of a new file: for its owner alone.
 const OWN: u32 = 0o600;
 
 /// A disk on a file of the operating system, whose length is the disk's size, or on a block device.
 ///
-/// Its kind is not honest: no contract can say what a file holds. That it keeps the rules of a disk rests on premises
-/// about the system, which `docs/DISK.md` names. Each call of the disk makes one system call at most, and answers 35 where
-/// that call is refused or does less than was asked. After a sync that failed every later call answers 35: the system may
-/// have given up the pages that it could not write, and a later sync would not tell.
+/// Its kind is not honest, because no contract can say what a file holds. It keeps the rules of a disk only if some premises
+/// about the system hold, which `docs/DISK.md` lists. Each call of the disk makes at most one system call, and returns 35
+/// (DeviceFailed) if that call is refused or does less than was asked. After a failed sync every later call returns 35: the
+/// system may have dropped the pages that it could not write, and a later sync would not report that.
 ///
-/// While it lives no other process has the file open as a disk.
+/// While it exists, no other process has the file open as a disk.
 pub struct FileDisk {
     file: fs::File,
     size: usize,
     failed: FailureCount,
-    // Whether a sync failed.
+    // Whether a sync has failed.
     lost: bool,
 }
 
-// Makes a file where nothing is.
+// Makes a file at a path that nothing has.
 fn make_new(rt: &HostRuntime, path: &str) -> io::Result<fs::File> {
     let mut how = OpenOptions::new();
     how.read(true).write(true).create_new(true).mode(OWN);
     let file = how.open(rt, path)?;
-    // The umask may have taken some of them.
+    // The umask may have removed some of the rights.
     file.set_permissions(Permissions::from_mode(OWN))?;
     Ok(file)
 }
 
-// Opens a file, and makes it if it is not there. It has its rights from the first moment on, since whoever opens it once keeps what was opened.
+// Opens a file, and makes it if it is not there. A new file has its rights from the first moment, because whoever has opened a
+// file keeps access to it.
 fn open_or_make(rt: &HostRuntime, path: &str) -> io::Result<fs::File> {
     match make_new(rt, path) {
         Ok(file) => Ok(file),
-        // It is there, or a link to it.
+        // The file is there, or a link to it.
         Err(_) => {
             let mut how = OpenOptions::new();
             how.read(true).write(true).create(true).mode(OWN);
@@ -58,7 +59,7 @@ fn open_or_make(rt: &HostRuntime, path: &str) -> io::Result<fs::File> {
     }
 }
 
-// By hand, so that crates above call it and do not prove anew how each part is dropped.
+// Written by hand, so that the crates above use this proof and need not show again how each part is dropped.
 impl Drop for FileDisk {
     fn drop(self) {
         let FileDisk {
@@ -71,16 +72,17 @@ impl Drop for FileDisk {
 }
 
 impl FileDisk {
-    /// A new file of `size` zeros, in the place of an old one. Its room is taken, and it and its name are synced. Before the
-    /// old one is cut, what it is known by is spoilt and synced: a crash leaves all of it or nothing that is known.
+    /// Makes a disk on a file of `size` zeros, in place of any file at the path. Its space is allocated, and the file and its
+    /// name are synced. An old journal there is made unrecognisable, and that is synced, before the old file is cut: so a crash
+    /// leaves either the whole old journal or nothing that is recognised as one.
     ///
-    /// A block device is not cut: the disk is its first `size` bytes, as they were but for the first ones, which are zeros.
+    /// A block device is not cut. The disk is its first `size` bytes; the first 17 become zeros, the others stay as they were.
     ///
-    /// A file that is not there yet is made with the rights 0600, whatever the umask: it has the sources of all units. One that is there keeps
-    /// its rights.
+    /// A new file gets the access rights 0600, whatever the umask, because it will have the sources of all units. An existing
+    /// file keeps its rights.
     ///
-    /// 35 where the system refuses, the device has fewer bytes, or another process has the file open as a disk, which is as
-    /// before in the last two cases.
+    /// Fails with 35 (DeviceFailed) if the system refuses, the device has fewer than `size` bytes, or another process has the
+    /// file open as a disk. In the last two cases the file or device is unchanged.
     pub fn create(rt: &HostRuntime, path: &str, size: usize) -> Result<FileDisk, DiskFault>
         ensures size { IfOk result (λ disk. disk.size ≡ size) }
         ensures failed { IfOk result (λ disk. disk.failed ≡ 0) }
@@ -89,7 +91,7 @@ impl FileDisk {
         FileDisk::on(rt, open_or_make(rt, path)?, path, size)
     }
 
-    /// The same, where nothing may have the path: 35 if something has it, which is not touched.
+    /// Does the same for a path that must be free: fails with 35 if something is there, and leaves that unchanged.
     pub fn create_new(rt: &HostRuntime, path: &str, size: usize) -> Result<FileDisk, DiskFault>
         ensures size { IfOk result (λ disk. disk.size ≡ size) }
         ensures failed { IfOk result (λ disk. disk.failed ≡ 0) }
@@ -98,7 +100,7 @@ impl FileDisk {
         FileDisk::on(rt, make_new(rt, path)?, path, size)
     }
 
-    // A disk of zeros on this file, which has this path.
+    // Makes a disk of zeros on this file, which has this path.
     fn on(rt: &HostRuntime, file: fs::File, path: &str, size: usize) -> Result<FileDisk, DiskFault>
         ensures size { IfOk result (λ disk. disk.size ≡ size) }
         ensures failed { IfOk result (λ disk. disk.failed ≡ 0) }
@@ -116,17 +118,17 @@ impl FileDisk {
         if device.is_none() {
             file.set_len(0)?;
             put_zeros(&file, size)?;
-            // The zeros are on the medium, so that no later write needs room.
+            // The zeros are on the medium now, so no later write needs space.
             file.sync_all()?;
             sync_folder(rt, path)?;
         }
         Ok(FileDisk::over(file, size))
     }
 
-    /// The disk on an old file, whose length is its size, or on a block device. What earlier processes left in the system's
-    /// memory is synced first.
+    /// Opens the disk on an existing file, whose length becomes the disk's size, or on a block device. Whatever earlier processes
+    /// left in the system's memory is synced first.
     ///
-    /// 35 where the system refuses, or another process has the file open as a disk.
+    /// Fails with 35 (DeviceFailed) if the system refuses, or another process has the file open as a disk.
     pub fn open(rt: &HostRuntime, path: &str) -> Result<FileDisk, DiskFault>
         ensures failed { IfOk result (λ disk. disk.failed ≡ 0) }
         ensures sound { IfOk result (λ disk. disk.lost ≡ false) }
@@ -141,7 +143,7 @@ impl FileDisk {
         Ok(FileDisk::over(file, size))
     }
 
-    // The disk on an open file of that length.
+    // Makes a disk on an open file of that length.
     fn over(file: fs::File, size: usize) -> FileDisk
         ensures size { result.size ≡ size }
         ensures failed { result.failed ≡ 0 }
@@ -155,7 +157,7 @@ impl FileDisk {
         }
     }
 
-    // The answer of a call that was done or not, counted.
+    // The result of a call, by whether it was done; a failure is counted.
     fn told(&mut self, done: bool) -> Result<(), DiskFault>
         ensures answer { is_ok result ≡ done }
         ensures failed { self.new.failed ≡ (if done then self.old.failed else self.old.failed + 1) }
@@ -181,7 +183,7 @@ impl From<io::Error> for DiskFault {
     }
 }
 
-// Takes the file for this process.
+// Locks the file for this process.
 fn lock(file: &fs::File) -> Result<(), DiskFault> {
     if file.try_lock().is_err() {
         return Err(DiskFault::DeviceFailed);
@@ -189,8 +191,8 @@ fn lock(file: &fs::File) -> Result<(), DiskFault> {
     Ok(())
 }
 
-// How many bytes a block device has; `None` of a file that is none. The system gives a device the length 0, and tells its
-// bytes by a seek to their end.
+// How many bytes a block device has; `None` for a file that is not one. The system reports the length of a device as 0, and shows
+// its size by a seek to its end.
 fn device_size(file: &fs::File) -> Result<Option<usize>, DiskFault> {
     if !file.metadata()?.file_type().is_block_device() {
         return Ok(None);
@@ -199,7 +201,7 @@ fn device_size(file: &fs::File) -> Result<Option<usize>, DiskFault> {
     Ok(Some(device.seek(SeekFrom::End(0))? as usize))
 }
 
-// Whether a system call moved as many bytes as were asked for: fewer are a failure too.
+// Whether a system call moved as many bytes as were asked for. Fewer count as a failure.
 fn is_whole(answer: io::Result<usize>, wanted: usize) -> bool
     ensures { IsTrue result ↔ IsOkAnd answer (λ count. count ≡ wanted) }
 {
@@ -209,21 +211,21 @@ fn is_whole(answer: io::Result<usize>, wanted: usize) -> bool
     }
 }
 
-// Whether this many bytes from that offset on were written, by one system call.
+// Writes these bytes from that offset on by one system call, and returns whether it wrote them all.
 fn is_written(file: &fs::File, offset: usize, bytes: &[u8]) -> bool {
     is_whole(file.write_at(bytes, offset as u64), bytes.len())
 }
 
-// Whether the buffer was filled from that offset on, in the same way.
+// Fills the buffer from that offset on by one system call, and returns whether it was filled.
 fn is_read(file: &fs::File, offset: usize, buffer: &mut [u8]) -> bool {
     let answer = file.read_at(buffer, offset as u64);
     is_whole(answer, buffer.len())
 }
 
-// Spoils what a journal on the file is known by, and then its beginning, each on the medium before the next call. Else a file
-// system that fills a cut file with zeros in place could keep a journal's beginning, with zeros anywhere behind it. One byte
-// comes first: torn or not, it leaves the old journal whole or none. What the file's length is does not matter, since that may
-// not have reached the medium either.
+// Makes a journal on the file unrecognisable, then clears its beginning; each write is on the medium before the next call.
+// Otherwise a file system that fills a cut file with zeros in place could keep a journal's beginning, with zeros at arbitrary
+// places after it. A single byte is written first: torn or not, that write leaves the old journal whole or unrecognisable. The
+// file's length does not matter, since it may not have reached the medium either.
 fn spoil(file: &fs::File) -> Result<(), DiskFault> {
     let zeros = [0u8; BEGINNING];
     if !is_written(file, NAME, &zeros[..1]) {
@@ -237,7 +239,7 @@ fn spoil(file: &fs::File) -> Result<(), DiskFault> {
     Ok(())
 }
 
-// Writes this many zeros from the file's start on.
+// Writes this many zeros from the beginning of the file.
 fn put_zeros(file: &fs::File, size: usize) -> Result<(), DiskFault> {
     let zeros = [0u8; 4096];
     let mut done = 0;
@@ -255,7 +257,7 @@ fn put_zeros(file: &fs::File, size: usize) -> Result<(), DiskFault> {
     Ok(())
 }
 
-// Settles the file's name: a new file's entry in its folder is lost in a power cut before that.
+// Syncs the file's name: until then a power cut may lose a new file's entry in its folder.
 fn sync_folder(rt: &HostRuntime, path: &str) -> Result<(), DiskFault> {
     let folder = match Path::new(path).parent() {
         Some(folder) if !folder.as_str().is_empty() => folder.as_str(),
@@ -280,7 +282,7 @@ impl Disk for FileDisk {
 
     ghost left_since = { λ _ _ _. ⊤ };
 
-    // After a sync that failed every call fails.
+    // After a failed sync every call fails.
     ghost reads = { λ old offset buffer ok after new. (new.lost ≡ old.lost) × (old.lost ≡ true → ok ≡ false) };
 
     ghost writes = { λ old offset bytes ok new. (new.lost ≡ old.lost) × (old.lost ≡ true → ok ≡ false) };

@@ -1,4 +1,4 @@
-// The disk that fails on purpose, once or for good, after a number of calls.
+// A disk that fails on purpose after a number of calls, once or for good.
 
 ghost use Rattle.std.specs.Prelude.{◌≡◌, ◌+◌, true, false, Some};
 ghost use Rattle.cc_disk.specs.Fuse.{course_of, after_call, ReachesAndFails};
@@ -6,40 +6,40 @@ ghost use Rattle.cc_disk.specs.Fuse.{course_of, after_call, ReachesAndFails};
 use crate::count::FailureCount;
 use crate::disk::{Disk, DiskFault};
 
-/// What a fuse does when it is met.
+/// What a fuse does when it blows.
 #[derive(Clone, Copy, Debug)]
 pub enum FuseMode {
-    /// The next call alone fails, and does not reach the disk.
+    /// Only the next call fails, and it does not reach the disk.
     Once,
     /// The next call and all later ones fail, and do not reach the disk.
     Before,
-    /// As `Before`, but a write that is the next call reaches the disk, unsettled, and then fails.
+    /// As `Before`, but if the next call is a write, it reaches the disk, unsettled, and then fails.
     Within,
 }
 
-// What becomes of one call.
+// What happens to one call.
 #[derive(Clone, Copy)]
 enum Course {
-    // The disk answers it.
+    // The disk does it.
     Passes,
     // It fails, and does not reach the disk.
     Fails,
-    // It is a write; it reaches the disk, and then fails.
+    // It is a write that reaches the disk and then fails.
     WritesAndFails,
 }
 
-/// A disk that fails on purpose: it passes a number of calls of `read_at`, `write_at` and `sync` on to the disk that it
-/// was made of, and then does as its mode says. It is honest where that disk is.
+/// A disk that fails on purpose. It passes a number of calls of `read_at`, `write_at` and `sync` on to the disk that it was made
+/// of, and then does what its mode says. It is honest if that disk is.
 pub struct FuseDisk<D: Disk> {
     disk: D,
-    // How many calls still pass before the fuse; none once it was met.
+    // How many calls still pass before the fuse blows; `None` once it has blown.
     ahead: Option<u64>,
     mode: FuseMode,
-    // The failures that the fuse made, beside those of the disk.
+    // The failures that the fuse caused, apart from those of the disk.
     failed: FailureCount,
 }
 
-// By hand, so that crates above call it and do not prove anew how each part is dropped.
+// Written by hand, so that the crates above use this proof and need not show again how each part is dropped.
 impl<D: Disk + Drop> Drop for FuseDisk<D> {
     fn drop(self) {
         let FuseDisk {
@@ -52,7 +52,7 @@ impl<D: Disk + Drop> Drop for FuseDisk<D> {
 }
 
 impl<D: Disk> FuseDisk<D> {
-    /// Passes `passes` calls before the fuse.
+    /// Makes a disk that passes this many calls before the fuse blows.
     pub fn new(disk: D, passes: u64, mode: FuseMode) -> FuseDisk<D>
         ensures disk { result.disk ≡ disk }
         ensures ahead { result.ahead ≡ Some passes }
@@ -67,7 +67,7 @@ impl<D: Disk> FuseDisk<D> {
         }
     }
 
-    /// The disk that it was made of, as the calls that reached it left it.
+    /// Returns the disk that it was made of, as the calls that reached it left it.
     pub fn into_disk(self) -> D
         ensures { result ≡ self.disk }
     {
@@ -81,7 +81,7 @@ impl<D: Disk> FuseDisk<D> {
     }
 }
 
-// What becomes of the next call.
+// What happens to the next call.
 fn next_course(mode: FuseMode, ahead: Option<u64>, write: bool) -> Course
     ensures { result ≡ course_of mode ahead write }
 {
@@ -98,7 +98,7 @@ fn next_course(mode: FuseMode, ahead: Option<u64>, write: bool) -> Course
     }
 }
 
-// How many calls pass before the fuse after one call more.
+// How many calls pass before the fuse blows, after one more call.
 fn one_less(ahead: Option<u64>) -> Option<u64>
     ensures { result ≡ after_call ahead }
 {
@@ -125,7 +125,8 @@ impl<D: Disk> Disk for FuseDisk<D> {
 
     ghost left_since = { λ fuse t image. D.left_since fuse.disk t image };
 
-    // The mode decides, by how many calls came before: the call is its disk's own, or fails and leaves the disk.
+    // The mode and the number of calls before decide: either the disk does the call, or the call fails and does not reach the
+    // disk.
     ghost reads = { λ old offset buffer ok after new. (new.ahead ≡ after_call old.ahead) × (new.mode ≡ old.mode)
         × (course_of old.mode old.ahead false ≡ Course.Passes
         → (new.failed ≡ old.failed) × D.reads old.disk offset buffer ok after new.disk)
@@ -170,7 +171,7 @@ impl<D: Disk> Disk for FuseDisk<D> {
                 Err(DiskFault::DeviceFailed)
             }
             Course::WritesAndFails => {
-                // Where the disk fails by itself, it has counted this call.
+                // If the disk itself fails, it has counted this call.
                 self.disk.write_at(offset, bytes)?;
                 self.failed.add_one();
                 Err(DiskFault::DeviceFailed)

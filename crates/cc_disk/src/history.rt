@@ -5,7 +5,7 @@ ghost use Rattle.std.specs.Borrow.{ftrue};
 
 use std::marker::{Model, PhantomData};
 
-/// What happened so far, the newest last. A clause reads it as `items`.
+/// What has happened so far, newest last. A clause reads it as `items`.
 #[derive(Drop)]
 pub struct History<T> {
     of: PhantomData<T>,
@@ -17,14 +17,14 @@ impl<T> Model for History<T> {
 }
 
 impl<T> History<T> {
-    /// Nothing has happened.
+    /// Returns a history in which nothing has happened.
     pub fn new() -> History<T>
         ensures { result.items ≡ [] }
     {
         History { of: PhantomData }
     }
 
-    /// The history with one thing more.
+    /// Returns the history with one more event.
     pub fn and(&self, newest: &T) -> History<T>
         ensures { result.items ≡ self.now.items ++ newest.now ∷ [] }
     {

@@ -1,8 +1,12 @@
-//! Disks that may lose power: the rules that a disk keeps, and three kinds of disk to run a store on.
+//! Disks that may lose power: the rules that a disk keeps, and three kinds of disk for a store to run on.
 //!
-//! `disk` has the trait `Disk` and its fault, `memory` the disk in memory, `cells` its bytes, `file` the disk
-//! on a file, `fuse` the disk that fails on purpose, `history` and `count` what contracts alone remember.
-//! It hands out `Disk`, `DiskFault`, `MemoryDisk`, `FileDisk`, `FuseDisk`, `FuseMode` and `History`.
+//! - `disk`: the trait `Disk` and its fault.
+//! - `memory`: the disk in memory; `cells`: its bytes.
+//! - `file`: the disk on a file.
+//! - `fuse`: the disk that fails on purpose.
+//! - `history` and `count`: what only contracts remember.
+//!
+//! The crate exports `Disk`, `DiskFault`, `MemoryDisk`, `FileDisk`, `FuseDisk`, `FuseMode` and `History`.
 #![tactic(auto)]
 
 mod cells;

@@ -1,7 +1,7 @@
 // The disk in memory: the model itself, call by call. It never fails.
 
-ghost use Rattle.std.specs.Prelude.{◌≡◌, ◌+◌, ◌-◌, ◌^◌, ◌<◌, ◌≤◌, min, true, IsTrue, List, ℕ, [], ◌∷◌, ◌++◌, length, take, drop, map, IfOk, IsOk, OnOk, OnErr, is_ok, if◌then◌else◌};
-ghost use Rattle.cc_disk.specs.Images.{IsWritten, DiffersWithin, UnsettlesWithin, AddsNone, LeavesAlone, Elapses};
+ghost use Rattle.std.specs.Prelude.{◌≡◌, ◌+◌, ◌-◌, ◌<◌, ◌≤◌, true, IsTrue, [], ◌∷◌, ◌++◌, length, take, drop, map, IfOk, IsOk};
+ghost use Rattle.cc_disk.specs.Images.{IsWritten, UnsettlesWithin, AddsNone, LeavesAlone, Elapses};
 ghost use Rattle.cc_disk.specs.Model.{bytes_of, IsImage, new_cells, written, synced, crashed};
 ghost use Rattle.cc_disk.specs.Past.{LeftSince};
 ghost use Rattle.cc_disk.specs.internal.Laws.{only_now_left, bytes_are_image};
@@ -14,17 +14,17 @@ use crate::history::History;
 use std::alloc::{AllocError, Global};
 use std::marker::Model;
 
-/// A disk in memory, for tests and for runs that need no file. It is honest, and none of its calls fails or takes memory
-/// but `new` and `crash`.
+/// A disk in memory, for tests and for runs that need no file. It is honest. Only `new` and `crash` take memory, and only they
+/// can fail.
 ///
 /// A clause sees its cells, and the states that it had before each write and each sync (`past`).
 pub struct MemoryDisk {
     cells: Cells,
-    // The states before each write and each sync, for contracts alone.
+    // The states before each write and each sync, which only contracts read.
     past: History<Cells>,
 }
 
-// By hand, so that crates above call it and do not prove anew how each part is dropped.
+// Written by hand, so that the crates above use this proof and need not show again how each part is dropped.
 impl Drop for MemoryDisk {
     fn drop(self) {
         let MemoryDisk { cells, past } = self;
@@ -40,7 +40,7 @@ impl Model for MemoryDisk {
 }
 
 impl MemoryDisk {
-    /// A disk of `size` zeros, all settled. It fails only where memory runs out (40).
+    /// Makes a disk of `size` zeros, all settled. Fails only if memory runs out (40).
     pub fn new(alloc: Global, size: usize) -> Result<MemoryDisk, AllocError>
         ensures cells { IfOk result (λ disk. disk.cells ≡ new_cells size) }
         ensures past { IfOk result (λ disk. disk.past ≡ []) }
@@ -51,8 +51,8 @@ impl MemoryDisk {
         })
     }
 
-    /// The disk after a crash that leaves, at each unsettled offset `i`, byte `i` of the choice, and 0 past the choice's
-    /// end. All of it is settled. It fails only where memory runs out (40).
+    /// Returns the disk after a crash that leaves, at each unsettled offset `i`, byte `i` of the choice, or 0 past the choice's
+    /// end. All of it is settled. Fails only if memory runs out (40).
     pub fn crash(&self, alloc: Global, choice: &[u8]) -> Result<MemoryDisk, AllocError>
         ensures cells { IfOk result (λ disk. disk.cells ≡ crashed self.now.cells choice.now) }
         ensures past { IfOk result (λ disk. disk.past ≡ []) }

@@ -1,5 +1,6 @@
 -- A part of a run over objects of words does what it did before there were arrays of `unsigned char`: it gives the same and leaves objects
--- of words, the same as they were left. By recursion on the tree and on how many calls may still be opened, as in `Kept` of `cc_c_laws`.
+-- of words, the same as it left then. By recursion on the tree and on the number of calls that may still be opened, as in `Kept` of
+-- `cc_c_laws`.
 use Rattle.std.proofs.Common.{◌≡◌, ℕ, zero, suc, ◌+◌, Bool, true, false, if◌then◌else◌, List, [], ◌∷◌, ◌++◌, map, length, nat_lt, Option, Some, None, is_some, unwrap_or, slice_get, codes, refl, sym, ap, ◌∙◌, subst}
 use Rattle.cc_tokens.specs.declared.scalar.Scalar.{Scalar}
 use Rattle.cc_tokens.specs.declared.scalar.Scalar.TheVariants.{Int}
@@ -16,17 +17,17 @@ use Rattle.cc_c_laws.specs.Meaning.{Global, State, Run, Gives, Going, Wrong, Flo
 use Rattle.cc_earlier.specs.Texts.{ArePlain, EarlierGlobal, earlier_with_element, earlier_global, AreOfWords, EarlierMeaningStays}
 use Rattle.cc_earlier.specs.Meaning as earlier
 
--- a state as it was
+-- a state as it was then
 abbrev before : State → earlier.State
 before s = record { locals = s.locals; globals = map earlier_global s.globals; input = s.input; output = s.output; steps = s.steps }
 
--- a part of a run came to the same, and its objects are of words
+-- a part of a run has the same result, and its objects are of words
 abbrev Same : {A : Type 0} → Run A → earlier.Run A → Type 0
 Same (Gives x s) q = AreOfWords s.globals × (q ≡ earlier.Gives x (before s))
 Same (Going output) q = q ≡ earlier.Going output
 Same (Wrong cause output) q = q ≡ earlier.Wrong cause output
 
--- what a part does is what it did
+-- what a part does now is what it did then
 abbrev Does : {A : Type 0} → (State → Run A) → (earlier.State → earlier.Run A) → Type 0
 Does part was = (s : State) → AreOfWords s.globals → Same (part s) (was (before s))
 
@@ -86,7 +87,7 @@ does_turns (suc n) test body behind tested ran followed p q r =
 does_block : (part : State → Run Flow) (was : earlier.State → earlier.Run Flow) → Does part was → Does (in_block part) (earlier.in_block was)
 does_block part was h = λ s are. same_then (part s) (was (before s)) (λ flow t. Gives flow (left_scope (length s.locals) t)) (λ flow t. earlier.Gives flow (earlier.left_scope (length s.locals) t)) (h s are) (λ flow t is. (is, refl))
 
--- what stands first in a `for` header, then the loop
+-- the first part of a `for` header, then the loop
 does_header : (first : State → Run Flow) (began : earlier.State → earlier.Run Flow) (loop : State → Run Flow) (looped : earlier.State → earlier.Run Flow)
     → Does first began → Does loop looped → Does (in_block (λ t. then_do (first t) (λ flow u. loop u))) (earlier.in_block (λ t. earlier.then_do (began t) (λ flow u. looped u)))
 does_header first began loop looped h f =
@@ -145,7 +146,7 @@ module _ (stays : EarlierMeaningStays) where
       → Does (λ s. then_do (new_value op t u d w s) (λ new v. write d new v)) (λ s. earlier.then_do (earlier.new_value op t u d w s) (λ new v. earlier.write d new v))
   does_assign op t u d w = does_then (new_value op t u d w) (earlier.new_value op t u d w) _ _ (does_new op t u d w) (λ new. does_write d new)
 
-  -- where each call does what it did
+  -- if each call does what it did
   module _ (call : Calls) (called : earlier.Calls) (does_call : (f ws : List ℕ) → Does (call f ws) (called f ws)) where
     mutual
       does_evaluate : (e : Expr) (bs : List Binding) → Does (evaluate e bs call) (earlier.evaluate e bs called)

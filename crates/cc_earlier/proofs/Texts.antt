@@ -88,7 +88,7 @@ earlier_trees_stay tokens trees text tree h =
       plain_unit tree s.0 s.1,
     )
 
--- no token of two rows is `char`
+-- if two rows have no token `char`, neither has one
 no_char_apart : (xs ys : List Measured) → HasNoChar (plain_tokens (xs ++ ys)) → HasNoChar (plain_tokens xs) × HasNoChar (plain_tokens ys)
 no_char_apart [] ys h = (tt, h)
 no_char_apart (x ∷ xs) ys h = let q = no_char_apart xs ys h.1 in ((h.0, q.0), q.1)
@@ -197,7 +197,7 @@ read_same : (gs : List Global) (x : List ℕ) → global_words gs x ≡ earlier_
 read_same [] x = refl
 read_same (g ∷ rest) x = ap (λ (ws : List ℕ). if same_name g.name x then g.words else ws) (read_same rest x)
 
--- the objects after a write, where the first has the name or not
+-- the objects after a write, whether or not the first has the name
 written_words : (x : List ℕ) (i w : ℕ) (g : Global) (rest : List Global) (b : Bool) → AreOfWords (g ∷ rest) → AreOfWords (with_element x i w rest)
     → AreOfWords (if b then record g { words = slice_set g.words i (kept g.width w) } ∷ rest else g ∷ with_element x i w rest)
 written_words x i w g rest true h ih = (h.0, h.1)
@@ -218,7 +218,7 @@ write_same : (x : List ℕ) (i w : ℕ) (gs : List Global) → AreOfWords gs →
 write_same x i w [] h = refl
 write_same x i w (g ∷ rest) h = written_same x i w g rest (same_name g.name x) h.0 (write_same x i w rest h.1)
 
--- objects of the same sizes are of words together
+-- if one of two objects of the same sizes is of words, so is the other
 abbrev first_width : List NamedSize → Width
 first_width [] = Word
 first_width (z ∷ zs) = z.width

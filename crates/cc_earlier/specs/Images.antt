@@ -1,7 +1,7 @@
--- A text that had a typed unit before there were arrays of `unsigned char` has the same unit and the same behavior, and an image that agreed
--- with it agrees. What was is said by clauses as they stood: of the grammar, the rules and the limits by those of `Texts`, of a run by
--- `Meaning`. What is left to reading is that each other clause that they lead to has its text, as those pages say, and that the machine
--- and `Follows` have theirs.
+-- A text that had a typed unit before there were arrays of `unsigned char` has the same unit and the same behavior, and an image that
+-- agreed with it still agrees. The past is described by the clauses as they were then: the grammar, the rules and the limits by those of
+-- `Texts`, a run by `Meaning`. A reader has to compare one thing: that each other clause to which they lead has the same text as then, as
+-- those pages say, and so have the machine and `Follows`.
 use Rattle.std.specs.Prelude.{◌≡◌, ℕ, true, List, []}
 use Rattle.cc_rv32.specs.declared.image.Image.{Image}
 use Rattle.cc_tokens.specs.Token.{Lexeme}
@@ -38,23 +38,23 @@ pub record EarlierAgreement (text : List ℕ) (image : Image) : Type 0 where
 abbrev pub EarlierAgree : List ℕ → Image → Type 0
 EarlierAgree text image = ∥ EarlierAgreement text image ∥₁
 
--- a text that had a typed unit within the limits has it
+-- a text that had a typed unit within the limits has it now
 abbrev pub EarlierUnitsStay : Type 0
 EarlierUnitsStay =
     (text : List ℕ) (tree : List External) → EarlierText text tree → EarlierTyped tree → earlier_excesses tree ≡ []
     → SpellsText text tree × IsChecked (source_with text tree)
 
--- the program of a text that had a tree does what it did, on each input within each number of steps
+-- the program of a text that had a tree does what it did, on each input and within each number of steps
 abbrev pub EarlierProgramsStay : Type 0
 EarlierProgramsStay =
     (text : List ℕ) (tree : List External) → EarlierText text tree
     → (input : List ℕ) (n : ℕ) → source_behavior (source_with text tree) input n ≡ earlier.source_behavior (source_with text tree) input n
 
--- an image that agreed with a text agrees with it
+-- an image that agreed with a text agrees with it now
 abbrev pub EarlierImagesAgree : Type 0
 EarlierImagesAgree = (text : List ℕ) (image : Image) → EarlierAgree text image → Agree text image
 
--- and no image agrees with a text without the word `char` that did not
+-- with a text without the word `char`, no image agrees now that did not agree then
 abbrev pub NoAgreementIsNew : Type 0
 NoAgreementIsNew =
     (text : List ℕ) (tokens : List Lexeme) (image : Image) → IsTokens text tokens → HasNoChar tokens → Agree text image → EarlierAgree text image

@@ -1,6 +1,6 @@
--- the clauses of the grammar, the rules, the limits and the objects as they stood, and that the present ones do the same
+-- the clauses of the grammar, the rules, the limits and the objects as they were then, and that the present ones do the same
 pub mod Texts
--- the clauses of a run as they stood
+-- the clauses of a run as they were then
 pub mod Meaning
--- that a text of before has its unit, does what it did and agrees with the images that it agreed with
+-- that an earlier text has its unit, does what it did and agrees with the images with which it agreed
 pub mod Images

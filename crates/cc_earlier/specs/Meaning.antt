@@ -1,6 +1,6 @@
 -- What a program did before there were arrays of `unsigned char`: each clause of `cc_c_laws/specs/Meaning` that has the state of a run, as
--- it stood then, over objects of words alone (`EarlierGlobal` of `Texts`). Clauses without a state are not repeated: but
--- for those of an array of `unsigned char` itself, none has another text. The numbers in parentheses are clauses of ISO/IEC 9899:1999.
+-- it was then, over objects that have only words (`EarlierGlobal` of `Texts`). Clauses without a state are not repeated: none of them has
+-- another text now, except those on arrays of `unsigned char` themselves. The numbers in parentheses are clauses of ISO/IEC 9899:1999.
 use Rattle.std.specs.Prelude.{ℕ, zero, suc, ◌+◌, ◌-◌, true, false, List, [], ◌∷◌, ◌++◌, length, drop, nat_lt, if◌then◌else◌, Option, Some, None, is_some, unwrap_or, slice_get, codes}
 use Rattle.cc_tokens.specs.declared.scalar.Scalar.{Scalar}
 use Rattle.cc_tokens.specs.declared.scalar.Scalar.TheVariants.{Int}
@@ -19,10 +19,10 @@ use Rattle.cc_c_laws.specs.declared.cause.Cause.{Cause}
 use Rattle.cc_c_laws.specs.declared.cause.Cause.TheVariants.{Index, Depth}
 use Rattle.cc_earlier.specs.Texts.{EarlierGlobal, earlier_words_of, earlier_with_element, earlier_initial_globals}
 
--- ---- what a run had, and what a part of it came to
+-- ---- the state of a run, and what a part of a run results in
 
--- what a run has at one moment: the locals of the function that runs, the newest first, the globals, the words of the
--- input that are left, the output so far, and how many steps are left
+-- the state of a run at one moment: the locals of the function that runs, the newest first, the globals, the words of the input that are
+-- left, the output so far, and how many steps are left
 pub record State : Type 0 where
   pub locals : List Local
   pub globals : List EarlierGlobal
@@ -30,8 +30,8 @@ pub record State : Type 0 where
   pub output : List ℕ
   pub steps : ℕ
 
--- what a part of a run comes to: it gives something and the run goes on, no step is left, or the run goes wrong. The last
--- two keep the output
+-- what a part of a run results in: it gives something and the run goes on, no step is left, or the run goes wrong. The last two keep the
+-- output
 pub data Run (A : Type 0) : Type 0 where
   Gives : A → State → Run A
   Going : List ℕ → Run A
@@ -43,7 +43,7 @@ then_do (Gives x s) go = go x s
 then_do (Going output) go = Going output
 then_do (Wrong cause output) go = Wrong cause output
 
--- the first where the word is not 0, else the second
+-- the first if the word is not 0, else the second
 abbrev pub choose : {A : Type 0} → ℕ → (State → A) → (State → A) → State → A
 choose zero holds fails s = fails s
 choose (suc w) holds fails s = holds s
@@ -64,8 +64,8 @@ stored x w s =
     if is_some (local_word s.locals x) then record s { locals = with_local_word x w s.locals }
     else record s { globals = earlier_with_element x 0 w s.globals }
 
--- reads an element of an array; an index outside it goes wrong (6.5.2.1, 6.5.6). An index below 0 is a word above each
--- length that a unit may have
+-- reads an element of an array; an index outside it goes wrong (6.5.2.1, 6.5.6). An index below 0 is a word above each length that a unit
+-- may have
 abbrev pub read_element : List ℕ → ℕ → State → Run ℕ
 read_element x i s = elim (slice_get (earlier_words_of s.globals x) i) [ None ↦ Wrong Index s.output | Some w ↦ Gives w s ]
 
@@ -87,9 +87,8 @@ abbrev pub unless_decided : Option ℕ → (State → Run ℕ) → State → Run
 unless_decided None go s = go s
 unless_decided (Some w) go s = Gives w s
 
--- the value of an expression, where these names are in scope. Operands are evaluated from the left to the right, the right
--- one of && and || only where the left one does not decide, and one arm of a conditional (6.5.13 to 6.5.15); a conversion
--- keeps the word (6.3.1.3)
+-- the value of an expression in the scope of these names. Operands are evaluated from left to right, the right one of && and || only if the
+-- left one does not decide, and one arm of a conditional (6.5.13 to 6.5.15); a conversion keeps the word (6.3.1.3)
 abbrev mutual
   pub evaluate : Expr → List Binding → Calls → State → Run ℕ
   evaluate (Number t n) bs call s = Gives n s
@@ -109,14 +108,14 @@ abbrev mutual
   evaluate_all (more e rest) bs call s =
       then_do (evaluate e bs call s) (λ w t. then_do (evaluate_all rest bs call t) (λ ws u. Gives (w ∷ ws) u))
 
--- an expression that may be left out, and the word without it
+-- an expression that may be left out, and the word if it is
 abbrev pub evaluate_or : ℕ → Option Expr → List Binding → Calls → State → Run ℕ
 evaluate_or w None bs call s = Gives w s
 evaluate_or w (Some e) bs call s = evaluate e bs call s
 
 -- ---- assignments (6.5.16)
 
--- finds it: the index is evaluated, and not yet judged
+-- finds the destination: the index is evaluated, and not yet checked
 abbrev pub destination : Target → List Binding → Calls → State → Run Destination
 destination (AtVariable x) bs call s = Gives (ToVariable x.text) s
 destination (AtElement x e) bs call s = then_do (evaluate e bs call s) (λ i t. Gives (ToElement x.text i) t)
@@ -131,13 +130,12 @@ abbrev pub write : Destination → ℕ → State → Run Flow
 write (ToVariable x) w s = Gives Falls (stored x w s)
 write (ToElement x i) w s = write_element x i w s
 
--- what is written, of the right side's word: this word for `=`, else what the operator gives on the old value and it
+-- what is written, from the right side's word: this word for `=`, else what the operator gives on the old value and it
 abbrev pub new_value : Option BinaryOperator → Scalar → Scalar → Destination → ℕ → State → Run ℕ
 new_value None t u d w s = Gives w s
 new_value (Some op) t u d w s = then_do (old_value d s) (λ old v. given op (binary_word op (working_type op t u) old w) v)
 
--- an action: first the index, then the right side, then the old value where it is asked for, then the write; ++ and --
--- are += 1 and -= 1 (6.8.3)
+-- an action: first the index, then the right side, then the old value if it is needed, then the write; ++ and -- are += 1 and -= 1 (6.8.3)
 abbrev pub perform : Action → List Binding → Calls → State → Run Flow
 perform (Assign op target e) bs call s =
     then_do (destination target bs call s) (λ d t. then_do (evaluate e bs call t) (λ w u.
@@ -158,7 +156,7 @@ abbrev pub spend_of : {A : Type 0} → ℕ → (State → Run A) → State → R
 spend_of zero go s = Going s.output
 spend_of (suc left) go s = go (record s { steps = left })
 
--- spends a step and goes on; where none is left the run is going
+-- spends a step and goes on; if none is left, the run is still going
 abbrev pub spend : {A : Type 0} → (State → Run A) → State → Run A
 spend go s = spend_of s.steps go s
 
@@ -174,11 +172,11 @@ behind_body Continues go s = go s
 behind_body Breaks go s = Gives Falls s
 behind_body (Returns w) go s = Gives (Returns w) s
 
--- the body of a loop, which spends a step where it begins
+-- the body of a loop, which spends a step at its beginning
 abbrev pub begin_body : (State → Run Flow) → (State → Run Flow) → State → Run Flow
 begin_body body go s = spend (λ t. then_do (body t) (λ flow u. behind_body flow go u)) s
 
--- fewer than n turns of a loop: its condition, its body, and what stands after the body in a `for` header (6.8.5)
+-- fewer than n turns of a loop: its condition, its body, and what is after the body in a `for` header (6.8.5)
 abbrev pub turns : ℕ → (State → Run ℕ) → (State → Run Flow) → (State → Run Flow) → State → Run Flow
 turns zero test body behind s = Going s.output
 turns (suc n) test body behind s =
@@ -186,12 +184,11 @@ turns (suc n) test body behind s =
 
 -- ---- declarations
 
--- a local of that name, with the word 0, comes before all others
+-- a local with that name and the word 0, before all others
 abbrev pub with_local : List ℕ → State → State
 with_local x s = record s { locals = record { name = x; word = 0 } ∷ s.locals }
 
--- declares locals one after the other: each is 0, then gets the value of its initialiser, in whose scope it is
--- (6.2.1, 6.7.8)
+-- declares locals one after the other: each is 0, then gets the value of its initialiser, in whose scope it is (6.2.1, 6.7.8)
 abbrev pub declare : Scalar → List Declarator → Calls → Visible → State → Run Flow
 declare t [] call v s = Gives Falls s
 declare t (d ∷ rest) call v s =
@@ -213,13 +210,12 @@ in_block part s = then_do (part s) (λ flow t. Gives flow (left_scope (length s.
 
 -- ---- statements
 
--- a return, with its value where it has one
+-- a return, with its value if it has one
 abbrev pub return : Option Expr → List Binding → Calls → State → Run Flow
 return e bs call s = then_do (evaluate_or 0 e bs call s) (λ w t. Gives (Returns w) t)
 
--- what a statement does, and a list of statements, where at most n steps are left (6.8). A block and each part of a
--- statement are scopes, and a `for` header is one around its body (6.8.2, 6.8.4, 6.8.5); a condition that is left out
--- counts as true (6.8.5.3)
+-- what a statement does, and a list of statements, if at most n steps are left (6.8). A block and each part of a statement are scopes, and
+-- a `for` header is one around its body (6.8.2, 6.8.4, 6.8.5); a condition that is left out counts as true (6.8.5.3)
 abbrev mutual
   pub execute : Stmt → ℕ → Calls → Visible → State → Run Flow
   execute (Block all) n call v s = in_block (execute_all all n call (opened v)) s
@@ -250,8 +246,7 @@ abbrev mutual
 
 -- ---- functions
 
--- the body of a function on the words of its arguments: it has the parameters alone as its locals, and its caller's are
--- back after it
+-- the body of a function on the words of its arguments: its only locals are the parameters, and its caller's locals are back after it
 abbrev pub run_body : Function → ℕ → Calls → List ℕ → State → Run ℕ
 run_body f n call ws s =
     then_do (execute_all f.body n call f.visible (record s { locals = bound f.parameters ws [] }))
@@ -261,13 +256,13 @@ abbrev pub run_optional : Option Function → ℕ → Calls → List ℕ → Sta
 run_optional None n call ws s = Gives 0 s
 run_optional (Some f) n call ws s = run_body f n call ws s
 
--- the next word of the input, and 0 where none is left
+-- the next word of the input, or 0 if none is left
 abbrev pub read_input : List ℕ → State → Run ℕ
 read_input [] s = Gives 0 s
 read_input (w ∷ rest) s = Gives w (record s { input = rest })
 
--- a call while this many calls are open, where fewer than n steps are left: the builtins spend no step; a call of a defined
--- function spends one, and then goes wrong where too many calls would be open
+-- a call while this many calls are open, if fewer than n steps are left: the builtins spend no step; a call of a defined function spends
+-- one, and then goes wrong if too many calls would be open
 abbrev pub calls : ℕ → List Function → ℕ → Calls
 calls zero fs opened f ws s = Going s.output
 calls (suc n) fs opened f ws s =
@@ -284,7 +279,7 @@ calls (suc n) fs opened f ws s =
 
 -- ---- programs
 
--- how a call comes out
+-- the outcome of a call
 abbrev pub outcome_of : Run ℕ → Outcome ℕ
 outcome_of (Gives w s) = record { stop = outcome.Ended w; output = s.output }
 outcome_of (Going output) = record { stop = outcome.Going; output = output }

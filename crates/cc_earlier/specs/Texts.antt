@@ -1,8 +1,8 @@
 -- A text that had a tree, a typed unit and a meaning before there were arrays of `unsigned char` has the same ones now. The clauses that
--- such arrays changed stand here as they stood before them, each as `earlier_` and its name; what is claimed is that each present one
--- does the same where no object is such an array, and that no object of an earlier text is one. What is left to reading is that
--- every other clause of the grammar, the rules, the limits and the meaning is as it was: but for clauses of an array of `unsigned char`
--- itself, none has another text.
+-- such arrays changed are here as they were then, each with `earlier_` before its name. What is claimed: each present clause does the same
+-- if no object is such an array, and no object of an earlier text is one. A reader has to compare one thing: that every other clause of the
+-- grammar, the rules, the limits and the meaning is as it was. None of them has another text now, except clauses on arrays of `unsigned
+-- char` themselves.
 use Rattle.std.specs.Prelude.{◌≡◌, ℕ, ◌+◌, ◌-◌, List, [], ◌∷◌, ◌++◌, length, map, replicate, nat_lt, if◌then◌else◌, Some, None, unwrap_or, slice_set}
 use Rattle.std.specs.List.{AllByRecursion}
 use Rattle.cc_words.specs.declared.operators.Width.TheVariants.{Word}
@@ -37,7 +37,7 @@ IsNoByteArray (Single x initial) = Unit {0}
 IsNoByteArray (Array x n values) = Unit {0}
 IsNoByteArray (Bytes x n values) = ⊥
 
--- an external declaration as there were before
+-- an external declaration of a kind that there was then
 abbrev pub IsPlain : External → Type 0
 IsPlain (Declaration s) = Unit {0}
 IsPlain (Definition s body) = Unit {0}
@@ -88,7 +88,7 @@ EarlierTreesStay =
     (text : List ℕ) (tree : List External) → EarlierText text tree
     → SpellsText text tree × ((other : List External) → SpellsText text other → other ≡ tree) × ArePlain tree
 
--- a text without the word `char` has no tree that it had not
+-- a text without the word `char` has no tree now that it did not have then
 abbrev pub NoTreeIsNew : Type 0
 NoTreeIsNew = (text : List ℕ) (tree : List External) (now : SpellsText text tree) → HasNoChar now.tokens → EarlierText text tree
 
@@ -134,7 +134,7 @@ earlier_word_excesses taken (o ∷ rest) =
 abbrev pub earlier_excesses : List External → List RuleError
 earlier_excesses externals = externals_excesses externals ++ (past most_functions (function_names externals) ++ earlier_word_excesses 0 (objects externals))
 
--- a tree of before breaks the rules that it broke, and passes the limits that it passed
+-- an earlier tree breaks the rules that it broke, and passes the limits that it passed
 abbrev pub EarlierRulesStay : Type 0
 EarlierRulesStay =
     (tree : List External) → ArePlain tree
@@ -165,7 +165,7 @@ earlier_initial_words (Bytes x n values) = []
 abbrev pub earlier_initial_globals : List External → List EarlierGlobal
 earlier_initial_globals externals = map (λ (o : Object). record { name = (object_name o).text; words = earlier_initial_words o }) (objects externals)
 
--- an object as the clauses saw it
+-- an object as the clauses saw it then
 abbrev pub earlier_global : Global → EarlierGlobal
 earlier_global g = record { name = g.name; words = g.words }
 
@@ -179,8 +179,8 @@ StayOfWords (Answers a left) = AreOfWords a.shared.globals
 StayOfWords (Unfinished output) = Unit {0}
 StayOfWords (Failed cause output) = Unit {0}
 
--- what speaks of objects is the reading of their words, the write of an element, and the objects before the run. Each does what it did:
--- a tree of before begins with objects of words, a write leaves them so, and so does each call and each body
+-- The clauses on objects read their words, write an element, and give the objects before the run. Each does what it did: an earlier tree
+-- begins with objects of words, a write leaves them so, and so does each call and each body
 pub record EarlierMeaningStays : Type 0 where
   pub begins : (tree : List External) → ArePlain tree → AreOfWords (initial_globals tree) × (map earlier_global (initial_globals tree) ≡ earlier_initial_globals tree)
   pub reads : (gs : List Global) (x : List ℕ) → global_words gs x ≡ earlier_words_of (map earlier_global gs) x

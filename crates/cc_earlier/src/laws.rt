@@ -1,4 +1,4 @@
-// What holds of the texts of before, by the clauses as they stood and as they stand.
+// What holds for texts from before there were arrays of `unsigned char`, by the clauses as they were then and as they are now.
 
 ghost use Rattle.cc_earlier.specs.Texts.{EarlierTreesStay, NoTreeIsNew, EarlierRulesStay, EarlierMeaningStays};
 ghost use Rattle.cc_earlier.specs.Images.{EarlierImagesAgree, EarlierProgramsStay, EarlierUnitsStay, NoAgreementIsNew};
@@ -6,8 +6,8 @@ ghost use Rattle.cc_earlier.specs.Images.{EarlierImagesAgree, EarlierProgramsSta
 use cc_syntax::trees_are_determined;
 use cc_tokens::tokens_are_determined;
 
-/// A text that had a tree before there were arrays of `unsigned char` has it now, and no other; it keeps the rules and limits that it
-/// kept, and each clause of the meaning does what it did. A text without the word `char` has no tree that it had not.
+/// A text that had a tree before there were arrays of `unsigned char` has it now, and has no other. It keeps the rules and limits that it
+/// kept, and each clause of the meaning does what it did. A text without the word `char` has no tree now that it did not have then.
 pub fn earlier_texts_stay()
     ensures trees { EarlierTreesStay }
     ensures none_new { NoTreeIsNew }
@@ -18,8 +18,8 @@ pub fn earlier_texts_stay()
     trees_are_determined();
 }
 
-/// A text that had a typed unit before there were arrays of `unsigned char` has it now, and its program does what it did; an image that
-/// agreed with the text agrees with it, and none agrees with a text without the word `char` that did not.
+/// A text that had a typed unit before there were arrays of `unsigned char` has it now, and its program does what it did. An image that
+/// agreed with the text agrees with it now. With a text without the word `char`, no image agrees now that did not agree then.
 pub fn earlier_images_agree()
     ensures units { EarlierUnitsStay }
     ensures programs { EarlierProgramsStay }

@@ -1,4 +1,4 @@
--- The table of the objects' addresses: what is in it so far and what is to come is the whole.
+-- The table of the objects' addresses: the part made so far and the part still to come are the whole.
 use Rattle.std.proofs.Common.{◌≡◌, ℕ, zero, suc, ◌+◌, ◌-◌, ◌*◌, ◌≤◌, List, [], ◌∷◌, ◌++◌, true, false, Bool, cond, length, map, get_or, min, nat_lt, refl, sym, ap, ◌∙◌, subst, append_assoc, length-append, arith}
 use Rattle.std.proofs.lemmas.Bool.Decides.{nat_tests}
 use Rattle.cc_words.specs.Widths.{words_of}
@@ -18,7 +18,7 @@ use Rattle.cc_emit.specs.Contract.{size_words}
 use Rattle.cc_emit.specs.Objects.{words_before, object_address}
 use Rattle.cc_emit.specs.internal.Bases.{base_in, bases_from, address_behind}
 
--- ---- the objects of a unit lie where globals do
+-- ---- the objects of a unit lie among the globals
 
 pub behind_more : (a : ℕ) (os : List Object) → a ≤ address_behind a os
 behind_more a [] = omega arith
@@ -83,13 +83,13 @@ objects_fit unit new a os rest limits h =
     let more = behind_more (address_behind a os) rest in
     omega arith
 
--- ---- what it tells
+-- ---- what the table says
 
 length_bases : (a : ℕ) (os : List Object) → length (bases_from a os) ≡ length os
 length_bases a [] = refl
 length_bases a (o ∷ os) = ap suc (length_bases (a + 4 * object_words o) os)
 
--- the sum of those before one of that number
+-- the sum of the entries before the one with that number
 abbrev sum_before : List ℕ → ℕ → ℕ
 sum_before [] g = 0
 sum_before (n ∷ ns) zero = 0
@@ -108,7 +108,7 @@ before_summed [] g = refl
 before_summed (s ∷ sizes) zero = refl
 before_summed (s ∷ sizes) (suc g) = ap (λ n. size_words s + n) (before_summed sizes g)
 
--- how many words a size takes
+-- the number of words of a size
 abbrev filled : calls.NamedSize → ℕ
 filled z = words_of z.width z.elements
 

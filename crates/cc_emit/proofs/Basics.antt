@@ -1,4 +1,4 @@
--- Registers, memory, locations and words: what reads give behind writes, and what is a word.
+-- Registers, memory, locations and words: what is read after writes, and what is a word.
 use Rattle.std.proofs.Common.{◌≡◌, ℕ, zero, suc, ◌+◌, ◌-◌, ◌*◌, ◌%◌, ◌^◌, ◌<◌, ◌≤◌, ◌⊎◌, List, [], ◌∷◌, ◌++◌, Some, None, true, false, Bool, length, get_or, take, drop, refl, ap, ◌∙◌, inl, inr, arith}
 use Rattle.std.specs.Prelude.{◌==◌, if◌then◌else◌, ◌&&◌, not, slice_get}
 use Rattle.std.proofs.lemmas.Bool.Decides.{eqb_tells, nat_tests}
@@ -48,7 +48,7 @@ cond_below false w v n p q = q
 pub set_word : (f : ℕ → ℕ) (d w : ℕ) → w < 2 ^ 32 → ((r : ℕ) → f r < 2 ^ 32) → (r : ℕ) → with_register f d w r < 2 ^ 32
 set_word f d w p q r = cond_below ((r == d) && not (d == 0)) w (f r) (2 ^ 32) p (q r)
 
--- what is written to x0 is lost, and what a register holds already changes nothing
+-- a write to x0 is lost, and writing what a register holds already changes nothing
 pub with_zero : (f : ℕ → ℕ) (w : ℕ) → with_register f 0 w ≡ f
 with_zero f w = λ i r. zero_at (r == 0) w (f r) i
   where
@@ -110,7 +110,7 @@ high_low w b = high_low_of w (low w) b (low_is w)
 pub high_word : (w : ℕ) → high w * 2 ^ 12 < 2 ^ 32
 high_word w = omega arith
 
--- ---- words that are handed in
+-- ---- words that are passed in
 
 pub survives_tells : (r : ℕ) → ((survives r ≡ true) × IsKept r) ⊎ ((survives r ≡ false) × (IsKept r → ⊥))
 survives_tells r = grind (arith, nat_tests)

@@ -1,4 +1,4 @@
--- What branches tell: a branch is taken where a comparison's value is not 0.
+-- What branches show: a branch is taken if a comparison's value is not 0.
 use Rattle.std.proofs.Common.{◌≡◌, ℕ, ◌-◌, ◌^◌, ◌<◌, List, Option, Some, None, true, false, Bool, refl, sym, ap, ◌∙◌, subst, arith}
 use Rattle.std.specs.Prelude.{if◌then◌else◌, ◌==◌, not, nat_lt, int_lt, option_map}
 use Rattle.cc_words.specs.Words.{eq, le_s, le_u, lt_s, lt_u, ne, signed_value, truth_value}
@@ -26,7 +26,7 @@ use Rattle.cc_emit.specs.Emission.{first_instr}
 use Rattle.cc_emit.proofs.Basics.{eqb_says}
 use Rattle.cc_emit.proofs.Recipes.{IsRightWord, next_s, not_zero}
 
--- a condition holds of the registers' words where a word is not 0
+-- a condition holds for the registers' words exactly if a word is not 0
 abbrev pub Tells : Condition → (registers : ℕ → ℕ) → (v : ℕ) → Type 0
 Tells c g v = is_taken c.operation (g c.left) (g c.right) ≡ not (v == 0)
 
@@ -74,7 +74,7 @@ nonzero_told u = ap (λ n. not (n == 0)) (not_zero u) ∙ truth_told (not (u == 
 
 -- ---- two registers
 
--- an operator that compares has a value, and its branch tells it
+-- an operator that compares has a value, and its branch shows it
 pub record Compares (o : binary.Binary) (a b : ℕ) (g : ℕ → ℕ) : Type 0 where
   pub value : ℕ
   pub applied : apply_binary o (g a) (g b) ≡ Some value
@@ -137,7 +137,7 @@ opposed_tells None g u c f e = none_some c e
 opposed_tells (Some d) g u c f e =
     subst (λ b. Tells b g (lt_u u 1)) (some (opposed d) c e) (opposite_taken d.operation (g d.left) (g d.right) ∙ ap not (f d refl) ∙ not_not (u == 0) ∙ sym (zero_told u))
 
--- the branch on x0 that a recipe has tells the recipe's word
+-- the branch on x0 that a recipe has shows the recipe's word
 pub alone_tells : (k : WordRecipe) (a : ℕ) (g : ℕ → ℕ) (v : ℕ) (c : Condition) → g 0 ≡ 0 → IsWord (g a) → IsRightWord k (g a) v → against_zero k a ≡ Some c → Tells c g v
 alone_tells (WithImmediate i n) a g v c z w right e = subst (Tells c g) right (immediate_tells i n a g c z w e)
 alone_tells (ShiftBy i n) a g v c z w right e = none_some c e
@@ -146,9 +146,9 @@ alone_tells (ZeroOfImmediate i n) a g v c z w right e =
     subst (Tells c g) right.1 (opposed_tells (immediate_against_zero i n a) g (computed (immediate_operation i) (g a) n) c (λ d f. immediate_tells i n a g d z w f) e)
 alone_tells (NonzeroOfImmediate i n) a g v c z w right e = none_some c e
 
--- ---- behind a recipe's first instruction
+-- ---- after a recipe's first instruction
 
--- what that computes of its register's word
+-- what that instruction computes from its register's word
 abbrev pub first_word : WordRecipe → (w : ℕ) → ℕ
 first_word (WithImmediate i n) w = computed (immediate_operation i) w n
 first_word (ShiftBy i n) w = computed (shift_operation i) w n
@@ -163,7 +163,7 @@ first_executes floor (OnZero i) to a s z = ap (λ n. puts to (computed i n (s.re
 first_executes floor (ZeroOfImmediate i n) to a s z = refl
 first_executes floor (NonzeroOfImmediate i n) to a s z = refl
 
--- it is a word, and how it compares to 0 tells the recipe's word
+-- it is a word, and how it compares to 0 shows the recipe's word
 abbrev pub TellsFirst : WordRecipe → (w v : ℕ) → Type 0
 TellsFirst k w v = (first_word k w < 2 ^ 32) × (is_taken (asked_of k) (first_word k w) 0 ≡ not (v == 0))
 

@@ -1,5 +1,5 @@
--- Places counted from the end are the places of the definition, and the items put so far and those of the items to come are the
--- function's code.
+-- Places counted from the end are the places of the definition, and the items so far together with those still to come are the function's
+-- code.
 use Rattle.std.proofs.Common.{◌≡◌, ℕ, zero, suc, ◌+◌, ◌-◌, ◌*◌, ◌^◌, ◌<◌, ◌≤◌, List, [], ◌∷◌, ◌++◌, Option, true, false, Bool, length, get_or, drop, refl, sym, ap, ◌∙◌, subst, inl, inr, append_assoc, length-append, arith}
 use Rattle.std.specs.Prelude.{if◌then◌else◌, nat_lt, Contains}
 use Rattle.std.specs.List.{AllByRecursion}
@@ -27,7 +27,7 @@ use Rattle.cc_emit.specs.Emission.{size, size_of_step, items_of_step, long_size,
 use Rattle.cc_emit.specs.internal.Behind.{reaches, long_behind, near_behind, behind, label_behind, IsTable, ArePlaces, place_from, LeadsBelow, StepLeadsBelow}
 use Rattle.cc_emit.proofs.Places.{size_is, length_pointer_items, length_stack_moved, length_saving, AreSeen, IsClose, close_nears, next_nears, seen_first, seen_next, stays_near}
 
--- ---- a step asks of a label that it leads to alone whether it is near, and where it is
+-- ---- about a label, a step asks only whether it is near, and where it is
 
 abbrev SameNearStep : (p q : ℕ → Bool) → Step → Type 0
 SameNearStep p q (One (IfNonzero r n)) = p n ≡ q n

@@ -1,5 +1,5 @@
--- The machine's memory element by element. The machine keeps a word at each multiple of 4, and a byte is a part of one; so each fact is the
--- one on words, and for bytes one on the parts of a word, by the four places that a byte has in it.
+-- The machine's memory element by element. The machine keeps a word at each multiple of 4, and a byte is a part of one. So each fact is the
+-- one about words, and for bytes one about the parts of a word, for the four places that a byte has in it.
 use Rattle.std.proofs.Common.{◌≡◌, ℕ, zero, suc, ◌+◌, ◌-◌, ◌*◌, ◌/◌, ◌%◌, ◌^◌, ◌<◌, ◌≤◌, ◌⊎◌, true, refl, sym, ap, ◌∙◌, inl, inr, arith}
 use Rattle.std.proofs.lemmas.Bool.Decides.{eqb_tells, nat_tests}
 use Rattle.cc_words.specs.declared.operators.Width.{Width}
@@ -64,7 +64,7 @@ byte_word w v (suc (suc (suc (suc k)))) lt b = absurd (omega arith)
 
 -- ---- an element stored
 
--- an element that is stored is loaded, as much of it as an element keeps
+-- an element that is stored is loaded again, as much of it as an element keeps
 pub loaded_same : (w : Width) (m : ℕ → ℕ) (a v : ℕ) → loaded (load_of w) (stored (store_of w) m a v) a ≡ kept w v
 loaded_same Byte m a v = ap (λ n. byte_in n (a % 4)) (word_same m (a - a % 4) (with_part (m (a - a % 4)) (8 * (a % 4)) 8 v)) ∙ byte_same (m (a - a % 4)) v (a % 4) (omega arith)
 loaded_same Word m a v = word_same m a v
@@ -81,14 +81,14 @@ byte_beside m a b v ne =
       | inr t ↦ ap (λ n. byte_in n (b % 4)) (word_other m at w (b - b % 4) t.1)
     ]
 
--- an element that shares no byte with it stays, however wide
+-- an element that shares no byte with it stays the same, whatever its width
 pub loaded_other : (w u : Width) (m : ℕ → ℕ) (a b v : ℕ) → a % bytes w ≡ 0 → b % bytes u ≡ 0 → (a + bytes w ≤ b) ⊎ (b + bytes u ≤ a) → loaded (load_of u) (stored (store_of w) m a v) b ≡ loaded (load_of u) m b
 loaded_other Byte Byte m a b v za zb apart = byte_beside m a b v (λ q. elim apart [ inl h ↦ omega arith | inr h ↦ omega arith ])
 loaded_other Byte Word m a b v za zb apart = word_other m (a - a % 4) (with_part (m (a - a % 4)) (8 * (a % 4)) 8 v) b (λ q. elim apart [ inl h ↦ omega arith | inr h ↦ omega arith ])
 loaded_other Word Byte m a b v za zb apart = ap (λ n. byte_in n (b % 4)) (word_other m a v (b - b % 4) (λ q. elim apart [ inl h ↦ omega arith | inr h ↦ omega arith ]))
 loaded_other Word Word m a b v za zb apart = word_other m a v b (λ q. elim apart [ inl h ↦ omega arith | inr h ↦ omega arith ])
 
--- the words behind it stay
+-- the words after it stay the same
 pub words_behind : (w : Width) (m : ℕ → ℕ) (a v c : ℕ) → a < c → stored (store_of w) m a v c ≡ m c
 words_behind Byte m a v c lt = word_other m (a - a % 4) (with_part (m (a - a % 4)) (8 * (a % 4)) 8 v) c (λ q. omega arith)
 words_behind Word m a v c lt = word_other m a v c (λ q. omega arith)
@@ -100,7 +100,7 @@ stored_words Word m a v lt all = word_word m a v lt all
 
 -- ---- an element loaded
 
--- where the words up to it stay, an element does
+-- an element stays the same if the words up to it do
 pub loaded_alike : (w : Width) (m k : ℕ → ℕ) (b : ℕ) → ((c : ℕ) → c ≤ b → k c ≡ m c) → loaded (load_of w) k b ≡ loaded (load_of w) m b
 loaded_alike Byte m k b same = ap (λ n. byte_in n (b % 4)) (same (b - b % 4) (omega arith))
 loaded_alike Word m k b same = same b (omega arith)
@@ -114,9 +114,9 @@ pub kept_word : (w : Width) (v : ℕ) → v < 2 ^ 32 → kept w v < 2 ^ 32
 kept_word Byte v lt = omega arith
 kept_word Word v lt = lt
 
--- ---- where elements lie
+-- ---- the places of elements
 
--- an element of an object with this many, which begins at b
+-- an element of an object with this many elements, which begins at b
 pub record Lies (w : Width) (b n i : ℕ) : Type 0 where
   pub low : b ≤ element_place w b i
   pub high : element_place w b i + bytes w ≤ b + 4 * words_of w n

@@ -1,4 +1,4 @@
--- What the items do that stand for an item of Linear.
+-- What the items of an item of Linear do.
 use Rattle.std.proofs.Common.{◌≡◌, ℕ, suc, ◌+◌, ◌-◌, ◌*◌, ◌%◌, ◌^◌, ◌<◌, ◌≤◌, ◌⊎◌, List, [], ◌∷◌, ◌++◌, Option, Some, None, true, false, Bool, refl, sym, ap, ap₂, ◌∙◌, subst, inl, inr, arith}
 use Rattle.std.specs.Prelude.{◌==◌, if◌then◌else◌, not, option_map}
 use Rattle.cc_words.specs.Words.{add, lt_u}
@@ -57,7 +57,7 @@ use Rattle.cc_emit.proofs.Saving.{load_step, store_step}
 use Rattle.cc_emit.proofs.Holding.{IsAddress, IsKnown, IsKnownAt, is_known, element_address, parts_of, upper_stays, address_stays_6}
 use Rattle.cc_emit.proofs.Within.{Within, within_set, within_scratch, within_5, within_as, within_nothing, within_pc, within_slot, within_store, within_read, within_write, above_floor}
 
--- the machine comes to where these items stand
+-- the machine arrives at the place of these items
 pub record Reaches (x : Site) (next : List Step) (l : Locations) (h : World) (s : State) : Type 0 where
   pub more : ℕ
   pub to : State
@@ -79,14 +79,14 @@ pub record Stepped (x : Site) (ops : List Step) (l : Locations) (h : World) (s :
   pub moves : (ws : List ℕ) → selected_move x.meaning.arity x.steps (at_steps ops l h (prefix ++ ws)) ≡ Goes (at_steps next locations world ws)
   pub reaches : Reaches x next locations world s
 
--- or none, since it goes wrong
+-- or no move, since it goes wrong
 abbrev pub Case : (x : Site) (ops : List Step) (l : Locations) (h : World) (s : State) → Type 0
 Case x ops l h s = Stepped x ops l h s ⊎ ((ws : List ℕ) → selected_move x.meaning.arity x.steps (at_steps ops l h ws) ≡ Fails)
 
 pub reach_more : (x : Site) (next : List Step) (l : Locations) (h : World) (s u : State) → machine_step x.code s ≡ Continues u → Reaches x next l h u → Reaches x next l h s
 reach_more x next l h s u e r = record { more = suc r.more; to = r.to; path = (u, e, r.path); long = r.long; offset = r.offset; held = r.held; at = r.at; standing = r.standing; within = r.within }
 
--- the machine comes to an item of the piece
+-- the machine arrives at an item of the piece
 pub record Walked (x : Site) (held : Scratch) (l : Locations) (h : World) (s : State) (b : ℕ) : Type 0 where
   pub more : ℕ
   pub to : State
@@ -116,7 +116,7 @@ pub reach_set : (x : Site) {held : Scratch} (next : List Step) (l : Locations) (
 reach_set x next l h s p q b d v i e f g k u lt st w =
     reach_by x next (put (Register d) v l) h s (record s { pc = s.pc + 4; registers = with_register s.registers d v }) q b (step_at x.code s p i e f ∙ k) (ap (λ n. n + 4) e ∙ g) st (within_set x l h s (s.pc + 4) d v u lt w)
 
--- an item that is done
+-- an item that is executed
 pub stepped : (x : Site) (ops next : List Step) (l k : Locations) (h g : World) (s : State) → ((ws : List ℕ) → selected_move x.meaning.arity x.steps (at_steps ops l h ws) ≡ Goes (at_steps next k g ws)) → Reaches x next k g s → Stepped x ops l h s
 stepped x ops next l k h g s moves r = record { prefix = []; are_words = tt; next = next; locations = k; world = g; moves = moves; reaches = r }
 
@@ -128,7 +128,7 @@ word_of_register x l h s r u w = let e = w.same r u in let b = w.sound.registers
 
 -- ---- jumps and branches
 
--- the function's items stand behind its prologue
+-- the function's items come after its prologue
 abbrev pub StandsWhole : Site → Type 0
 StandsWhole x = Standing x nothing 0 (prologue_size x.frame) x.steps
 
@@ -187,7 +187,7 @@ short_reaches x v a n next rest l h s i false e inside p st all nears f k same =
     let one = branch_step x.code s (x.place + 4 * a) (x.place + 4 * b) i false e target.from.aligned f.0 (add s.pc (distance a b)) k (λ t. there) in
     reach_by x next l h s (record s { pc = x.place + 4 * a + 4 }) v (a + 1) one (omega arith) (subst (Standing x _ v (a + 1)) same st) (within_pc x l h s (x.place + 4 * a + 4) inside)
 
--- a branch in either form; the opposite one is taken where it is not
+-- a branch in either form; the opposite branch is taken exactly if it is not
 branch_reaches : (x : Site) {held : Scratch} (v a n : ℕ) (next rest : List Step) (l : Locations) (h : World) (s : State) (c : Condition) (t is : Bool) → s.pc ≡ x.place + 4 * a → Within x held l h s → IsPlace (x.place + 4 * a) → Standing x held v (a + branch_size is) rest → StandsWhole x
     → (is ≡ true → Nears a (labels x n)) → Stands x (x.place + 4 * a) (branch_items is c a (labels x n)) → is_taken c.operation (s.registers c.left) (s.registers c.right) ≡ t → (if t then place x.steps n else rest) ≡ next → Reaches x next l h s
 branch_reaches x v a n next rest l h s c t true e inside p st all nears f taken same =
@@ -196,7 +196,7 @@ branch_reaches x v a n next rest l h s c t false e inside p st all nears f taken
     over_reaches x v a n next rest l h s (Branch (opposite c.operation) c.left c.right 8) (not t) e inside p st all f
     (ap (λ b. branches b (add s.pc 8) s) (opposite_taken c.operation (s.registers c.left) (s.registers c.right) ∙ ap not taken)) (if_not t rest (place x.steps n) ∙ same)
 
--- a branch on a condition that tells a word, either way
+-- a branch on a condition that shows a word, either way
 pub told_reaches : (x : Site) {held : Scratch} (v a n : ℕ) (rest : List Step) (l : Locations) (h : World) (s : State) (c : Condition) (word : ℕ) (nonzero is : Bool) → s.pc ≡ x.place + 4 * a → Within x held l h s → IsPlace (x.place + 4 * a) → Standing x held v (a + branch_size is) rest → StandsWhole x
     → (is ≡ true → Nears a (labels x n)) → Stands x (x.place + 4 * a) (branch_items is (turned nonzero c) a (labels x n)) → Tells c s.registers word → Reaches x (led nonzero word rest (place x.steps n)) l h s
 told_reaches x v a n rest l h s c word nonzero is e inside p st all nears f tells =
@@ -354,7 +354,7 @@ abbrev pub uppered : Remembered → State → ℕ → State
 uppered Nothing s b = record s { pc = s.pc + 4; registers = with_register s.registers 6 (high b * 2 ^ 12) }
 uppered known s b = s
 
--- the sum of a base in one register and of a distance in another
+-- the sum of a base in one register and a distance in another
 abbrev pub added : State → (base distance : ℕ) → State
 added s q r = record s { pc = s.pc + 4; registers = with_register s.registers 5 (add (s.registers r) (s.registers q)) }
 
@@ -364,7 +364,7 @@ at_element ElementByPointer w s i b = s
 at_element known Byte s i b = added (uppered known s b) (base_register known) i
 at_element known Word s i b = added (uppered known (shifted s i) b) (base_register known) 5
 
--- how many instructions that are
+-- the number of those instructions
 abbrev pub upper_before : Remembered → ℕ
 upper_before Nothing = 1
 upper_before known = 0
@@ -384,7 +384,7 @@ uppered_same Element s b r n = refl
 uppered_same ByPointer s b r n = refl
 uppered_same ElementByPointer s b r n = refl
 
--- the register from which an address is reached holds its base then
+-- the register from which an address is reached then holds its base
 pub base_held : (known : Remembered) (s : State) (b : ℕ) → IsKnownAt known b s.registers → (uppered known s b).registers (base_register known) ≡ sum_base known b
 base_held Nothing s b known = set_same s.registers 6 (high b * 2 ^ 12) (omega arith)
 base_held Upper s b known = known
@@ -392,7 +392,7 @@ base_held Element s b known = absurd known
 base_held ByPointer s b known = known.0
 base_held ElementByPointer s b known = absurd known
 
--- x6 is set, where it is to be, and what is known of x5 stays
+-- x6 is set, if it should be, and what is known about x5 stays
 pub within_upper : (x : Site) {held : Scratch} (known : Remembered) (l : Locations) (h : World) (s : State) (b : ℕ) → IsKnownAt known b s.registers → Within x held l h s → Within x (behind_at known held b) l h (uppered known s b)
 within_upper x Nothing l h s b known w =
     within_scratch x _ l h s (s.pc + 4) 6 (high b * 2 ^ 12) (omega arith) (omega arith) (high_word b)
@@ -402,7 +402,7 @@ within_upper x Element l h s b known w = absurd known
 within_upper x ByPointer l h s b known w = within_as x _ l h s (record { upper = w.holds.upper; address = w.holds.address }) w
 within_upper x ElementByPointer l h s b known w = absurd known
 
--- then x5, from a distance that is so many bytes
+-- then x5, from a distance in bytes
 within_added : (x : Site) {held : Scratch} (l : Locations) (h : World) (s : State) (width : Width) (q r i o : ℕ) → add (s.registers r) (s.registers q) ≡ (bytes width * s.registers i + o) % 2 ^ 32 → IsAllocatable i → Within x held l h s
     → Within x (record { upper = held.upper; address = Some (address_of width i o) }) l h (added s q r)
 within_added x {held} l h s width q r i o sum ui w =
@@ -426,7 +426,7 @@ within_shifted x l h s i w = within_5 x l h s (s.pc + 4) ((s.registers i * 4) % 
 shifted_same : (s : State) (i r : ℕ) → (r ≡ 5 → ⊥) → (shifted s i).registers r ≡ s.registers r
 shifted_same s i r n = set_other s.registers 5 _ r n
 
--- where the address is made, from a number of bytes and of words
+-- the address is made from a number of bytes, or of words
 within_byte : (x : Site) {held : Scratch} (known : Remembered) (l : Locations) (h : World) (s : State) (i b : ℕ) → IsKnownAt known b s.registers → IsAllocatable i → Within x held l h s
     → Within x (behind_element known held Byte b i) l h (added (uppered known s b) (base_register known) i)
 within_byte x known l h s i b is ui w =
@@ -444,7 +444,7 @@ within_word x known l h s i b is ui w =
     within_added x l h u Word (base_register known) 5 i (sum_base known b) (sum_words (s.registers i) (u.registers i) (u.registers 5) (u.registers (base_register known)) (sum_base known b) five same (base_held known t b is)) ui
     (within_upper x known l h t b is (within_shifted x l h s i w))
 
--- behind all of them
+-- after all of them
 pub within_element : (x : Site) {held : Scratch} (known : Remembered) (l : Locations) (h : World) (width : Width) (s : State) (i b : ℕ) → IsKnown known width b i s.registers → IsAllocatable i → Within x held l h s
     → Within x (behind_element known held width b i) l h (at_element known width s i b)
 within_element x Nothing l h Byte s i b known ui w = within_byte x Nothing l h s i b tt ui w
@@ -456,7 +456,7 @@ within_element x ByPointer l h Word s i b known ui w = within_word x ByPointer l
 within_element x Element l h width s i b known ui w = within_as x _ l h s (record { upper = w.holds.upper; address = (ui, known) }) w
 within_element x ElementByPointer l h width s i b known ui w = within_as x _ l h s (record { upper = w.holds.upper; address = (ui, known.0) }) w
 
--- ---- the machine comes there
+-- ---- the machine arrives there
 
 pub uppered_reaches : (x : Site) (next : List Step) (k : Locations) (g : World) (known : Remembered) (s : State) (p b : ℕ) (items : List PieceItem) → s.pc ≡ p → Stands x p (upper_items known b ++ items)
     → (Stands x (p + 4 * upper_before known) items → (uppered known s b).pc ≡ p + 4 * upper_before known → Reaches x next k g (uppered known s b)) → Reaches x next k g s
@@ -468,7 +468,7 @@ uppered_reaches x next k g Element s p b items e f go = (let none : p ≡ p + 4 
 uppered_reaches x next k g ByPointer s p b items e f go = (let none : p ≡ p + 4 * 0 = omega arith in go (subst (λ n. Stands x n items) none f) (e ∙ none))
 uppered_reaches x next k g ElementByPointer s p b items e f go = (let none : p ≡ p + 4 * 0 = omega arith in go (subst (λ n. Stands x n items) none f) (e ∙ none))
 
--- the item behind those before an access, and the machine there
+-- the item after those before an access, and the machine there
 abbrev Arrives : (x : Site) (next : List Step) (k : Locations) (g : World) (p n : ℕ) (item : PieceItem) (t : State) → Type 0
 Arrives x next k g p n item t = x.code.at (p + 4 * n) ≡ Some (filled x.places x.place (p + 4 * n) item) → t.pc ≡ p + 4 * n → Reaches x next k g t
 
@@ -526,11 +526,11 @@ same_memory ByPointer Byte s i b = refl
 same_memory ByPointer Word s i b = refl
 same_memory ElementByPointer w s i b = refl
 
--- where an element lies, from what x5 holds of its address and the object's part
+-- the place of an element, from what x5 holds of its address and the object's part
 abbrev pub Leads : Width → (index at b : ℕ) → (word : ℕ) → Type 0
 Leads width i at b word = (o part : ℕ) (f : ℕ → ℕ) → f i ≡ word → (o + part) % 2 ^ 32 ≡ b → IsAddress width i o f → (f 5 + part) % 2 ^ 32 ≡ at
 
--- an element is loaded, and one is stored: the one of that number, by a register and an address from which its object lies so far
+-- an element is loaded, or stored: the one with that number, by a register and an address from which its object lies at that distance
 pub loaded_reaches : (x : Site) {held : Scratch} (v a : ℕ) (width : Width) (g to i b n word : ℕ) (rest : List Step) (l : Locations) (h : World) (s : State) → s.pc ≡ x.place + 4 * a → b < 2 ^ 32 → Leads width i (element_place width (x.layout.base g) n) b (l (Register i)) → IsElement h width g n word → IsTarget x.frame to → IsAllocatable i
     → Stands x (x.place + 4 * a) (indexed (known_of x.frame.sets_pointer held width b i) width b i (load_element width to 5 (part_of (known_of x.frame.sets_pointer held width b i) b) ∷ []))
     → Standing x (without to (behind_element (known_of x.frame.sets_pointer held width b i) held width b i)) v (a + access_size (known_of x.frame.sets_pointer held width b i) width) rest → Within x held l h s → Reaches x rest (put (Register to) word l) h s

@@ -81,7 +81,7 @@ or_right false b e = e
 target : (sets_pointer : Bool) (slots : ℕ) (all : List Step) (r : ℕ) → IsAllocatable r → is_written all r ≡ true → IsTarget (frame_of sets_pointer slots all) r
 target sets_pointer slots all r u e = (u, λ k. member_if (calls all) r 1 (written all kept_registers) (written_member all r kept_registers e (kept_member r k)))
 
--- what all steps write and whether they call, as one of them does
+-- one step writes only what all steps write, and calls only if they call
 record IsOf (all : List Step) (i : Step) : Type 0 where
   writes : (r : ℕ) → writes r i ≡ true → is_written all r ≡ true
   calls : is_call i ≡ true → calls all ≡ true

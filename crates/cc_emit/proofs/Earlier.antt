@@ -1,4 +1,4 @@
--- What may return before there is a frame, and the rest in its frame behind it, meet a piece's contract.
+-- What may return before there is a frame, followed by the rest in its frame, meets a piece's contract.
 use Rattle.std.proofs.Common.{◌≡◌, ℕ, suc, ◌+◌, ◌-◌, ◌*◌, ◌%◌, ◌^◌, ◌<◌, ◌≤◌, ◌⊎◌, List, [], ◌∷◌, ◌++◌, Some, false, length, get_or, take, drop, map, refl, sym, ap, ap₂, ◌∙◌, subst, inl, inr, arith}
 use Rattle.std.specs.Prelude.{if◌then◌else◌, nat_le}
 use Rattle.std.proofs.lemmas.List.{length-append, length-map}
@@ -35,7 +35,7 @@ use Rattle.cc_emit.proofs.Cases.{StandsWhole}
 use Rattle.cc_emit.specs.declared.scratch.Scratch.{Scratch}
 use Rattle.cc_emit.proofs.Within.{Within}
 
--- ---- items behind others
+-- ---- items after others
 
 unshifted : (code : Code) (places : ℕ → ℕ) (place before a : ℕ) (items : List PieceItem) → Placed code places place a (map (shifted before) items) → Placed code places (place + 4 * before) a items
 unshifted code places place before a [] p = tt
@@ -70,7 +70,7 @@ fit_append functions long (x ∷ xs) ys p q = (p.0, fit_append functions long xs
 length_behind : (head items : List PieceItem) → length (behind head items) ≡ length head + length items
 length_behind head items = length-append head (map (shifted (length head)) items) ∙ ap (λ n. length head + n) (length-map items (shifted (length head)))
 
--- each has a word
+-- each of them has a word
 pub behind_fit : (functions : ℕ) (head items : List PieceItem) → AreFit functions (length head) head → AreFit functions (length items) items → AreFit functions (length (behind head items)) (behind head items)
 behind_fit functions head items p q =
     subst (λ n. AreFit functions n (behind head items)) (sym (length_behind head items))
@@ -78,7 +78,7 @@ behind_fit functions head items p q =
 
 -- ---- from the end of the head on
 
--- what comes back to the place behind the head's call comes back to that before it
+-- what comes back to the place after the head's call comes back to the place before it
 comes_from : {b : List Size} (y : ObjectLayout b) (code : Code) (rate : ℕ) (s v u : State) (stop : Stop Answer) (o : List ℕ) (done : ℕ) → ((r : Answer) (t : State) → ComesBack y v r t → ComesBack y s r t) → DoesBy y code rate v u stop o done → DoesBy y code rate s u stop o done
 comes_from y code rate s v u Going o done f d = d
 comes_from y code rate s v u (Ended r) o done f d = (d.0, d.1, d.2, f r d.1 d.3, d.4)
@@ -235,7 +235,7 @@ early_meets meaning layout f rate code e frame is keeps is_frame fine fine_head 
     l = found bare t ws
 
     goal : Goal y c code most most_steps code e.rest l h t
-    goal = heads y c one stand.1 enters.sound enters.back code most most_steps nothing 0 (prologue_size bare) code e l h t is (rest_places code code e is) (λ n. refl) (framed_pc bare s place enters.at, stand.1, framed_within y f d ws h enters)
+    goal = heads y c one stand.1 enters.sound enters.back code most most_steps nothing 0 (prologue_size bare) code e l h t is (λ n. refl) (framed_pc bare s place enters.at, stand.1, framed_within y f d ws h enters)
 
     finish : (g : ℕ → ℕ) (more : List ℕ) → ((i : ℕ) → g i < 2 ^ 32) → AreWords more → Follows y c code most most_steps (at_steps code (merge l (λ i. get_or (listed frame.slots 0 g) i 0)) h more) t
         → Meets layout cd ((rate + rate) * c) ((rate + rate) * c) n s (meaning.body n d f ws h)

@@ -49,13 +49,13 @@ placed_by x w g n i same lt =
 pub placed : (x : Site) (h : World) (s : State) (w : Width) (g i v : ℕ) → Shares x.layout s h → IsElement h w g i v → IsPlaced x w g i
 placed x h s w g i v sh is = placed_by x w g (length (object_words h g)) i (ap size_words (size_told x h s w g i v sh is)) is.below
 
--- what is loaded there
+-- what is loaded from there
 pub holds : (x : Site) (h : World) (s : State) (w : Width) (g i v : ℕ) → Shares x.layout s h → IsElement h w g i v → loaded (load_of w) s.memory (element_place w (x.layout.base g) i) ≡ v
 holds x h s w g i v sh is =
     let size = size_told x h s w g i v sh is in
     sym (ap (λ (z : Size). element_at z s.memory (x.layout.base g) i) size) ∙ sh.globals g i (subst (λ (z : Size). i < z.elements) (sym size) is.below) ∙ is.value
 
--- elements stay where the words of globals do
+-- elements stay the same if the words of globals do
 pub elements_stay : (x : Site) (m k : ℕ → ℕ) (g j : ℕ) → j < (size_at x g).elements → ((c : ℕ) → c < globals_to → k c ≡ m c) → element_at (size_at x g) k (x.layout.base g) j ≡ element_at (size_at x g) m (x.layout.base g) j
 elements_stay x m k g j lj same =
     let p = placed_by x (size_at x g).width g (size_at x g).elements j refl lj in
@@ -88,7 +88,7 @@ set_sizes (o ∷ os) (suc g) i v = ap (λ (ns : List Size). size_of o ∷ ns) (s
 pub stored_sizes : (h : World) (g i v : ℕ) → map size_of (with_element h g i v).globals ≡ map size_of h.globals
 stored_sizes h g i v = set_sizes h.globals g i v
 
--- an element of the same object, behind a store into it
+-- an element of the same object, after a store into it
 stored_here : (x : Site) (h : World) (s : State) (w : Width) (g i v old j : ℕ) → Shares x.layout s h → IsElement h w g i old → j < length (object_words h g)
     → loaded (load_of w) (stored (store_of w) s.memory (element_place w (x.layout.base g) i) v) (element_place w (x.layout.base g) j) ≡ get_or (set (object_words h g) i (kept w v)) j 0
 stored_here x h s w g i v old j sh is lj =
@@ -116,7 +116,7 @@ stored_there x s w u g i v k j ne p q =
     loaded_other w u s.memory (element_place w (x.layout.base g) i) (element_place u (x.layout.base k) j) v p.aligned q.aligned
     (elim (x.layout.apart g k ne) [ inl b ↦ inl (omega arith) | inr b ↦ inr (omega arith) ])
 
--- each element, behind a store
+-- each element, after a store
 pub stored_element : (x : Site) (h : World) (s : State) (w : Width) (g i v old : ℕ) → Shares x.layout s h → IsElement h w g i old → (k j : ℕ) → j < (size_at x k).elements
     → element_at (size_at x k) (stored (store_of w) s.memory (element_place w (x.layout.base g) i) v) (x.layout.base k) j ≡ get_or (object_words (with_element h g i (kept w v)) k) j 0
 stored_element x h s w g i v old sh is k j lj =

@@ -1,5 +1,5 @@
--- The code of a function does what its steps do: by induction on the moves of their run, the words that nobody knows chosen as those that
--- the machine's registers and memory hold.
+-- The code of a function does what its steps do: by induction on the moves of their run, with the unknown words chosen as those that the
+-- machine's registers and memory hold.
 use Rattle.std.proofs.Common.{◌≡◌, ℕ, zero, suc, ◌+◌, ◌-◌, ◌*◌, ◌%◌, ◌^◌, ◌<◌, ◌≤◌, List, [], ◌∷◌, ◌++◌, length, get_or, take, drop, refl, sym, ap, ap₂, ◌∙◌, subst, inl, inr, arith}
 use Rattle.std.specs.Prelude.{if◌then◌else◌, nat_le}
 use Rattle.std.proofs.Math.Nat.{mul-suc, mul-le-mul_left, mul-add, add-mul, mul_assoc}
@@ -37,17 +37,17 @@ DoesBy y code rate from s Going o done = (m : ℕ) × (t : State) × Path code m
 DoesBy y code rate from s (Ended r) o done = (m : ℕ) × (t : State) × Path code m s t × ComesBack y from r t × (done ≤ rate * m)
 DoesBy y code rate from s Wrong o done = Unit {0}
 
--- what the machine does, of a run with this much work
+-- what the machine does, for a run with this much work
 abbrev pub Does : {b : List Size} (y : ObjectLayout b) (code : Code) (rate : ℕ) (from s : State) → Outcome Answer → ℕ → Type 0
 Does y code rate from s z done = DoesBy y code rate from s z.stop z.output done
 
--- more is done where a path leads on
+-- more is done if a path leads on
 pub does_then : {b : List Size} (y : ObjectLayout b) (code : Code) (rate : ℕ) (from s t : State) (stop : Stop Answer) (o : List ℕ) (v m more : ℕ) → Path code m s t → more ≤ rate * m → DoesBy y code rate from t stop o v → DoesBy y code rate from s stop o (more + v)
 does_then y code rate from s t Going o v m more p b (k, u, q, e, c) = (m + k, u, path_then code m k s t u p q, e, (let f = mul-add rate m k in omega arith))
 does_then y code rate from s t (Ended r) o v m more p b (k, u, q, e, c) = (m + k, u, path_then code m k s t u p q, e, (let f = mul-add rate m k in omega arith))
 does_then y code rate from s t Wrong o v m more p b x = tt
 
--- one move, paid by an instruction at least
+-- one move, paid for by at least one instruction
 pub one_move : {b : List Size} (y : ObjectLayout b) (code : Code) (rate : ℕ) (from s t : State) (z : Outcome Answer) (v m : ℕ) → 1 ≤ rate → Path code (suc m) s t → Does y code rate from t z v → Does y code rate from s z (suc v)
 one_move y code rate from s t z v m one p x =
     let f : 1 + v ≡ suc v = omega arith in
@@ -74,7 +74,7 @@ module _ (x : Site) (c : ℕ) (one : 1 ≤ c) (all_places : (g : ℕ) → g < x.
   abbrev pub FollowsWith : (k j : ℕ) → Configuration → State → Type 0
   FollowsWith k j q s = (i steps : ℕ) → i ≤ k → steps ≤ j → Done s (lrun i steps q) (lwork i steps q)
 
-  -- some words, for all smaller cuts at once
+  -- some words, for all smaller bounds at once
   abbrev pub Simulated : (k j : ℕ) → List Step → Locations → World → State → Type 0
   Simulated k j ops l h s = (words : List ℕ) × AreWords words × FollowsWith k j (at_steps ops l h words) s
 
@@ -84,7 +84,7 @@ module _ (x : Site) (c : ℕ) (one : 1 ≤ c) (all_places : (g : ℕ) → g < x.
   here : (s : State) (o : List ℕ) → s.output ≡ o → DoesBy x.layout x.code rate x.from s Going o 0
   here s o e = (0, s, refl, e, omega arith)
 
-  -- what is owed of a move
+  -- what a move owes
   abbrev Owes : (i steps : ℕ) → List ℕ → State → Move Configuration → Type 0
   Owes i steps o s mv = Done s (act (call_effect x.meaning (suc x.opened)) mv o steps (lrun i)) (work_act (call_effect x.meaning (suc x.opened)) mv steps (lwork i))
 
@@ -99,7 +99,7 @@ module _ (x : Site) (c : ℕ) (one : 1 ≤ c) (all_places : (g : ℕ) → g < x.
   fails_follows k j ops l h s o words e zero steps le les = here s h.output o
   fails_follows k j ops l h s o words e (suc i) steps le les = subst (Owes i steps h.output s) (sym e) tt
 
-  -- ---- all that is to come
+  -- ---- everything that is still to come
 
   abbrev pub Later : ℕ → Type 0
   Later k = (j w a : ℕ) (held : Scratch) (ops : List Step) (l : Locations) (h : World) (s : State) → s.pc ≡ x.place + 4 * a → Standing x held w a ops → Within x held l h s → Simulated k j ops l h s
@@ -167,7 +167,7 @@ module _ (x : Site) (c : ℕ) (one : 1 ≤ c) (all_places : (g : ℕ) → g < x.
   call_follows k j s ops l h g words o to lt enter f zero steps le les = here s h.output o
   call_follows k j s ops l h g words o to lt enter f (suc i) steps le les = at_call s ops l h g i steps words to lt enter (f i steps (omega arith) les) (effect steps g l h) refl
 
-  -- where the call gives no answer within j steps, it gives none within fewer
+  -- if the call gives no answer within j steps, it gives none within fewer
   none_fewer : (j steps g left : ℕ) (l : Locations) (h : World) (a : Answer) → steps ≤ j → effect steps g l h ≡ Gives a left → effect j g l h ≡ Gives a (left + (j - steps))
   none_fewer j steps g left l h a le eq =
       let e : steps + (j - steps) ≡ j = omega arith in
@@ -292,7 +292,7 @@ meets_of y code r c p n s t (Unfinished o) v z one path (e, b) does =
     (p + does'.0, does'.1, path_then code p does'.0 s t does'.1 path does'.2, does'.3, (let f = rate_paid r c v p does'.0 n 0 one (omega arith) does'.4 in omega arith))
 meets_of y code r c p n s t (Failed o) v z one path k does = tt
 
--- the function's items stand behind its prologue
+-- the function's items come after its prologue
 pub standing_all : (x : Site) → IsPlace x.place → IsPlace (x.place + 4 * length (framed_items x.layout.base x.frame (all_addressed x))) → Stands x x.place (framed_items x.layout.base x.frame (all_addressed x)) → EachCalled (HasRoom x) (framed_items x.layout.base x.frame (all_addressed x)) → AreFine x.meaning x.frame x.steps → Stands x x.place (prologue x.frame) × StandsWhole x
 standing_all x from to placed calls fine =
     let f = x.frame in

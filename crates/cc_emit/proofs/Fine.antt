@@ -1,4 +1,4 @@
--- What emission asks of a frame and of steps: that a frame saves what is written, and that steps name what there is.
+-- What emission needs of a frame and of steps: the frame saves what is written, and steps name what exists.
 use Rattle.std.specs.Prelude.{◌≡◌, ℕ, ◌+◌, ◌<◌, ◌≤◌, ◌⊎◌, true, List, [], ◌∷◌, length}
 use Rattle.std.specs.List.{AllByRecursion}
 use Rattle.cc_simulation.specs.Meaning.{Meaning}
@@ -30,7 +30,7 @@ pub record IsFrame (f : Frame) : Type 0 where
   pub savable : AreSavable f.saved
   pub small : f.slots + length f.saved ≤ 508
 
--- a register that is written is no kept one, or saved
+-- a register that is written is saved, or need not be kept
 abbrev pub IsTarget : Frame → ℕ → Type 0
 IsTarget f r = IsAllocatable r × (IsKept r → Member r f.saved)
 

@@ -1,16 +1,13 @@
 -- What is handed out is the piece of the pair.
-use Rattle.std.proofs.Common.{◌≡◌, ℕ, false, List, sym, ap, ◌∙◌, subst}
+use Rattle.std.proofs.Common.{◌≡◌, ℕ, false, List, refl, sym, ap, ◌∙◌, subst}
 use Rattle.std.specs.List.{AllByRecursion}
 use Rattle.cc_ast.specs.Tree.{External}
-use Rattle.cc_ast.specs.Source.{source}
 use Rattle.cc_ast.specs.declared.unit.Unit as parsed
 use Rattle.cc_c_laws.specs.declared.mode.Mode.{Mode}
 use Rattle.cc_c_laws.specs.Numbered.{objects_in}
 use Rattle.cc_ltl.specs.Ltl.{Ltl}
-use Rattle.cc_linear_language.specs.Pair as linear
 use Rattle.cc_select.specs.declared.step.Step.{Step}
 use Rattle.cc_select.specs.Selected.{labels, IsStep, IsSelected}
-use Rattle.cc_select.specs.Selection.{selected}
 use Rattle.cc_select.specs.Pair as above
 use Rattle.cc_emit.specs.declared.item.PieceItem.{PieceItem}
 use Rattle.cc_emit.specs.Objects.{object_address}
@@ -32,16 +29,13 @@ items_handed p bases slots code items tree et same es ec e =
 pub frame_handed : (p : above.Pair) (slots : ℕ) (code : List Step) (n : ℕ) → slots ≡ p.ltl.slots → code ≡ p.code → n ≡ frame_size (frame_of false slots code) → n ≡ frame_for p
 frame_handed p slots code n es ec en = en ∙ ap (λ k. frame_size (frame_of false k code)) es ∙ ap (λ (steps : List Step). frame_size (frame_of false p.ltl.slots steps)) ec
 
--- they are those of the pair of Linear for which the steps were selected
-pub items_selected : (q : linear.Pair) (p : above.Pair) → p.unit ≡ q.unit → p.ltl ≡ q.ltl → p.code ≡ selected q.code → items_for p ≡ pair_items q
+pub items_are : (p : above.Pair) → items_for p ≡ pair_items p
 unfolding pair_items
-items_selected q p eu el ec =
-    ap (λ (u : parsed.Unit). function_items (object_address (objects_in (source u).externals)) p.ltl.slots p.code) eu ∙ ap (λ (k : Ltl). function_items (object_address (objects_in (linear.tree_of q))) k.slots p.code) el
-    ∙ ap (function_items (object_address (objects_in (linear.tree_of q))) q.ltl.slots) ec
+items_are p = refl
 
-pub frame_selected : (q : linear.Pair) (p : above.Pair) → p.ltl ≡ q.ltl → p.code ≡ selected q.code → frame_for p ≡ pair_frame q
+pub frame_is : (p : above.Pair) → frame_for p ≡ pair_frame p
 unfolding pair_frame
-frame_selected q p el ec = ap (λ (k : Ltl). frame_size (frame_of false k.slots p.code)) el ∙ ap (λ (steps : List Step). frame_size (frame_of false q.ltl.slots steps)) ec
+frame_is p = refl
 
 pub piece_handed : (p : above.Pair) (m : Mode) (u : parsed.Unit) (f : ℕ) (ltl : Ltl) (frame : ℕ) (items : List PieceItem) → m ≡ p.mode → u ≡ p.unit → f ≡ p.function → ltl ≡ p.ltl → frame ≡ frame_for p → items ≡ items_for p
     → IsPieceOfUnit (record { mode = p.mode; unit = p.unit; function = p.function; ltl = p.ltl; frame = frame_for p; items = items_for p }) → IsPieceOfUnit (record { mode = m; unit = u; function = f; ltl = ltl; frame = frame; items = items })

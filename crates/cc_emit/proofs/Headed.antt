@@ -1,5 +1,5 @@
 -- What stands before a frame is code of a function without one, of steps as the function has them; the rest saves what the function saves.
-use Rattle.std.proofs.Common.{◌≡◌, ℕ, ◌+◌, ◌*◌, ◌<◌, ◌⊎◌, inl, inr, List, [], ◌∷◌, ◌++◌, Option, Some, None, true, false, Bool, refl, sym, ap, ap₂, ◌∙◌, subst, arith}
+use Rattle.std.proofs.Common.{◌≡◌, ℕ, ◌+◌, ◌*◌, ◌<◌, List, [], ◌∷◌, ◌++◌, Option, Some, None, true, false, Bool, refl, sym, ap, ap₂, ◌∙◌, subst, arith}
 use Rattle.std.specs.Prelude.{if◌then◌else◌, ◌==◌, ◌&&◌, ◌||◌, not, option_map, nat_lt}
 use Rattle.std.specs.List.{AllByRecursion}
 use Rattle.std.proofs.lemmas.Bool.Decides.{nat_tests}
@@ -22,13 +22,13 @@ use Rattle.cc_emit.specs.declared.scratch.Scratch.{Scratch}
 use Rattle.cc_emit.specs.Emission.{label_of_step, pointer_size}
 use Rattle.cc_emit.specs.Scratch.{nothing, remembered, behind_step, step_access_size, weight, labels_past, accesses_size, gains}
 use Rattle.cc_emit.specs.declared.early.Fork.{Fork}
-use Rattle.cc_emit.specs.Early.{Early, early, is_lost, is_light, is_return, fork_of, last_one, last_of, ending, early_by, early_from, with_first}
+use Rattle.cc_emit.specs.Early.{Early, early, is_lost, is_light, is_return, fork_of, last_one, last_of, ending, early_at, early_by, early_from, with_first}
 use Rattle.cc_emit.proofs.Basics.{eqb_not}
 use Rattle.cc_emit.proofs.Choosing.{AreKept, all_kept}
 use Rattle.cc_emit.proofs.Bridging.{contained_below}
-use Rattle.cc_emit.proofs.Heads.{AreLight, Led, Stays, both, fork_there, lit, lit_there, none_says, turned_there, two_ways}
+use Rattle.cc_emit.proofs.Heads.{both, fork_there, lit, lit_there, none_says, turned_there}
 
--- ---- a run is the same in code of which each label has the same place
+-- ---- a run is the same in code in which each label has the same place
 
 pub does_same : (arity : ℕ → ℕ) (c d : List Step) → ((n : ℕ) → place c n ≡ place d n) → (ops : List Step) (l : Locations) (h : World) (ws : List ℕ) → does arity c ops l h ws ≡ does arity d ops l h ws
 does_same arity c d same [] l h ws = refl
@@ -43,11 +43,7 @@ does_same arity c d same (_ ∷ ops) l h ws = refl
 -- ---- what an early function's steps are: light ones, a test, and the rest
 
 -- a property of steps that light steps and tests have no part in
-module _ {A : Type 0} (part : List Step → A) (light : (s : Step) (steps : List Step) → is_light s ≡ true → part (s ∷ steps) ≡ part steps) (test : (s : Step) (f : Fork) (steps : List Step) → fork_of s ≡ Some f → part (s ∷ steps) ≡ part steps) (returns : (steps : List Step) → part (One Return ∷ steps) ≡ part steps) (code : List Step) where
-  lights_no_part : (last more : List Step) → AreLight last → part (last ++ One Return ∷ more) ≡ part more
-  lights_no_part [] more l = returns more
-  lights_no_part (s ∷ last) more l = light s (last ++ One Return ∷ more) l.0 ∙ lights_no_part last more l.1
-
+module _ {A : Type 0} (part : List Step → A) (light : (s : Step) (steps : List Step) → is_light s ≡ true → part (s ∷ steps) ≡ part steps) (test : (s : Step) (f : Fork) (steps : List Step) → fork_of s ≡ Some f → part (s ∷ steps) ≡ part steps) (code : List Step) where
   rest_first : (s : Step) (steps : List Step) (e : Early) → ((d : Early) → early_from code steps ≡ Some d → part steps ≡ part d.rest) → early_from code (s ∷ steps) ≡ Some e → part (s ∷ steps) ≡ part e.rest
   rest_first s steps e again is = by (is_light s) refl is
     where
@@ -55,15 +51,15 @@ module _ {A : Type 0} (part : List Step → A) (light : (s : Step) (steps : List
       first_by None q p m = none_says e m
       first_by (Some d) q p m = (let is_e : with_first s d ≡ e = cc in light s steps p ∙ again d q ∙ ap (λ (y : Early). part y.rest) is_e)
 
-      test_by : (f : Fork) → fork_of s ≡ Some f → Led code f steps e ⊎ Stays s f steps e → part (s ∷ steps) ≡ part e.rest
-      test_by f q (inl t) = test s f steps q ∙ ap (λ (y : Early). part y.rest) t.is
-      test_by f q (inr t) = test s f steps q ∙ ap part t.all ∙ lights_no_part t.last (One (Label f.to) ∷ t.more) t.light ∙ ap (λ (y : Early). part y.rest) t.is
+      test_by : (f : Fork) → fork_of s ≡ Some f → (z : Option (List Step)) → early_at z f steps ≡ Some e → part (s ∷ steps) ≡ part e.rest
+      test_by f q None m = none_says e m
+      test_by f q (Some last) m = (let is_e : record { head = f.turned ∷ (last ++ One Return ∷ One (Label f.to) ∷ []); rest = steps } ≡ e = cc in test s f steps q ∙ ap (λ (y : Early). part y.rest) is_e)
 
-      fork_by : (z : Option Fork) → fork_of s ≡ z → early_by code s z steps ≡ Some e → part (s ∷ steps) ≡ part e.rest
+      fork_by : (z : Option Fork) → fork_of s ≡ z → early_by code z steps ≡ Some e → part (s ∷ steps) ≡ part e.rest
       fork_by None q m = none_says e m
-      fork_by (Some f) q m = test_by f q (two_ways code s f steps e m)
+      fork_by (Some f) q m = test_by f q (ending (place code f.to)) m
 
-      by : (b : Bool) → is_light s ≡ b → (if b then option_map (with_first s) (early_from code steps) else early_by code s (fork_of s) steps) ≡ Some e → part (s ∷ steps) ≡ part e.rest
+      by : (b : Bool) → is_light s ≡ b → (if b then option_map (with_first s) (early_from code steps) else early_by code (fork_of s) steps) ≡ Some e → part (s ∷ steps) ≡ part e.rest
       by true p m = first_by (early_from code steps) refl p m
       by false p m = fork_by (fork_of s) refl m
 
@@ -73,7 +69,7 @@ module _ {A : Type 0} (part : List Step → A) (light : (s : Step) (steps : List
 
 pub rest_places : (code steps : List Step) (e : Early) → early_from code steps ≡ Some e → (n : ℕ) → place steps n ≡ place e.rest n
 rest_places code steps e is n =
-    rest_has (λ (xs : List Step). place xs n) (λ s xs p. (let to = lit s p in there_place s xs n (lit_there s to.0 to.1))) (λ s f xs q. there_place s xs n (fork_there s f q)) (λ xs. refl) code steps e is
+    rest_has (λ (xs : List Step). place xs n) (λ s xs p. (let to = lit s p in there_place s xs n (lit_there s to.0 to.1))) (λ s f xs q. there_place s xs n (fork_there s f q)) code steps e is
 
 -- ---- what is saved
 
@@ -109,7 +105,7 @@ turned_quiet _ f e = absurd (cc)
 abbrev AreQuiet : List Step → Type 0
 AreQuiet steps = AllByRecursion Quiet steps
 
--- registers of which the same are written
+-- lists of steps that write the same registers
 same_written : (steps more : List Step) (rs : List ℕ) → AreKept rs → ((r : ℕ) → IsKept r → is_written steps r ≡ is_written more r) → written steps rs ≡ written more rs
 same_written steps more [] k e = refl
 same_written steps more (r ∷ rs) k e = ap₂ (λ (b : Bool) (xs : List ℕ). if b then r ∷ xs else xs) (e r k.0) (same_written steps more rs k.1 e)
@@ -120,8 +116,8 @@ same_saved steps more c e = ap₂ (λ (b : Bool) (xs : List ℕ). if b then 1 �
 pub saved_rest : (code steps : List Step) (e : Early) → early_from code steps ≡ Some e → saved_by steps ≡ saved_by e.rest
 saved_rest code steps e is =
     same_saved steps e.rest
-    (rest_has calls (λ s xs p. ap (λ b. b || calls xs) (light_quiet s p).calls) (λ s f xs q. ap (λ b. b || calls xs) (fork_quiet s f q).calls) (λ xs. refl) code steps e is)
-    (λ r k. rest_has (λ (xs : List Step). is_written xs r) (λ s xs p. ap (λ b. b || is_written xs r) ((light_quiet s p).writes r k)) (λ s f xs q. ap (λ b. b || is_written xs r) ((fork_quiet s f q).writes r k)) (λ xs. refl) code steps e is)
+    (rest_has calls (λ s xs p. ap (λ b. b || calls xs) (light_quiet s p).calls) (λ s f xs q. ap (λ b. b || calls xs) (fork_quiet s f q).calls) code steps e is)
+    (λ r k. rest_has (λ (xs : List Step). is_written xs r) (λ s xs p. ap (λ b. b || is_written xs r) ((light_quiet s p).writes r k)) (λ s f xs q. ap (λ b. b || is_written xs r) ((fork_quiet s f q).writes r k)) code steps e is)
 
 quiet_calls : (steps : List Step) → AreQuiet steps → calls steps ≡ false
 quiet_calls [] q = refl
@@ -131,10 +127,10 @@ quiet_writes : (steps : List Step) (r : ℕ) → IsKept r → AreQuiet steps →
 quiet_writes [] r k q = refl
 quiet_writes (s ∷ steps) r k q = ap₂ (λ a b. a || b) (q.0.writes r k) (quiet_writes steps r k q.1)
 
--- ---- what stands before the frame
+-- ---- what comes before the frame
 
 -- a property of the steps of a head, by one that all the code's steps have
-module _ (P Q : Step → Type 0) (code : List Step) (all : AllByRecursion Q code) (light : (s : Step) → is_light s ≡ true → Q s → P s) (turned : (s : Step) (f : Fork) → fork_of s ≡ Some f → Q s → P f.turned) (same : (s : Step) (f : Fork) → fork_of s ≡ Some f → Q s → P s) (ends : P (One Return)) (label : (n : ℕ) → P (One (Label n))) where
+module _ (P Q : Step → Type 0) (code : List Step) (all : AllByRecursion Q code) (light : (s : Step) → is_light s ≡ true → Q s → P s) (turned : (s : Step) (f : Fork) → fork_of s ≡ Some f → Q s → P f.turned) (ends : P (One Return)) (label : (n : ℕ) → P (One (Label n))) where
   last_has : (ss last : List Step) (n : ℕ) → AllByRecursion Q ss → last_of ss ≡ Some last → AllByRecursion P (last ++ One Return ∷ One (Label n) ∷ [])
   last_has [] last n q e = none_says last e
   last_has (s ∷ ss) last n q e = by (is_return s) e
@@ -165,32 +161,30 @@ module _ (P Q : Step → Type 0) (code : List Step) (all : AllByRecursion Q code
   place_has (One (Label m) ∷ ss) n q = either (m == n) (One (Label m) ∷ ss) (place ss n) q (place_has ss n q.1)
   place_has (_ ∷ ss) n q = place_has ss n q.1
 
-  lights_have : (last more : List Step) (n : ℕ) → AreLight last → AllByRecursion Q (last ++ more) → AllByRecursion P (last ++ One Return ∷ One (Label n) ∷ [])
-  lights_have [] more n l q = (ends, (label n, tt))
-  lights_have (s ∷ last) more n l q = (light s l.0 q.0, lights_have last more n l.1 q.1)
-
-  head_first : (s : Step) (steps : List Step) (e : Early) → ((d : Early) → early_from code steps ≡ Some d → AllByRecursion P d.head) → Q s → AllByRecursion Q steps → early_from code (s ∷ steps) ≡ Some e → AllByRecursion P e.head
-  head_first s steps e again qs qall is = by (is_light s) refl is
+  head_first : (s : Step) (steps : List Step) (e : Early) → ((d : Early) → early_from code steps ≡ Some d → AllByRecursion P d.head) → Q s → early_from code (s ∷ steps) ≡ Some e → AllByRecursion P e.head
+  head_first s steps e again qs is = by (is_light s) refl is
     where
       first_by : (z : Option Early) → early_from code steps ≡ z → is_light s ≡ true → option_map (with_first s) z ≡ Some e → AllByRecursion P e.head
       first_by None t p m = none_says e m
       first_by (Some d) t p m = (let is_e : with_first s d ≡ e = cc in subst (λ (y : Early). AllByRecursion P y.head) is_e (light s p qs, again d t))
 
-      test_by : (f : Fork) → fork_of s ≡ Some f → Led code f steps e ⊎ Stays s f steps e → AllByRecursion P e.head
-      test_by f t (inl z) = subst (λ (y : Early). AllByRecursion P y.head) z.is (turned s f t qs, ending_has (place code f.to) z.last f.to (place_has code f.to all) z.ends)
-      test_by f t (inr z) = subst (λ (y : Early). AllByRecursion P y.head) z.is (same s f t qs, lights_have z.last (One Return ∷ One (Label f.to) ∷ z.more) f.to z.light (subst (AllByRecursion Q) z.all qall))
+      test_by : (f : Fork) → fork_of s ≡ Some f → (z : Option (List Step)) → ending (place code f.to) ≡ z → early_at z f steps ≡ Some e → AllByRecursion P e.head
+      test_by f t None p m = none_says e m
+      test_by f t (Some last) p m =
+          let is_e : record { head = f.turned ∷ (last ++ One Return ∷ One (Label f.to) ∷ []); rest = steps } ≡ e = cc in
+          subst (λ (y : Early). AllByRecursion P y.head) is_e (turned s f t qs, ending_has (place code f.to) last f.to (place_has code f.to all) p)
 
-      fork_by : (z : Option Fork) → fork_of s ≡ z → early_by code s z steps ≡ Some e → AllByRecursion P e.head
+      fork_by : (z : Option Fork) → fork_of s ≡ z → early_by code z steps ≡ Some e → AllByRecursion P e.head
       fork_by None t m = none_says e m
-      fork_by (Some f) t m = test_by f t (two_ways code s f steps e m)
+      fork_by (Some f) t m = test_by f t (ending (place code f.to)) refl m
 
-      by : (b : Bool) → is_light s ≡ b → (if b then option_map (with_first s) (early_from code steps) else early_by code s (fork_of s) steps) ≡ Some e → AllByRecursion P e.head
+      by : (b : Bool) → is_light s ≡ b → (if b then option_map (with_first s) (early_from code steps) else early_by code (fork_of s) steps) ≡ Some e → AllByRecursion P e.head
       by true p m = first_by (early_from code steps) refl p m
       by false p m = fork_by (fork_of s) refl m
 
   pub head_has : (steps : List Step) (e : Early) → AllByRecursion Q steps → early_from code steps ≡ Some e → AllByRecursion P e.head
   head_has [] e q is = none_says e is
-  head_has (s ∷ steps) e q is = head_first s steps e (λ d t. head_has steps d q.1 t) q.0 q.1 is
+  head_has (s ∷ steps) e q is = head_first s steps e (λ d t. head_has steps d q.1 t) q.0 is
 
 any : (steps : List Step) → AllByRecursion (λ (s : Step). Unit {0}) steps
 any [] = tt
@@ -198,14 +192,10 @@ any (s ∷ steps) = (tt, any steps)
 
 pub head_saves : (code steps : List Step) (e : Early) → early_from code steps ≡ Some e → saved_by e.head ≡ []
 head_saves code steps e is =
-    let quiet : AreQuiet e.head = head_has Quiet (λ (s : Step). Unit {0}) code (any code) (λ s p q. light_quiet s p) (λ s f t q. turned_quiet s f t) (λ s f t q. fork_quiet s f t) (record { calls = refl; writes = λ r k. refl }) (λ n. record { calls = refl; writes = λ r k. refl }) steps e (any steps) is in
+    let quiet : AreQuiet e.head = head_has Quiet (λ (s : Step). Unit {0}) code (any code) (λ s p q. light_quiet s p) (λ s f t q. turned_quiet s f t) (record { calls = refl; writes = λ r k. refl }) (λ n. record { calls = refl; writes = λ r k. refl }) steps e (any steps) is in
     same_saved e.head [] (quiet_calls e.head quiet) (λ r k. quiet_writes e.head r k quiet)
 
 -- ---- each step of it fits, and each of the rest
-
-later : (X : Step → Type 0) (last : List Step) (s : Step) (more : List Step) → AllByRecursion X (last ++ s ∷ more) → AllByRecursion X more
-later X [] s more q = q.1
-later X (t ∷ last) s more q = later X last s more q.1
 
 module _ (slots functions : ℕ) (all : List ℕ) where
   abbrev Fits : Step → Type 0
@@ -226,15 +216,8 @@ module _ (slots functions : ℕ) (all : List ℕ) where
   turned_fits (BranchImmediate o nonzero a w n) f e u = (let q : record { to = n; turned = BranchImmediate o (not nonzero) a w n } ≡ f = cc in subst (λ (z : Fork). IsStep 0 functions all z.turned) q u)
   turned_fits _ f e u = absurd (cc)
 
-  fork_fits : (s : Step) (f : Fork) → fork_of s ≡ Some f → Fits s → IsStep 0 functions all s
-  fork_fits (One (IfNonzero r n)) f e u = u
-  fork_fits (One (IfZero r n)) f e u = u
-  fork_fits (Branch o nonzero a b n) f e u = u
-  fork_fits (BranchImmediate o nonzero a w n) f e u = u
-  fork_fits _ f e u = absurd (cc)
-
   pub head_fits : (code : List Step) (e : Early) → early_from code code ≡ Some e → AllByRecursion (IsStep slots functions all) code → AllByRecursion (IsStep 0 functions all) e.head
-  head_fits code e is fits = head_has (IsStep 0 functions all) Fits code fits light_fits turned_fits fork_fits tt (λ n. tt) code e fits is
+  head_fits code e is fits = head_has (IsStep 0 functions all) Fits code fits light_fits turned_fits tt (λ n. tt) code e fits is
 
   fits_first : (code : List Step) (s : Step) (steps : List Step) (e : Early) → ((d : Early) → early_from code steps ≡ Some d → AllByRecursion (IsStep slots functions all) d.rest) → AllByRecursion (IsStep slots functions all) steps → early_from code (s ∷ steps) ≡ Some e → AllByRecursion (IsStep slots functions all) e.rest
   fits_first code s steps e again fits is = by (is_light s) is
@@ -243,17 +226,15 @@ module _ (slots functions : ℕ) (all : List ℕ) where
       first_by None q m = none_says e m
       first_by (Some d) q m = (let is_e : with_first s d ≡ e = cc in subst (λ (y : Early). AllByRecursion (IsStep slots functions all) y.rest) is_e (again d q))
 
-      test_by : (f : Fork) → Led code f steps e ⊎ Stays s f steps e → AllByRecursion (IsStep slots functions all) e.rest
-      test_by f (inl t) = subst (λ (y : Early). AllByRecursion (IsStep slots functions all) y.rest) t.is fits
-      test_by f (inr t) =
-          subst (λ (y : Early). AllByRecursion (IsStep slots functions all) y.rest) t.is
-          (later (IsStep slots functions all) t.last (One Return) (One (Label f.to) ∷ t.more) (subst (AllByRecursion (IsStep slots functions all)) t.all fits))
+      test_by : (f : Fork) (z : Option (List Step)) → early_at z f steps ≡ Some e → AllByRecursion (IsStep slots functions all) e.rest
+      test_by f None m = none_says e m
+      test_by f (Some last) m = (let is_e : record { head = f.turned ∷ (last ++ One Return ∷ One (Label f.to) ∷ []); rest = steps } ≡ e = cc in subst (λ (y : Early). AllByRecursion (IsStep slots functions all) y.rest) is_e fits)
 
-      fork_by : (z : Option Fork) → early_by code s z steps ≡ Some e → AllByRecursion (IsStep slots functions all) e.rest
+      fork_by : (z : Option Fork) → early_by code z steps ≡ Some e → AllByRecursion (IsStep slots functions all) e.rest
       fork_by None m = none_says e m
-      fork_by (Some f) m = test_by f (two_ways code s f steps e m)
+      fork_by (Some f) m = test_by f (ending (place code f.to)) m
 
-      by : (b : Bool) → (if b then option_map (with_first s) (early_from code steps) else early_by code s (fork_of s) steps) ≡ Some e → AllByRecursion (IsStep slots functions all) e.rest
+      by : (b : Bool) → (if b then option_map (with_first s) (early_from code steps) else early_by code (fork_of s) steps) ≡ Some e → AllByRecursion (IsStep slots functions all) e.rest
       by true m = first_by (early_from code steps) refl m
       by false m = fork_by (fork_of s) m
 
@@ -262,7 +243,7 @@ module _ (slots functions : ℕ) (all : List ℕ) where
   rest_fits code (s ∷ steps) e is fits = fits_first code s steps e (λ d q. rest_fits code steps d q fits.1) fits.1 is
 
 pub rest_labels : (code steps : List Step) (e : Early) → early_from code steps ≡ Some e → labels steps ≡ labels e.rest
-rest_labels code steps e is = rest_has labels (λ s xs p. (let to = lit s p in there_labels s xs (lit_there s to.0 to.1))) (λ s f xs q. there_labels s xs (fork_there s f q)) (λ xs. refl) code steps e is
+rest_labels code steps e is = rest_has labels (λ s xs p. (let to = lit s p in there_labels s xs (lit_there s to.0 to.1))) (λ s f xs q. there_labels s xs (fork_there s f q)) code steps e is
 
 last_labels : (ss last : List Step) (l : ℕ) → ending ss ≡ Some last → labels (last ++ One Return ∷ One (Label l) ∷ []) ≡ l ∷ []
 last_labels [] last l e = none_says last e
@@ -288,10 +269,6 @@ last_labels (One (Label n) ∷ ss) last l e = behind ss e
         by false p = one_more ss p
 last_labels (_ ∷ ss) last l e = none_says last e
 
-lights_labels : (last : List Step) (l : ℕ) → AreLight last → labels (last ++ One Return ∷ One (Label l) ∷ []) ≡ l ∷ []
-lights_labels [] l light = refl
-lights_labels (s ∷ last) l light = (let to = lit s light.0 in there_labels s (last ++ One Return ∷ One (Label l) ∷ []) (lit_there s to.0 to.1) ∙ lights_labels last l light.1)
-
 -- where a test leads there is a label
 fork_below : (count slots functions : ℕ) (all : List ℕ) (s : Step) (f : Fork) → fork_of s ≡ Some f → AllByRecursion (λ label. label < count) all → IsStep slots functions all s → f.to < count
 fork_below count slots functions all (One (IfNonzero r n)) f e below u = (let q : record { to = n; turned = One (IfZero r n) } ≡ f = cc in subst (λ (z : Fork). z.to < count) q (contained_below count all n u.1 below))
@@ -312,21 +289,19 @@ labels_first count slots functions all code s steps e again below fits is = by (
         subst (λ (y : Early). AllByRecursion (λ label. label < count) (labels y.head)) is_e
         (subst (λ (ls : List ℕ). AllByRecursion (λ label. label < count) ls) (sym (there_labels s d.head (lit_there s to.0 to.1))) (again d q))
 
-    test_by : (f : Fork) → fork_of s ≡ Some f → Led code f steps e ⊎ Stays s f steps e → AllByRecursion (λ label. label < count) (labels e.head)
-    test_by f q (inl t) =
-        let ls : labels (f.turned ∷ (t.last ++ One Return ∷ One (Label f.to) ∷ [])) ≡ f.to ∷ [] = there_labels f.turned (t.last ++ One Return ∷ One (Label f.to) ∷ []) (turned_there s f q) ∙ last_labels (place code f.to) t.last f.to t.ends in
-        subst (λ (y : Early). AllByRecursion (λ label. label < count) (labels y.head)) t.is
-        (subst (λ (ls : List ℕ). AllByRecursion (λ label. label < count) ls) (sym ls) (fork_below count slots functions all s f q below fits, tt))
-    test_by f q (inr t) =
-        let ls : labels (s ∷ (t.last ++ One Return ∷ One (Label f.to) ∷ [])) ≡ f.to ∷ [] = there_labels s (t.last ++ One Return ∷ One (Label f.to) ∷ []) (fork_there s f q) ∙ lights_labels t.last f.to t.light in
-        subst (λ (y : Early). AllByRecursion (λ label. label < count) (labels y.head)) t.is
+    test_by : (f : Fork) → fork_of s ≡ Some f → (z : Option (List Step)) → ending (place code f.to) ≡ z → early_at z f steps ≡ Some e → AllByRecursion (λ label. label < count) (labels e.head)
+    test_by f q None p m = none_says e m
+    test_by f q (Some last) p m =
+        let is_e : record { head = f.turned ∷ (last ++ One Return ∷ One (Label f.to) ∷ []); rest = steps } ≡ e = cc in
+        let ls : labels (f.turned ∷ (last ++ One Return ∷ One (Label f.to) ∷ [])) ≡ f.to ∷ [] = there_labels f.turned (last ++ One Return ∷ One (Label f.to) ∷ []) (turned_there s f q) ∙ last_labels (place code f.to) last f.to p in
+        subst (λ (y : Early). AllByRecursion (λ label. label < count) (labels y.head)) is_e
         (subst (λ (ls : List ℕ). AllByRecursion (λ label. label < count) ls) (sym ls) (fork_below count slots functions all s f q below fits, tt))
 
-    fork_by : (z : Option Fork) → fork_of s ≡ z → early_by code s z steps ≡ Some e → AllByRecursion (λ label. label < count) (labels e.head)
+    fork_by : (z : Option Fork) → fork_of s ≡ z → early_by code z steps ≡ Some e → AllByRecursion (λ label. label < count) (labels e.head)
     fork_by None q m = none_says e m
-    fork_by (Some f) q m = test_by f q (two_ways code s f steps e m)
+    fork_by (Some f) q m = test_by f q (ending (place code f.to)) refl m
 
-    by : (b : Bool) → is_light s ≡ b → (if b then option_map (with_first s) (early_from code steps) else early_by code s (fork_of s) steps) ≡ Some e → AllByRecursion (λ label. label < count) (labels e.head)
+    by : (b : Bool) → is_light s ≡ b → (if b then option_map (with_first s) (early_from code steps) else early_by code (fork_of s) steps) ≡ Some e → AllByRecursion (λ label. label < count) (labels e.head)
     by true p m = first_by (early_from code steps) refl p m
     by false p m = fork_by (fork_of s) refl m
 
@@ -334,7 +309,7 @@ pub head_labels : (count slots functions : ℕ) (all : List ℕ) (code steps : L
 head_labels count slots functions all code [] e is below fits = none_says e is
 head_labels count slots functions all code (s ∷ steps) e is below fits = labels_first count slots functions all code s steps e (λ d q. head_labels count slots functions all code steps d q below fits.1) below fits.0 is
 
--- ---- a function has a head where it has a frame
+-- ---- a function has a head only if it has a frame
 
 pub early_says : (slots : ℕ) (code : List Step) (e : Early) → early slots code ≡ Some e → early_from code code ≡ Some e
 early_says slots code e = by (frame_size (frame_of false slots code) == 0)
@@ -343,7 +318,7 @@ early_says slots code e = by (frame_size (frame_of false slots code) == 0)
     by true m = none_says e m
     by false m = m
 
--- ---- a head reads and writes no object, so it gains nothing by x3
+-- ---- a head reads and writes no object, so it does not gain by x3
 
 abbrev HasNoAccess : Step → Type 0
 HasNoAccess s = (known : Remembered) → step_access_size known s ≡ 0
@@ -363,13 +338,6 @@ turned_no_access (Branch o nonzero a b n) f e = (let q : record { to = n; turned
 turned_no_access (BranchImmediate o nonzero a w n) f e = (let q : record { to = n; turned = BranchImmediate o (not nonzero) a w n } ≡ f = cc in subst (λ (z : Fork). HasNoAccess z.turned) q (λ k. refl))
 turned_no_access _ f e = absurd (cc)
 
-fork_no_access : (s : Step) (f : Fork) → fork_of s ≡ Some f → HasNoAccess s
-fork_no_access (One (IfNonzero r n)) f e = λ k. refl
-fork_no_access (One (IfZero r n)) f e = λ k. refl
-fork_no_access (Branch o nonzero a b n) f e = λ k. refl
-fork_no_access (BranchImmediate o nonzero a w n) f e = λ k. refl
-fork_no_access _ f e = absurd (cc)
-
 none_taken : (n m k : ℕ) → m ≡ 0 → k ≡ 0 → n * m + k ≡ 0
 none_taken n m k e d = ap₂ (λ x y. n * x + y) e d ∙ (let z : n * 0 + 0 ≡ 0 = omega arith in z)
 
@@ -380,5 +348,5 @@ accesses_none base b k ls (s ∷ steps) q =
 
 pub head_gains : (base : ℕ → ℕ) (code : List Step) (e : Early) → early_from code code ≡ Some e → gains base e.head ≡ false
 head_gains base code e is =
-    let none : AllByRecursion HasNoAccess e.head = head_has HasNoAccess (λ (s : Step). Unit {0}) code (any code) (λ s p q. light_no_access s p) (λ s f t q. turned_no_access s f t) (λ s f t q. fork_no_access s f t) (λ k. refl) (λ n k. refl) code e (any code) is in
+    let none : AllByRecursion HasNoAccess e.head = head_has HasNoAccess (λ (s : Step). Unit {0}) code (any code) (λ s p q. light_no_access s p) (λ s f t q. turned_no_access s f t) (λ k. refl) (λ n k. refl) code e (any code) is in
     ap₂ (λ m n. nat_lt (pointer_size true + m) n) (accesses_none base true nothing [] e.head none) (accesses_none base false nothing [] e.head none)

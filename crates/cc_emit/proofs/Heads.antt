@@ -1,9 +1,8 @@
--- What stands before a function's frame: from the function's entry it returns as the function does, or the machine comes to its end where the run
--- comes to the rest of the function's steps. It is code of its own, of a function that has no frame; the run is that of the whole function.
+-- What comes before a function's frame: from the function's entry it returns as the function does, or the machine arrives at its end when
+-- the run arrives at the rest of the function's steps. It is code of its own, of a function that has no frame; the run is that of the whole
+-- function.
 use Rattle.std.proofs.Common.{◌≡◌, ℕ, zero, suc, ◌+◌, ◌*◌, ◌%◌, ◌≤◌, ◌⊎◌, List, [], ◌∷◌, ◌++◌, Option, Some, None, true, false, Bool, refl, sym, ap, ◌∙◌, subst, inl, inr, arith}
-use Rattle.std.specs.Prelude.{if◌then◌else◌, ◌==◌, ◌&&◌, not, option_map, take, drop}
-use Rattle.std.specs.List.{AllByRecursion}
-use Rattle.std.proofs.lemmas.List.{take-append-drop}
+use Rattle.std.specs.Prelude.{if◌then◌else◌, ◌==◌, ◌&&◌, not, option_map}
 use Rattle.cc_words.specs.Operators.{apply_unary, apply_binary}
 use Rattle.cc_simulation.specs.Behavior.{Going, Outcome}
 use Rattle.cc_simulation.specs.World.{Answer, World, Effect, Question}
@@ -21,10 +20,10 @@ use Rattle.cc_select.specs.Selected.{Configuration, at_steps, does, led, place, 
 use Rattle.cc_rv32.specs.Machine.{State}
 use Rattle.cc_emit.specs.Contract.{ComesBack, IsSound, Path}
 use Rattle.cc_emit.specs.declared.early.Fork.{Fork}
-use Rattle.cc_emit.specs.Early.{Early, is_light, is_into_lost, is_return, is_label_at, is_ending, lights, written_by, fork_of, last_one, last_of, ending, early_after, early_at, early_by, early_from, early_or, with_first}
+use Rattle.cc_emit.specs.Early.{Early, is_light, is_into_lost, is_return, written_by, fork_of, last_one, last_of, ending, early_at, early_by, early_from, with_first}
 use Rattle.cc_emit.specs.declared.scratch.Scratch.{Scratch}
 use Rattle.cc_select.proofs.Places.{IsThere, there_place}
-use Rattle.cc_emit.proofs.Basics.{eqb_says, eqb_yes}
+use Rattle.cc_emit.proofs.Basics.{eqb_yes}
 use Rattle.cc_emit.proofs.Standing.{Site, Standing, end_of, path_then}
 use Rattle.cc_emit.proofs.Within.{Within}
 use Rattle.cc_emit.proofs.Cases.{Case, Given, Reaches, StandsWhole, Stepped, binary_case, const_case, copy_case, if_nonzero_case, if_zero_case, unary_case}
@@ -35,7 +34,7 @@ use Rattle.cc_emit.proofs.Emitted.{Does, DoesBy, one_move}
 pub none_says : {A B : Type 0} (b : B) → None ≡ Some b → A
 none_says {A} b e = absurd (cc)
 
--- ---- what light steps and tests do, in whichever code
+-- ---- what light steps and tests do, in any code
 
 -- the word that a light step makes
 abbrev gives : Step → Locations → Option ℕ
@@ -46,7 +45,7 @@ gives (One (Binary operator to left right)) l = apply_binary operator (l (Regist
 gives (Immediate operator to from word) l = apply_immediate operator (l (Register from)) word
 gives step l = None
 
--- the word that a test asks, and whether it leads on where that is not 0
+-- the word that a test examines, and whether it leads on if that word is not 0
 abbrev asks : Step → Locations → Option ℕ
 asks (One (IfNonzero from to)) l = Some (l (Register from))
 asks (One (IfZero from to)) l = Some (l (Register from))
@@ -119,7 +118,7 @@ put_merged to v l slots = λ i k. at k i
 
 -- ---- the machine
 
--- by the moves that a step makes the machine comes there
+-- by the moves that a step makes, the machine arrives there
 stepped_to : (x : Site) (ops next : List Step) (l k : Locations) (h : World) (u : State) → ((ws : List ℕ) → selected_move x.meaning.arity x.steps (at_steps ops l h ws) ≡ Goes (at_steps next k h ws)) → Stepped x ops l h u → Reaches x next k h u
 stepped_to x ops next l k h u f z =
     let e : Goes (at_steps next k h (z.prefix ++ [])) ≡ Goes (at_steps z.next z.locations z.world []) = sym (f (z.prefix ++ [])) ∙ z.moves [] in
@@ -145,13 +144,6 @@ turned_case x {held} w a (BranchImmediate o nonzero b v n) k ops l h u e given a
     (let q : record { to = n; turned = BranchImmediate o (not nonzero) b v n } ≡ k = cc in subst (λ (z : Fork). Given x held w a (z.turned ∷ ops) l h u → Stepped x (z.turned ∷ ops) l h u) q (λ g. branch_immediate_case x w a o (not nonzero) b v n ops l h u g all) given)
 turned_case x w a _ k ops l h u e given all = absurd (cc)
 
-fork_case : (x : Site) {held : Scratch} (w a : ℕ) (s : Step) (k : Fork) (ops : List Step) (l : Locations) (h : World) (u : State) → fork_of s ≡ Some k → Given x held w a (s ∷ ops) l h u → StandsWhole x → Stepped x (s ∷ ops) l h u
-fork_case x w a (One (IfNonzero r n)) k ops l h u e given all = if_nonzero_case x w a r n ops l h u given all
-fork_case x w a (One (IfZero r n)) k ops l h u e given all = if_zero_case x w a r n ops l h u given all
-fork_case x w a (Branch o nonzero b d n) k ops l h u e given all = branch_case x w a o nonzero b d n ops l h u given all
-fork_case x w a (BranchImmediate o nonzero b v n) k ops l h u e given all = branch_immediate_case x w a o nonzero b v n ops l h u given all
-fork_case x w a _ k ops l h u e given all = absurd (cc)
-
 -- ---- which steps these are
 
 pub lit : (s : Step) → is_light s ≡ true → (to : ℕ) × (written_by s ≡ Some to)
@@ -170,7 +162,7 @@ both true true e = (refl, refl)
 both true false e = absurd (let n : false ≡ true = e in cc)
 both false b e = absurd (let n : false ≡ true = e in cc)
 
--- a test goes one of its two ways, and the turned one the other way round
+-- a test goes one of its two ways, and the reversed test the other way round
 ways : (H G : List Step → Type 0) (nonzero : Bool) (v : ℕ) (on there on' there' : List Step) → (H on' → G there) → (H there' → G on) → H (led (not nonzero) v on' there') → G (led nonzero v on there)
 ways H G true v on there on' there' f g = by (v == 0)
   where
@@ -182,19 +174,6 @@ ways H G false v on there on' there' f g = by (v == 0)
     by : (b : Bool) → H (if b then on' else there') → G (if b then there else on)
     by true = f
     by false = g
-
--- the same test goes the same way
-same_ways : (H G : List Step → Type 0) (nonzero : Bool) (v : ℕ) (on there on' there' : List Step) → (H on' → G on) → (H there' → G there) → H (led nonzero v on' there') → G (led nonzero v on there)
-same_ways H G true v on there on' there' f g = by (v == 0)
-  where
-    by : (b : Bool) → H (if b then on' else there') → G (if b then on else there)
-    by true = f
-    by false = g
-same_ways H G false v on there on' there' f g = by (v == 0)
-  where
-    by : (b : Bool) → H (if b then there' else on') → G (if b then there else on)
-    by true = g
-    by false = f
 
 -- none of them is a label, but for the last of a head
 pub lit_there : (s : Step) (to : ℕ) → written_by s ≡ Some to → IsThere s
@@ -211,9 +190,6 @@ turned_there (One (IfZero r n)) f e = (let q : record { to = n; turned = One (If
 turned_there (Branch o nonzero a b n) f e = (let q : record { to = n; turned = Branch o (not nonzero) a b n } ≡ f = cc in subst (λ (z : Fork). IsThere z.turned) q tt)
 turned_there (BranchImmediate o nonzero a w n) f e = (let q : record { to = n; turned = BranchImmediate o (not nonzero) a w n } ≡ f = cc in subst (λ (z : Fork). IsThere z.turned) q tt)
 turned_there _ f e = absurd (cc)
-
-label_first : (l : ℕ) (steps : List Step) → place (One (Label l) ∷ steps) l ≡ One (Label l) ∷ steps
-label_first l steps = ap (λ b. if b then One (Label l) ∷ steps else place steps l) (eqb_yes l l refl)
 
 label_alone : (l : ℕ) → place (One (Label l) ∷ []) l ≡ One (Label l) ∷ []
 label_alone l = ap (λ b. if b then One (Label l) ∷ [] else []) (eqb_yes l l refl)
@@ -242,78 +218,6 @@ last_place (One (Label n) ∷ ss) last l e = behind ss e
         by false p = one_more ss p
 last_place (_ ∷ ss) last l e = none_says last e
 
--- ---- how what stands before a frame ends
-
-abbrev pub AreLight : List Step → Type 0
-AreLight steps = AllByRecursion (λ (s : Step). is_light s ≡ true) steps
-
--- where the test leads
-pub record Led (code : List Step) (f : Fork) (rest : List Step) (e : Early) : Type 0 where
-  pub last : List Step
-  pub ends : ending (place code f.to) ≡ Some last
-  pub is : record { head = f.turned ∷ (last ++ One Return ∷ One (Label f.to) ∷ []); rest = rest } ≡ e
-
--- right after it
-pub record Stays (s : Step) (f : Fork) (rest : List Step) (e : Early) : Type 0 where
-  pub last : List Step
-  pub more : List Step
-  pub light : AreLight last
-  pub all : rest ≡ last ++ One Return ∷ One (Label f.to) ∷ more
-  pub is : record { head = s ∷ (last ++ One Return ∷ One (Label f.to) ∷ []); rest = One (Label f.to) ∷ more } ≡ e
-
-label_is : (l : ℕ) (xs : List Step) → is_label_at l xs ≡ true → (more : List Step) × (xs ≡ One (Label l) ∷ more)
-label_is l [] e = absurd (let n : false ≡ true = e in cc)
-label_is l (One (Label n) ∷ xs) e = (xs, ap (λ k. One (Label k) ∷ xs) (eqb_says n l e))
-label_is l (_ ∷ xs) e = absurd (let n : false ≡ true = e in cc)
-
-pub ending_is : (l : ℕ) (xs : List Step) → is_ending l xs ≡ true → (more : List Step) × (xs ≡ One Return ∷ One (Label l) ∷ more)
-ending_is l [] e = absurd (let n : false ≡ true = e in cc)
-ending_is l (s ∷ xs) e =
-    let t = both (is_return s) (is_label_at l xs) e in
-    let m = label_is l xs t.1 in
-    (m.0, ap (λ y. y ∷ xs) (returning s t.0) ∙ ap (λ ys. One Return ∷ ys) m.1)
-
-lights_light : (xs : List Step) → AreLight (take (lights xs) xs)
-lights_light [] = tt
-lights_light (x ∷ xs) = by (is_light x) refl (lights_light xs)
-  where
-    by : (b : Bool) → is_light x ≡ b → AreLight (take (lights xs) xs) → AreLight (take (if b then suc (lights xs) else 0) (x ∷ xs))
-    by true q r = (q, r)
-    by false q r = tt
-
-drop_next : (n : ℕ) (xs : List Step) (y : Step) (ys : List Step) → drop n xs ≡ y ∷ ys → drop (suc n) xs ≡ ys
-drop_next zero [] y ys e = absurd (cc)
-drop_next zero (x ∷ xs) y ys e = cc
-drop_next (suc n) [] y ys e = absurd (cc)
-drop_next (suc n) (x ∷ xs) y ys e = drop_next n xs y ys e
-
-stays_by : (s : Step) (f : Fork) (rest : List Step) (e : Early) (n : ℕ) → AreLight (take n rest) → early_after n s f rest ≡ Some e → Stays s f rest e
-stays_by s f rest e n light m = by (is_ending f.to (drop n rest)) refl m
-  where
-    by : (b : Bool) → is_ending f.to (drop n rest) ≡ b → (if b then Some (record { head = s ∷ (take n rest ++ One Return ∷ One (Label f.to) ∷ []); rest = drop (suc n) rest }) else None) ≡ Some e → Stays s f rest e
-    by false q p = none_says e p
-    by true q p =
-        let t = ending_is f.to (drop n rest) q in
-        let is_e : record { head = s ∷ (take n rest ++ One Return ∷ One (Label f.to) ∷ []); rest = drop (suc n) rest } ≡ e = cc in
-        record {
-          last = take n rest;
-          more = t.0;
-          light = light;
-          all = sym (take-append-drop n rest) ∙ ap (λ xs. take n rest ++ xs) t.1;
-          is = ap (λ xs. record { head = s ∷ (take n rest ++ One Return ∷ One (Label f.to) ∷ []); rest = xs }) (sym (drop_next n rest (One Return) (One (Label f.to) ∷ t.0) t.1)) ∙ is_e;
-        }
-
-pub two_ways : (code : List Step) (s : Step) (f : Fork) (rest : List Step) (e : Early) → early_by code s (Some f) rest ≡ Some e → Led code f rest e ⊎ Stays s f rest e
-two_ways code s f rest e = by (ending (place code f.to)) refl
-  where
-    by : (z : Option (List Step)) → ending (place code f.to) ≡ z → early_or (early_at z f rest) (early_after (lights rest) s f rest) ≡ Some e → Led code f rest e ⊎ Stays s f rest e
-    by (Some last) q m = (let is_e : record { head = f.turned ∷ (last ++ One Return ∷ One (Label f.to) ∷ []); rest = rest } ≡ e = cc in inl (record { last = last; ends = q; is = is_e }))
-    by None q m = inr (stays_by s f rest e (lights rest) (lights_light rest) m)
-
-lights_place : (last : List Step) (l : ℕ) → AreLight last → place (last ++ One Return ∷ One (Label l) ∷ []) l ≡ One (Label l) ∷ []
-lights_place [] l light = label_alone l
-lights_place (s ∷ last) l light = (let to = lit s light.0 in there_place s (last ++ One Return ∷ One (Label l) ∷ []) l (lit_there s to.0 to.1) ∙ lights_place last l light.1)
-
 -- ---- the run of a whole function, of which the site has the head
 
 module _ (x : Site) (c : ℕ) (code : List Step) (k j : ℕ) where
@@ -336,7 +240,7 @@ module _ (x : Site) (c : ℕ) (code : List Step) (k j : ℕ) where
   abbrev pub Ended : (ss : List Step) (l : Locations) (h : World) (u : State) → Type 0
   Ended ss l h u = (slots : ℕ → ℕ) (words : List ℕ) → Follows (at_steps ss (merge l slots) h words) u
 
-  -- the machine comes to the end of the head, and the run to the rest
+  -- the machine arrives at the end of the head, and the run at the rest
   pub record Passed (steps rest : List Step) (l : Locations) (h : World) (u : State) : Type 0 where
     pub more : ℕ
     pub to : State
@@ -382,7 +286,7 @@ module _ (x : Site) (c : ℕ) (one : 1 ≤ c) (all : StandsWhole x) (sound : IsS
 
   -- ---- a light step
 
-  -- it goes wrong, or the machine does it and the run too, whatever the slots hold
+  -- it goes wrong, or the machine does it and the run does too, whatever the slots hold
   pub record Lit (s : Step) (ops ss : List Step) (l : Locations) (h : World) (u : State) : Type 0 where
     pub locations : Locations
     pub reaches : Reaches x ops locations h u
@@ -410,7 +314,7 @@ module _ (x : Site) (c : ℕ) (one : 1 ≤ c) (all : StandsWhole x) (sound : IsS
       by None is = inl (made None is)
       by (Some v) is = inr (lit_by v is (light_case x w a s to ops l h u e given))
 
-  -- ---- behind the label of the test: the return, at most one step further on
+  -- ---- after the label of the test: the return, at most one step further on
 
   at_return : {held : Scratch} (w a : ℕ) (tail ss : List Step) (l : Locations) (h : World) (u : State) → Given x held w a (One Return ∷ tail) l h u → Ended x c code k j (One Return ∷ ss) l h u
   at_return w a tail ss l h u (e, st, inside) slots words = returns ss (merge l slots) h words u inside.shares.output (return_path x w a tail l h u sound back e st inside)
@@ -453,20 +357,6 @@ module _ (x : Site) (c : ℕ) (one : 1 ≤ c) (all : StandsWhole x) (sound : IsS
   place_ends w a [] last tail l h u e given = none_says last e
   place_ends w a (One (Label n) ∷ ss) last tail l h u e given = λ slots words. labelled n ss (merge l slots) h words u (ends w a ss last tail l h u e given slots words)
   place_ends w a (_ ∷ ss) last tail l h u e given = none_says last e
-
-  -- right after the test: the return, after light steps
-  stays_end : {held : Scratch} (w a : ℕ) (last tail ss : List Step) (l : Locations) (h : World) (u : State) → AreLight last → Given x held w a (last ++ One Return ∷ tail) l h u → Ended x c code k j (last ++ One Return ∷ ss) l h u
-  stays_end w a [] tail ss l h u light_all given = at_return w a tail ss l h u given
-  stays_end {held} w a (s ∷ last) tail ss l h u light_all given =
-      (let to = lit s light_all.0 in by (light w a s to.0 (last ++ One Return ∷ tail) (last ++ One Return ∷ ss) l h u to.1 given) (λ held' w' a' m v g. stays_end {held = held'} w' a' last tail ss m h v light_all.1 g))
-    where
-      by : ((slots : ℕ → ℕ) (words : List ℕ) → steps_on (at_steps (s ∷ (last ++ One Return ∷ ss)) (merge l slots) h words) ≡ Fails) ⊎ Lit s (last ++ One Return ∷ tail) (last ++ One Return ∷ ss) l h u
-          → ((held' : Scratch) (w' a' : ℕ) (m : Locations) (v : State) → Given x held' w' a' (last ++ One Return ∷ tail) m h v → Ended x c code k j (last ++ One Return ∷ ss) m h v) → Ended x c code k j (s ∷ (last ++ One Return ∷ ss)) l h u
-      by (inl f) again = λ slots words. fails (at_steps (s ∷ (last ++ One Return ∷ ss)) (merge l slots) h words) u given.2.shares.output (f slots words)
-      by (inr z) again =
-          let r = z.reaches in
-          let end : Ended x c code k j (last ++ One Return ∷ ss) z.locations h r.to = again r.held r.long r.offset z.locations r.to (r.at, r.standing, r.within) in
-          (λ slots words. goes (at_steps (s ∷ (last ++ One Return ∷ ss)) (merge l slots) h words) (at_steps (last ++ One Return ∷ ss) (merge z.locations slots) h words) u r.to r.more given.2.shares.output (z.moves_on slots words) r.path (end slots words))
 
   -- ---- before it
 
@@ -518,66 +408,12 @@ module _ (x : Site) (c : ℕ) (one : 1 ≤ c) (all : StandsWhole x) (sound : IsS
           (stepped_to x (f.turned ∷ ops) (led (not (sense s)) v ops (place x.steps f.to)) l l h u (own v is) (turned_case x w a s f ops l h u e given all))
           (asked (Some v) is)
 
-  -- the function returns right after the test, or goes on at the label
-  at_stay : {held : Scratch} (w a : ℕ) (s : Step) (f : Fork) (last more : List Step) (l : Locations) (h : World) (u : State) → fork_of s ≡ Some f → AreLight last → place code f.to ≡ One (Label f.to) ∷ more → place x.steps f.to ≡ One (Label f.to) ∷ []
-      → Given x held w a (s ∷ (last ++ One Return ∷ One (Label f.to) ∷ [])) l h u → Goal x c code k j (s ∷ (last ++ One Return ∷ One (Label f.to) ∷ more)) (One (Label f.to) ∷ more) l h u
-  at_stay {held} w a s f last more l h u e light_all there alone given = by (asks s l) refl
-    where
-      ops : List Step
-      ops = last ++ One Return ∷ One (Label f.to) ∷ []
-
-      rest : List Step
-      rest = last ++ One Return ∷ One (Label f.to) ∷ more
-
-      asked : (z : Option ℕ) → asks s l ≡ z → (slots : ℕ → ℕ) (words : List ℕ) → steps_on (at_steps (s ∷ rest) (merge l slots) h words) ≡ tried z (λ v. Goes (at_steps (led (sense s) v rest (place code f.to)) (merge l slots) h words))
-      asked z is slots words = fork_does x.meaning.arity code s f e rest (merge l slots) h words ∙ ap (λ y. tried y (λ v. Goes (at_steps (led (sense s) v rest (place code f.to)) (merge l slots) h words))) (asks_merged s l slots ∙ is)
-
-      own : (v : ℕ) → asks s l ≡ Some v → (ws : List ℕ) → selected_move x.meaning.arity x.steps (at_steps (s ∷ ops) l h ws) ≡ Goes (at_steps (led (sense s) v ops (place x.steps f.to)) l h ws)
-      own v is ws = fork_does x.meaning.arity x.steps s f e ops l h ws ∙ ap (λ y. tried y (λ v. Goes (at_steps (led (sense s) v ops (place x.steps f.to)) l h ws))) is
-
-      out : u.output ≡ h.output
-      out = given.2.shares.output
-
-      Next : List Step → Type 0
-      Next ss = ((slots : ℕ → ℕ) (words : List ℕ) → steps_on (at_steps (s ∷ rest) (merge l slots) h words) ≡ Goes (at_steps ss (merge l slots) h words)) → Goal x c code k j (s ∷ rest) (One (Label f.to) ∷ more) l h u
-
-      to_end : Reaches x ops l h u → Next rest
-      to_end r on =
-          let end : Ended x c code k j rest l h r.to = stays_end r.long r.offset last (One (Label f.to) ∷ []) (One (Label f.to) ∷ more) l h r.to light_all (r.at, r.standing, r.within) in
-          inl (λ slots words. goes (at_steps (s ∷ rest) (merge l slots) h words) (at_steps rest (merge l slots) h words) u r.to r.more out (on slots words) r.path (end slots words))
-
-      to_rest : Reaches x (place x.steps f.to) l h u → Next (place code f.to)
-      to_rest r on =
-          let st : Standing x r.held r.long r.offset (One (Label f.to) ∷ []) = subst (Standing x r.held r.long r.offset) alone r.standing in
-          let end : r.offset + 0 ≡ end_of x = st.last in
-          let there_is : r.offset ≡ end_of x = omega arith in
-          let passed : Passed x c code k j (s ∷ rest) (One (Label f.to) ∷ more) l h u = record {
-            more = suc r.more;
-            to = r.to;
-            held = r.held;
-            locations = l;
-            path = r.path;
-            at = r.at ∙ ap (λ n. x.place + 4 * n) there_is;
-            within = r.within;
-            follows = λ slots words g.
-                goes (at_steps (s ∷ rest) (merge l slots) h words) (at_steps (One (Label f.to) ∷ more) (merge l slots) h words) u r.to r.more out
-                (on slots words ∙ ap (λ (xs : List Step). Goes (at_steps xs (merge l slots) h words)) there) r.path g;
-          } in
-          inr passed
-
-      by : (z : Option ℕ) → asks s l ≡ z → Goal x c code k j (s ∷ rest) (One (Label f.to) ∷ more) l h u
-      by None is = inl (λ slots words. fails (at_steps (s ∷ rest) (merge l slots) h words) u out (asked None is slots words))
-      by (Some v) is =
-          same_ways (λ (xs : List Step). Reaches x xs l h u) Next (sense s) v rest (place code f.to) ops (place x.steps f.to) to_end to_rest
-          (stepped_to x (s ∷ ops) (led (sense s) v ops (place x.steps f.to)) l l h u (own v is) (fork_case x w a s f ops l h u e given all))
-          (asked (Some v) is)
-
   -- the head of these steps
   abbrev Onward : List Step → Type 0
-  Onward steps = (held : Scratch) (w a : ℕ) (e : Early) (l : Locations) (h : World) (u : State) → early_from code steps ≡ Some e → ((n : ℕ) → place code n ≡ place e.rest n) → ((n : ℕ) → place x.steps n ≡ place e.head n) → Given x held w a e.head l h u → Goal x c code k j steps e.rest l h u
+  Onward steps = (held : Scratch) (w a : ℕ) (e : Early) (l : Locations) (h : World) (u : State) → early_from code steps ≡ Some e → ((n : ℕ) → place x.steps n ≡ place e.head n) → Given x held w a e.head l h u → Goal x c code k j steps e.rest l h u
 
-  heads_first : (held : Scratch) (w a : ℕ) (s : Step) (steps : List Step) (e : Early) (l : Locations) (h : World) (u : State) → Onward steps → early_from code (s ∷ steps) ≡ Some e → ((n : ℕ) → place code n ≡ place e.rest n) → ((n : ℕ) → place x.steps n ≡ place e.head n) → Given x held w a e.head l h u → Goal x c code k j (s ∷ steps) e.rest l h u
-  heads_first held w a s steps e l h u onward is stays same given = by (is_light s) refl is
+  heads_first : (held : Scratch) (w a : ℕ) (s : Step) (steps : List Step) (e : Early) (l : Locations) (h : World) (u : State) → Onward steps → early_from code (s ∷ steps) ≡ Some e → ((n : ℕ) → place x.steps n ≡ place e.head n) → Given x held w a e.head l h u → Goal x c code k j (s ∷ steps) e.rest l h u
+  heads_first held w a s steps e l h u onward is same given = by (is_light s) refl is
     where
       on_by : (d : Early) (z : Lit s d.head steps l h u) → u.output ≡ h.output → Goal x c code k j steps d.rest z.locations h z.reaches.to → Goal x c code k j (s ∷ steps) d.rest l h u
       on_by d z out (inl f) =
@@ -595,10 +431,10 @@ module _ (x : Site) (c : ℕ) (one : 1 ≤ c) (all : StandsWhole x) (sound : IsS
           } in
           inr passed
 
-      lit_by : (d : Early) → early_from code steps ≡ Some d → ((n : ℕ) → place code n ≡ place d.rest n) → ((n : ℕ) → place x.steps n ≡ place d.head n) → u.output ≡ h.output → ((slots : ℕ → ℕ) (words : List ℕ) → steps_on (at_steps (s ∷ steps) (merge l slots) h words) ≡ Fails) ⊎ Lit s d.head steps l h u
+      lit_by : (d : Early) → early_from code steps ≡ Some d → ((n : ℕ) → place x.steps n ≡ place d.head n) → u.output ≡ h.output → ((slots : ℕ → ℕ) (words : List ℕ) → steps_on (at_steps (s ∷ steps) (merge l slots) h words) ≡ Fails) ⊎ Lit s d.head steps l h u
           → Goal x c code k j (s ∷ steps) d.rest l h u
-      lit_by d q stays_d same_d out (inl f) = inl (λ slots words. fails (at_steps (s ∷ steps) (merge l slots) h words) u out (f slots words))
-      lit_by d q stays_d same_d out (inr z) = on_by d z out (onward z.reaches.held z.reaches.long z.reaches.offset d z.locations h z.reaches.to q stays_d same_d (z.reaches.at, z.reaches.standing, z.reaches.within))
+      lit_by d q same_d out (inl f) = inl (λ slots words. fails (at_steps (s ∷ steps) (merge l slots) h words) u out (f slots words))
+      lit_by d q same_d out (inr z) = on_by d z out (onward z.reaches.held z.reaches.long z.reaches.offset d z.locations h z.reaches.to q same_d (z.reaches.at, z.reaches.standing, z.reaches.within))
 
       first_by : (z : Option Early) → early_from code steps ≡ z → is_light s ≡ true → option_map (with_first s) z ≡ Some e → Goal x c code k j (s ∷ steps) e.rest l h u
       first_by None q p m = none_says e m
@@ -607,31 +443,26 @@ module _ (x : Site) (c : ℕ) (one : 1 ≤ c) (all : StandsWhole x) (sound : IsS
           let is_e : with_first s d ≡ e = cc in
           let g : Given x held w a (s ∷ d.head) l h u = subst (λ (y : Early). Given x held w a y.head l h u) (sym is_e) given in
           let same_d : (n : ℕ) → place x.steps n ≡ place d.head n = λ n. same n ∙ ap (λ (y : Early). place y.head n) (sym is_e) ∙ there_place s d.head n (lit_there s to.0 to.1) in
-          subst (λ (y : Early). Goal x c code k j (s ∷ steps) y.rest l h u) is_e (lit_by d q (λ n. stays n ∙ ap (λ (y : Early). place y.rest n) (sym is_e)) same_d g.2.shares.output (light w a s to.0 d.head steps l h u to.1 g))
+          subst (λ (y : Early). Goal x c code k j (s ∷ steps) y.rest l h u) is_e (lit_by d q same_d g.2.shares.output (light w a s to.0 d.head steps l h u to.1 g))
 
-      test_by : (f : Fork) → fork_of s ≡ Some f → Led code f steps e ⊎ Stays s f steps e → Goal x c code k j (s ∷ steps) e.rest l h u
-      test_by f q (inl t) =
-          let d : Early = record { head = f.turned ∷ (t.last ++ One Return ∷ One (Label f.to) ∷ []); rest = steps } in
-          let g : Given x held w a d.head l h u = subst (λ (y : Early). Given x held w a y.head l h u) (sym t.is) given in
+      test_by : (f : Fork) → fork_of s ≡ Some f → (z : Option (List Step)) → ending (place code f.to) ≡ z → early_at z f steps ≡ Some e → Goal x c code k j (s ∷ steps) e.rest l h u
+      test_by f q None p m = none_says e m
+      test_by f q (Some last) p m =
+          let d : Early = record { head = f.turned ∷ (last ++ One Return ∷ One (Label f.to) ∷ []); rest = steps } in
+          let is_e : d ≡ e = cc in
+          let g : Given x held w a d.head l h u = subst (λ (y : Early). Given x held w a y.head l h u) (sym is_e) given in
           let alone : place x.steps f.to ≡ One (Label f.to) ∷ [] =
-          same f.to ∙ ap (λ (y : Early). place y.head f.to) (sym t.is) ∙ there_place f.turned (t.last ++ One Return ∷ One (Label f.to) ∷ []) f.to (turned_there s f q) ∙ last_place (place code f.to) t.last f.to t.ends in
-          subst (λ (y : Early). Goal x c code k j (s ∷ steps) y.rest l h u) t.is (at_test w a s f t.last steps l h u q t.ends alone g)
-      test_by f q (inr t) =
-          let d : Early = record { head = s ∷ (t.last ++ One Return ∷ One (Label f.to) ∷ []); rest = One (Label f.to) ∷ t.more } in
-          let g : Given x held w a d.head l h u = subst (λ (y : Early). Given x held w a y.head l h u) (sym t.is) given in
-          let alone : place x.steps f.to ≡ One (Label f.to) ∷ [] =
-          same f.to ∙ ap (λ (y : Early). place y.head f.to) (sym t.is) ∙ there_place s (t.last ++ One Return ∷ One (Label f.to) ∷ []) f.to (fork_there s f q) ∙ lights_place t.last f.to t.light in
-          let there : place code f.to ≡ One (Label f.to) ∷ t.more = stays f.to ∙ ap (λ (y : Early). place y.rest f.to) (sym t.is) ∙ label_first f.to t.more in
-          subst (λ (y : Early). Goal x c code k j (s ∷ steps) y.rest l h u) t.is (subst (λ (ss : List Step). Goal x c code k j (s ∷ ss) d.rest l h u) (sym t.all) (at_stay w a s f t.last t.more l h u q t.light there alone g))
+          same f.to ∙ ap (λ (y : Early). place y.head f.to) (sym is_e) ∙ there_place f.turned (last ++ One Return ∷ One (Label f.to) ∷ []) f.to (turned_there s f q) ∙ last_place (place code f.to) last f.to p in
+          subst (λ (y : Early). Goal x c code k j (s ∷ steps) y.rest l h u) is_e (at_test w a s f last steps l h u q p alone g)
 
-      fork_by : (z : Option Fork) → fork_of s ≡ z → early_by code s z steps ≡ Some e → Goal x c code k j (s ∷ steps) e.rest l h u
+      fork_by : (z : Option Fork) → fork_of s ≡ z → early_by code z steps ≡ Some e → Goal x c code k j (s ∷ steps) e.rest l h u
       fork_by None q m = none_says e m
-      fork_by (Some f) q m = test_by f q (two_ways code s f steps e m)
+      fork_by (Some f) q m = test_by f q (ending (place code f.to)) refl m
 
-      by : (b : Bool) → is_light s ≡ b → (if b then option_map (with_first s) (early_from code steps) else early_by code s (fork_of s) steps) ≡ Some e → Goal x c code k j (s ∷ steps) e.rest l h u
+      by : (b : Bool) → is_light s ≡ b → (if b then option_map (with_first s) (early_from code steps) else early_by code (fork_of s) steps) ≡ Some e → Goal x c code k j (s ∷ steps) e.rest l h u
       by true p m = first_by (early_from code steps) refl p m
       by false p m = fork_by (fork_of s) refl m
 
-  pub heads : (held : Scratch) (w a : ℕ) (steps : List Step) (e : Early) (l : Locations) (h : World) (u : State) → early_from code steps ≡ Some e → ((n : ℕ) → place code n ≡ place e.rest n) → ((n : ℕ) → place x.steps n ≡ place e.head n) → Given x held w a e.head l h u → Goal x c code k j steps e.rest l h u
-  heads held w a [] e l h u is stays same given = none_says e is
-  heads held w a (s ∷ steps) e l h u is stays same given = heads_first held w a s steps e l h u (λ held w a d l h u. heads held w a steps d l h u) is stays same given
+  pub heads : (held : Scratch) (w a : ℕ) (steps : List Step) (e : Early) (l : Locations) (h : World) (u : State) → early_from code steps ≡ Some e → ((n : ℕ) → place x.steps n ≡ place e.head n) → Given x held w a e.head l h u → Goal x c code k j steps e.rest l h u
+  heads held w a [] e l h u is same given = none_says e is
+  heads held w a (s ∷ steps) e l h u is same given = heads_first held w a s steps e l h u (λ held w a d l h u. heads held w a steps d l h u) is same given

@@ -1,5 +1,4 @@
--- What x3 and the scratch registers hold on the machine: of what is remembered between steps each word is so, and each change of another register
--- keeps it.
+-- What x3 and the scratch registers hold on the machine: each remembered word is there, and each change of another register keeps it.
 use Rattle.std.proofs.Common.{◌≡◌, ℕ, ◌+◌, ◌*◌, ◌%◌, ◌^◌, ◌-◌, ◌<◌, ◌≤◌, Bool, true, false, Option, Some, None, refl, sym, ap, ◌∙◌, inl, inr, arith}
 use Rattle.std.specs.Prelude.{if◌then◌else◌, ◌==◌, ◌&&◌, nat_le, nat_lt}
 use Rattle.std.proofs.lemmas.Bool.Decides.{nat_tests}
@@ -22,7 +21,7 @@ abbrev pub HoldsUpper : Option ℕ → (registers : ℕ → ℕ) → Type 0
 HoldsUpper None g = Unit {0}
 HoldsUpper (Some upper) g = g 6 ≡ upper * 2 ^ 12
 
--- of an element whose number is in a register
+-- the address of an element whose number is in a register
 abbrev pub IsAddress : Width → (index sum_base : ℕ) → (registers : ℕ → ℕ) → Type 0
 IsAddress width index sum_base g = g 5 ≡ (bytes width * g index + sum_base) % 2 ^ 32
 
@@ -71,7 +70,7 @@ holds_address_set held f v h = record { upper = upper_stays held.upper f (with_r
 pub address_stays_6 : (a : Option ElementAddress) (f : ℕ → ℕ) (v : ℕ) → HoldsAddress a f → HoldsAddress a (with_register f 6 v)
 address_stays_6 a f v h = address_stays a f (with_register f 6 v) (set_other f 6 v 5 (λ e. omega arith)) (λ r u. let lo = u.0 in set_other f 6 v r (λ e. omega arith)) h
 
--- ---- what is known of an address is so
+-- ---- what is known about an address is so
 
 upper_right : (z : Option ℕ) (u : ℕ) (g : ℕ → ℕ) → HoldsUpper z g → is_upper z u ≡ true → g 6 ≡ u * 2 ^ 12
 upper_right None u g h e = absurd (let q : false ≡ true = e in cc)
@@ -102,12 +101,12 @@ address_right (Some a) w i u g h e =
 
 -- ---- x3
 
--- what x3 holds in a function's body: the global pointer, where the function sets it, else what it held at its entry, or that
+-- what x3 holds in a function's body: the global pointer, if the function sets it, else what it held at its entry, or the pointer
 abbrev pub IsPointer : (sets_pointer : Bool) → (before now : ℕ) → Type 0
 IsPointer true before now = now ≡ global_pointer
 IsPointer false before now = IsKeptOrPointer before now
 
--- behind a call
+-- after a call
 pub pointer_behind : (sets_pointer : Bool) (before now after : ℕ) → IsPointer sets_pointer before now → IsKeptOrPointer now after → IsPointer sets_pointer before after
 pointer_behind true before now after b (inl e) = e ∙ b
 pointer_behind true before now after b (inr e) = e
@@ -124,7 +123,7 @@ pub pointer_is : (sets_pointer : Bool) (before now : ℕ) → sets_pointer ≡ t
 pointer_is true before now e b = b
 pointer_is false before now e b = absurd (let q : false ≡ true = e in cc)
 
--- where an address is in reach
+-- an address within reach
 abbrev pub IsInReach : (address : ℕ) → Type 0
 IsInReach a = (globals_from ≤ a) × (a < globals_from + 4096)
 
@@ -145,7 +144,7 @@ pointer_reaches_of a x (lo, hi) (inr h) = (let e = h.0 in let k = h.1 in omega a
 pub pointer_reaches : (a : ℕ) → IsInReach a → (global_pointer + from_pointer a) % 2 ^ 32 ≡ a
 pointer_reaches a r = pointer_reaches_of a (from_pointer a) r (low_is (add a (2 ^ 32 - global_pointer)))
 
--- ---- what is known of an address
+-- ---- what is known about an address
 
 -- of an element whose number is in a register, and of an address
 abbrev pub IsKnown : Remembered → Width → (base index : ℕ) → (registers : ℕ → ℕ) → Type 0
@@ -188,7 +187,7 @@ is_known_at sets_pointer before held b g pointer h =
     by false true r p = p refl
     by false false r p = tt
 
--- ---- with the object's part the address is that of the element
+-- ---- together with the object's part it is the address of the element
 
 pub element_address : (w : Width) (i b n o part : ℕ) (g : ℕ → ℕ) → g i ≡ n → element_place w b n < 2 ^ 32 → (o + part) % 2 ^ 32 ≡ b → IsAddress w i o g → (g 5 + part) % 2 ^ 32 ≡ element_place w b n
 element_address Byte i b n o part g e lt both h = by o part (g 5) (g i) both h e
@@ -200,7 +199,7 @@ element_address Word i b n o part g e lt both h = by o part (g 5) (g i) both h e
     by : (hi lo five k : ℕ) → (hi + lo) % 2 ^ 32 ≡ b → five ≡ (4 * k + hi) % 2 ^ 32 → k ≡ n → (five + lo) % 2 ^ 32 ≡ b + 4 * n
     by hi lo five k p q r = omega arith
 
--- the object's part and what x5 holds besides are its address
+-- the object's part and the rest of what x5 holds are its address
 pub parts_of : (known : Remembered) (w : Width) (b i : ℕ) (g : ℕ → ℕ) → b < 2 ^ 32 → IsKnown known w b i g → (sum_base known b + part_of known b) % 2 ^ 32 ≡ b
 parts_of Nothing w b i g lt k = high_low b lt
 parts_of Upper w b i g lt k = high_low b lt

@@ -1,4 +1,4 @@
--- The registers that a function saves, one more of those that it may keep at a time; and those that steps write, a step more at a time.
+-- The registers that a function saves, one more of those that it may keep at a time; and those that steps write, one more step at a time.
 use Rattle.std.proofs.Common.{◌≡◌, ℕ, zero, suc, ◌+◌, ◌<◌, ◌≤◌, List, [], ◌∷◌, ◌++◌, Bool, ◌||◌, ◌==◌, Option, Some, None, true, false, length, get_or, set, drop, replicate, refl, sym, ap, ◌∙◌, subst, inl, inr, append_assoc, length-append, arith}
 use Rattle.std.specs.Prelude.{if◌then◌else◌, MatchOption}
 use Rattle.std.specs.List.{AllByRecursion}
@@ -7,7 +7,7 @@ use Rattle.std.proofs.lemmas.List.{at_drop_more, drop_more, drop_all, get_or-set
 use Rattle.cc_select.specs.declared.step.Step.{Step}
 use Rattle.cc_emit.specs.Frames.{writes, is_written, written, saved_by, kept_registers}
 
--- what is saved so far, and what of the others is to be
+-- what is saved so far, and which of the others will be
 abbrev pub Chosen : List Step → (index : ℕ) → List ℕ → Type 0
 Chosen code i saved = (saved ++ written code (drop i kept_registers) ≡ saved_by code) × (length saved ≤ i + 1) × AllByRecursion (λ r. r < 32) saved
 
@@ -63,7 +63,7 @@ found_first code found e = record {
 one_more : (code : List Step) (i : ℕ) (step : Step) (r : ℕ) → i < length code → step ≡ get_or code i step → is_written (drop i code) r ≡ (writes r step || is_written (drop (i + 1) code) r)
 one_more code i step r lt is = ap (λ (xs : List Step). is_written xs r) (drop_more code i step lt ∙ ap (λ x. x ∷ drop (i + 1) code) (sym is))
 
--- a step's target, where it has one
+-- a step's target, if it has one
 abbrev pub IsTold : Option ℕ → Step → Type 0
 IsTold o step = MatchOption o ((r : ℕ) → writes r step ≡ false) (λ to. (to < 32) × ((r : ℕ) → writes r step ≡ (to == r)))
 

@@ -1,9 +1,10 @@
--- How the machine is shown to follow the steps: each step of the source is paid for by an instruction within a fixed rate, so an endless
--- loop cannot be dropped. A function without a frame may execute nothing before its first move, so the first step is paid for by the jump
--- that calls the function.
--- what emission asks of frames and items
+-- How the machine is shown to follow the steps. Each step of the source is paid for by an instruction within a fixed rate, so an endless loop
+-- cannot be dropped. A function without a frame may execute nothing before its first move, so the first step is paid for by the jump that
+-- calls the function.
+--
+-- what emission needs of frames and items
 pub mod Fine
--- reads behind writes, and words
+-- reads after writes, and words
 pub mod Basics
 -- the machine's memory element by element
 pub mod Bytes
@@ -11,7 +12,7 @@ pub mod Bytes
 pub mod Places
 -- what the scratch registers hold
 pub mod Holding
--- where items stand in the code
+-- where items are in the code
 pub mod Standing
 -- elements of objects
 pub mod Elements
@@ -23,9 +24,9 @@ pub mod Saving
 pub mod Recipes
 -- branches
 pub mod Branching
--- what stands for each item of Linear
+-- the items of each item of Linear
 pub mod Cases
--- what stands for the other steps
+-- the items of the other steps
 pub mod Steps
 -- calls and returns
 pub mod Returning
@@ -33,9 +34,11 @@ pub mod Returning
 pub mod Emitted
 -- the frame that is chosen
 pub mod Choosing
--- what stands before a frame, its steps, and the rest behind it
+-- what comes before a frame
 pub mod Heads
+-- its steps, and what the rest saves
 pub mod Headed
+-- the rest in its frame after it
 pub mod Earlier
 -- every item has a word
 pub mod Encoding
@@ -43,9 +46,9 @@ pub mod Encoding
 pub mod Pieces
 -- the code: which steps are in loops
 pub mod Looping
--- the code: what is known of addresses
+-- the code: what is known about addresses
 pub mod Addressing
--- the code: what stands before a frame
+-- the code: what comes before a frame
 pub mod Ahead
 -- the code: which registers are saved
 pub mod Kept

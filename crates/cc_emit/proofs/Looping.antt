@@ -1,5 +1,5 @@
--- The code: which steps are in loops. How far the last step is that leads to each label is noted from the back, and up to where steps lead back to
--- a label so far is known from that.
+-- The code: which steps are in loops. The position of the last step that leads to each label is noted from the back, and from that follows
+-- up to where steps lead back to a label so far.
 use Rattle.std.proofs.Common.{◌≡◌, ℕ, zero, suc, ◌+◌, ◌-◌, ◌<◌, ◌≤◌, ◌⊎◌, List, [], ◌∷◌, Bool, ◌||◌, ◌==◌, Option, Some, None, true, false, length, get_or, drop, replicate, nat_lt, refl, sym, ap, ap₂, ◌∙◌, subst, inl, inr, arith}
 use Rattle.std.specs.Prelude.{if◌then◌else◌}
 use Rattle.std.specs.List.{AllByRecursion}
@@ -20,7 +20,7 @@ less_yes a b lt = grind (arith, nat_tests)
 pub less_not : (a b : ℕ) → b ≤ a → nat_lt a b ≡ false
 less_not a b le = grind (arith, nat_tests)
 
--- ---- what is noted of the steps from number `at` on
+-- ---- what is noted about the steps from number `at` on
 
 pub record Noted (code : List Step) (count at : ℕ) (last : List ℕ) : Type 0 where
   pub within : at ≤ length code
@@ -48,7 +48,7 @@ entry_more true old at pos h = by (old == 0) (eqb_denies old 0) h
     by false p (inl e) = absurd (p refl e)
     by false p (inr lt) = inr (omega arith)
 
--- from a step further on it says the same
+-- it says the same about a step further on
 entry_same : (led : Bool) (old at k : ℕ) → at ≤ k → nat_lt k (noted led old at) ≡ nat_lt k old
 entry_same false old at k le = refl
 entry_same true old at k le = by (old == 0) (eqb_says old 0)
@@ -57,7 +57,7 @@ entry_same true old at k le = by (old == 0) (eqb_says old 0)
     by true p = (let e = p refl in less_not k at le ∙ sym (less_not k old (omega arith)))
     by false p = refl
 
--- and from this one
+-- and about this one
 entry_here : (led : Bool) (old at : ℕ) → 0 < at → (old ≡ 0) ⊎ (at < old) → (led || nat_lt at old) ≡ nat_lt (at - 1) (noted led old at)
 entry_here false old at pos (inl e) = less_not at old (omega arith) ∙ sym (less_not (at - 1) old (omega arith))
 entry_here false old at pos (inr lt) = less_yes at old lt ∙ sym (less_yes (at - 1) old (omega arith))
@@ -99,7 +99,7 @@ noted_more code count at step old new pos is same each n =
 pub noted_all : (code : List Step) (count at : ℕ) (last : List ℕ) → at ≤ 0 → Noted code count at last → AreLast code count last
 noted_all code count at last none n = record { long = n.long; each = λ l k lt. n.each l k lt (omega arith) }
 
--- ---- from a step on: where steps lead back to one of these labels
+-- ---- from a step on: how far steps lead back to one of these labels
 
 abbrev pub Reaches : (code : List Step) → (labels : List ℕ) → (index reach : ℕ) → Type 0
 Reaches code labels i reach = (k : ℕ) → i ≤ k → lead_back labels (drop k code) ≡ nat_lt k reach
@@ -111,7 +111,7 @@ pub reaches_more : (code : List Step) (count : ℕ) (last labels : List ℕ) (la
 reaches_more code count last labels None i reach is below r = λ k le. r k (omega arith)
 reaches_more code count last labels (Some l) i reach is below r = λ k le. ap₂ (λ a b. a || b) (is.each l k (below l refl)) (r k (omega arith)) ∙ less_later k reach (get_or last l 0)
 
--- ---- a label is below what all are below
+-- ---- a label is below a number if all labels are
 
 head_below : (count : ℕ) (s : Step) (code : List Step) (l : ℕ) → label_of_step s ≡ Some l → AllByRecursion (λ label. label < count) (labels (s ∷ code)) → l < count
 head_below count (One (Label m)) code l e all = (let z : m ≡ l = cc in subst (λ n. n < count) z all.0)

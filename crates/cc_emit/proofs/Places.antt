@@ -1,5 +1,5 @@
--- Sizes and places: an item has as many items as its size says, and a branch that is near in the first pass is so in the second,
--- since from the first to the second distances do not grow.
+-- Sizes and places: a step has as many items as its size says, and a branch that is near in the first pass is near in the second, since
+-- distances do not grow from the first to the second.
 use Rattle.std.proofs.Common.{◌≡◌, ℕ, suc, ◌+◌, ◌-◌, ◌*◌, ◌^◌, ◌<◌, ◌≤◌, ◌⊎◌, List, [], ◌∷◌, ◌++◌, Option, Some, None, true, false, Bool, length, refl, sym, ap, ◌∙◌, subst, inl, inr, arith}
 use Rattle.std.specs.Prelude.{if◌then◌else◌, ◌==◌}
 use Rattle.std.proofs.lemmas.Bool.Decides.{nat_tests}
@@ -168,7 +168,7 @@ size_le f near s = step_size_le f near s.known s.step
 
 -- ---- places
 
--- the place of a label is behind w and a, by no more in the second pass than in the first
+-- the place of a label is after w and a, by no more in the second pass than in the first
 record IsAhead (w a long short : ℕ) : Type 0 where
   longer : w ≤ long
   shorter : a ≤ short
@@ -188,13 +188,13 @@ is_ahead f near w a (i ∷ items) l =
     let next = is_ahead f near (w + long_size f i) (a + size f (near w) i) items l in
     ahead_if (is_label l i) w a _ _ (further w a (w + long_size f i) (a + size f (near w) i) _ _ (omega arith) (omega arith) (omega arith) next)
 
--- where a label of all items is, seen from items that stand at w and a: in front, or among them
+-- where a label of all items is, seen from items at w and a: before them, or among them
 abbrev pub IsSeen : Frame → (all items : List Addressed) → (w a : ℕ) → (l : ℕ) → Type 0
 IsSeen f all items w a l =
     ((long_place f 0 all l ≤ w) × (short_place f (is_near f all) 0 (prologue_size f) all l ≤ a) × (a + long_place f 0 all l ≤ w + short_place f (is_near f all) 0 (prologue_size f) all l))
     ⊎ ((long_place f 0 all l ≡ long_place f w items l) × (short_place f (is_near f all) 0 (prologue_size f) all l ≡ short_place f (is_near f all) w a items l))
 
--- so of each label
+-- the same for each label
 abbrev pub AreSeen : Frame → (all items : List Addressed) → (w a : ℕ) → Type 0
 AreSeen f all items w a = (l : ℕ) → IsSeen f all items w a l
 
@@ -217,7 +217,7 @@ seen_next f all i items w a seen l =
 abbrev pub Nears : (from to : ℕ) → Type 0
 Nears from to = (from ≤ to + 1024) × (to < from + 1024)
 
--- what a step's branch reaches from the step's place and from the next one
+-- what a step's branch reaches, from the step's place and from the next one
 abbrev pub IsClose : (from to : ℕ) → Type 0
 IsClose from to = (from < to + 1024) × (to < from + 1024)
 
@@ -243,7 +243,7 @@ seen_ahead f all items w a l (inr h) = inr (subst (λ n. IsAhead w a n (short_pl
 pub stays_near : (f : Frame) (all items : List Addressed) (w a l : ℕ) → AreSeen f all items w a → is_near f all w l ≡ true → IsClose a (short_place f (is_near f all) 0 (prologue_size f) all l)
 stays_near f all items w a l seen e = near_by w a (long_place f 0 all l) _ (close_says w (long_place f 0 all l) e) (seen_ahead f all items w a l (seen l))
 
--- the offset of such a branch: what it is, and that the instruction can hold it
+-- the offset of such a branch: its value, and that the instruction can hold it
 abbrev pub DistanceIs : (from to x : ℕ) → Type 0
 DistanceIs from to x = ((from ≤ to) × (x ≡ 4 * (to - from))) ⊎ ((to < from) × (x ≡ 2 ^ 32 - 4 * (from - to)))
 

@@ -111,7 +111,7 @@ unary_right IsZero w h = (sym (is_zero-lt_u w), IsWord-is_zero w)
 
 -- ---- a register and a word
 
--- a recipe gives a word v of a register's word
+-- a recipe gives a word v for a register's word
 abbrev pub IsRightWord : WordRecipe → (a v : ℕ) → Type 0
 IsRightWord (WithImmediate i n) a v = computed (immediate_operation i) a n ≡ v
 IsRightWord (ShiftBy i n) a v = computed (shift_operation i) a n ≡ v

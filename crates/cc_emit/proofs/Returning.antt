@@ -1,4 +1,4 @@
--- Calls and returns within a frame, and its start.
+-- Calls and returns within a frame, and how a function starts.
 use Rattle.std.proofs.Common.{◌≡◌, ℕ, zero, suc, ◌+◌, ◌-◌, ◌*◌, ◌%◌, ◌^◌, ◌<◌, ◌≤◌, ◌⊎◌, List, [], ◌∷◌, ◌++◌, Bool, true, false, Some, length, get_or, refl, sym, ap, ap₂, ◌∙◌, subst, inl, inr, arith}
 use Rattle.std.specs.Prelude.{if◌then◌else◌, nat_le}
 use Rattle.std.proofs.lemmas.Bool.Decides.{nat_tests}
@@ -57,7 +57,7 @@ not_saved r (inr (inl e)) = ((λ q. omega arith), (λ k. elim k [ inl b ↦ omeg
 not_saved r (inr (inr (inl e))) = ((λ q. omega arith), (λ k. elim k [ inl b ↦ omega arith | inr b ↦ omega arith ]))
 not_saved r (inr (inr (inr e))) = ((λ q. omega arith), (λ k. elim k [ inl b ↦ omega arith | inr b ↦ omega arith ]))
 
--- the return: the saved registers are read back, the frame given up
+-- the return: the saved registers are read back, and the frame is given up
 pub return_path : (x : Site) {held : Scratch} (w a : ℕ) (rest : List Step) (l : Locations) (h : World) (s : State) → IsSound x.from → x.from.registers 1 % 4 ≡ 0 → s.pc ≡ x.place + 4 * a → Standing x held w a (One Return ∷ rest) → Within x held l h s
     → (n : ℕ) × (t : State) × Path x.code n s t × ComesBack x.layout x.from (record { value = l (Register 10); world = h }) t
 return_path x w a rest l h s sound back e st inside =
@@ -169,7 +169,7 @@ pub return_place : (s : State) (to : ℕ) → (called s to).registers 1 ≡ s.pc
 unfolding called
 return_place s to = refl
 
--- what the caller knows of its locations behind a call
+-- what the caller knows about its locations after a call
 abbrev pub regained : Locations → State → Locations
 regained l t (Register r) = if survives r then l (Register r) else get_or (listed 32 0 t.registers) r 0
 regained l t (Slot i) = l (Slot i)
@@ -192,7 +192,7 @@ kept_on x s t to r one kept (inr k) (inr q) = inr (kept r k ∙ set_other s.regi
     not_1 r (inl k) e = omega arith
     not_1 r (inr k) e = omega arith
 
--- behind a call the function goes on in its frame
+-- after a call the function goes on in its frame
 pub within_behind : (x : Site) {held : Scratch} (l : Locations) (h : World) (s : State) (to : ℕ) (a : Answer) (t : State) → Member 1 x.frame.saved → Within x held l h s → ComesBack x.layout (called s to) a t → Within x nothing (put (Register 10) a.value (regained l t)) a.world t
 unfolding called
 within_behind x l h s to a t one w r =
@@ -213,7 +213,7 @@ within_behind x l h s to a t one w r =
 
 -- ---- the prologue
 
--- behind the words that set x3
+-- after the words that set x3
 abbrev pub begun_registers : (sets_pointer : Bool) → (ℕ → ℕ) → ℕ → ℕ
 begun_registers b g = if b then with_register g 3 global_pointer else g
 
@@ -249,7 +249,7 @@ pointer_path code places place f s p = by f.sets_pointer p
         (u, one, (v, two, ap₂ (λ (k : ℕ) (g : ℕ → ℕ). record s { pc = k; registers = g }) at (set_twice s.registers 3 up global_pointer)))
     by false p = ap (λ k. record s { pc = k }) (let e : s.pc ≡ s.pc + 4 * 0 = omega arith in e)
 
--- behind it
+-- after it
 pub framed : Frame → State → State
 framed f s = record s { pc = s.pc + 4 * pointer_size f.sets_pointer + 4 * stack_moved_size f + 4 * length f.saved; registers = with_register (begun f s).registers 2 (s.registers 2 - frame_size f); memory = with_saved f.saved (s.registers 2 - frame_size f + 4 * f.slots) (with_register (begun f s).registers 2 (s.registers 2 - frame_size f)) s.memory }
 
@@ -316,7 +316,7 @@ pub framed_other : (f : Frame) (s : State) (r : ℕ) → (r ≡ 2 → ⊥) → (
 unfolding framed
 framed_other f s r e q = set_other (begun f s).registers 2 (s.registers 2 - frame_size f) r e ∙ begun_other f.sets_pointer s.registers r q
 
--- behind the prologue, where the locations are what the machine holds there
+-- after the prologue, when the locations are what the machine holds there
 pub framed_inside : (x : Site) (l : Locations) (h : World) → IsSound x.from → Shares x.layout x.from h → ((r : ℕ) → IsAllocatable r → l (Register r) ≡ (framed x.frame x.from).registers r)
     → ((i : ℕ) → i < x.frame.slots → l (Slot i) ≡ (framed x.frame x.from).memory ((framed x.frame x.from).registers 2 + 4 * i)) → Within x nothing l h (framed x.frame x.from)
 unfolding framed

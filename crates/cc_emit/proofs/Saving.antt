@@ -30,7 +30,7 @@ store_step code s o a b r i at e f to ok =
     step_at code s a (Store o b r i) e f ∙ ap (λ n. if is_accessible_above code.floor (store_bytes o) n then Continues (record s { pc = s.pc + 4; memory = stored o s.memory n (s.registers r) }) else Traps) to
     ∙ ap (λ t. if t then Continues (record s { pc = s.pc + 4; memory = stored o s.memory at (s.registers r) }) else Traps) ok
 
--- the memory behind saving
+-- the memory after saving
 abbrev pub with_saved : List ℕ → (a : ℕ) → (registers memory : ℕ → ℕ) → ℕ → ℕ
 with_saved [] a f m = m
 with_saved (r ∷ rs) a f m = with_saved rs (a + 4) f (with_word m a (f r))
@@ -64,7 +64,7 @@ saving_path code places place (r ∷ rs) o s p z from to =
     let more = saving_path code places place rs (o + 4) u p.1 (omega arith) (omega arith) (omega arith) in
     (u, one, subst (λ n. Path code (length rs) u (record s { pc = n; memory = with_saved rs (at + 4) s.registers u.memory })) n1 (subst (λ n. Path code (length rs) u (record u { pc = u.pc + 4 * length rs; memory = with_saved rs n u.registers u.memory })) a1 more))
 
--- the registers behind restoring
+-- the registers after restoring
 abbrev pub restored : List ℕ → (old registers : ℕ → ℕ) → ℕ → ℕ
 restored [] f g = g
 restored (r ∷ rs) f g = restored rs f (with_register g r (f r))
@@ -116,7 +116,7 @@ restoring_path code places place (r ∷ rs) o f s p sv saved z from to =
     let more = restoring_path code places place rs (o + 4) f u p.1 sv.1 (subst (λ n. SavedAt rs n f s.memory) a1 saved.1) (omega arith) (omega arith) (omega arith) in
     (u, one, subst (λ n. Path code (length rs) u (record s { pc = n; registers = restored rs f u.registers })) n1 more)
 
--- x2 is moved, where there is a frame
+-- x2 is moved, if there is a frame
 pub stack_path : (code : Code) (places : ℕ → ℕ) (place : ℕ) (f : Frame) (s : State) (by n : ℕ) → Placed code places place s.pc (stack_moved f by) → (frame_size f ≡ 0 → n ≡ s.registers 2) → ((frame_size f ≡ 0 → ⊥) → add (s.registers 2) by ≡ n)
     → Path code (stack_moved_size f) s (record s { pc = s.pc + 4 * stack_moved_size f; registers = with_register s.registers 2 n })
 stack_path code places place f s by n p none some = path_by (frame_size f == 0) (λ e. none (eqb_says (frame_size f) 0 e)) (λ e. some (eqb_denies (frame_size f) 0 e)) p

@@ -1,4 +1,4 @@
--- Where items stand in the code: the code from an item on, and from a label on.
+-- Where items are in the code: the code from an item on, and from a label on.
 use Rattle.std.proofs.Common.{◌≡◌, ℕ, zero, suc, ◌+◌, ◌-◌, ◌*◌, ◌%◌, ◌^◌, ◌≤◌, List, [], ◌∷◌, ◌++◌, Some, true, false, Bool, length, get_or, map, refl, sym, ap, ◌∙◌, subst, arith}
 use Rattle.std.specs.Prelude.{if◌then◌else◌, ◌==◌}
 use Rattle.std.proofs.lemmas.List.{length-append}
@@ -81,7 +81,7 @@ size_found objects h e g = ap (λ (o : List Size). size_in o g) (sym e) ∙ foun
     found_at (o ∷ os) zero = refl
     found_at (o ∷ os) (suc g) = found_at os g
 
--- steps with what is known of their addresses, where the scratch registers hold so much before them
+-- steps with what is known about their addresses, if the scratch registers hold this before them
 abbrev pub addressed_at : Site → Scratch → List Step → List Addressed
 addressed_at x held ops = addressed x.layout.base x.frame.sets_pointer held ops
 
@@ -109,11 +109,11 @@ items_for x held w a op = items_of x.layout.base x.frame (near x w) (labels x) a
 abbrev pub Stands : Site → ℕ → List PieceItem → Type 0
 Stands x p items = Placed x.code x.places x.place p items
 
--- how many items the code has
+-- the number of items of the code
 abbrev pub end_of : Site → ℕ
 end_of x = prologue_size x.frame + length (items_at x nothing 0 (prologue_size x.frame) x.steps)
 
--- the items of these steps stand from an item of the piece on up to its end, w in the first pass, where so much is known
+-- the items of these steps begin at an item of the piece and go on to its end, at w in the first pass, if this is known
 pub record Standing (x : Site) (held : Scratch) (w a : ℕ) (ops : List Step) : Type 0 where
   pub placed : Stands x (x.place + 4 * a) (items_at x held w a ops)
   pub from : IsPlace (x.place + 4 * a)
@@ -145,7 +145,7 @@ first_calls x {held} w a op ops st =
     let i = one_addressed x held op in
     (each_append (HasRoom x) (items_for x held w a op) (items_at x (behind x held op) (w + long_size x.frame i) (a + size x.frame (near x w) i) ops) st.calls).0
 
--- the items behind it
+-- the items after it
 pub standing_tail : (x : Site) {held : Scratch} (w a : ℕ) (op : Step) (ops : List Step) → Standing x held w a (op ∷ ops) → Standing x (behind x held op) (w + long_size x.frame (one_addressed x held op)) (a + size x.frame (near x w) (one_addressed x held op)) ops
 standing_tail x {held} w a op ops st =
     let i = one_addressed x held op in
@@ -168,7 +168,7 @@ standing_tail x {held} w a op ops st =
       seen = seen_next x.frame (all_addressed x) i (addressed_at x (behind x held op) ops) w a st.seen;
     }
 
--- a label forgets what is known before it, and where no step is left nothing is to be known
+-- a label forgets what is known before it, and if no step is left nothing needs to be known
 standing_none : (x : Site) {held : Scratch} (w a : ℕ) → Standing x held w a [] → Standing x nothing w a []
 standing_none x {held} w a st = record { placed = st.placed; from = st.from; to = st.to; last = st.last; calls = st.calls; fine = st.fine; seen = st.seen }
 
@@ -184,7 +184,7 @@ place_next : (op : Step) (ops : List Step) (l : ℕ) → selected.place (op ∷ 
 place_next (One (Label n)) ops l = refl
 place_next _ ops l = refl
 
--- the steps from a label's place on stand where the label does
+-- the steps from a label's place on are at the label's place
 pub standing_from : (x : Site) {held : Scratch} (l w a : ℕ) (ops : List Step) → Standing x held w a ops → Standing x nothing (long_place x.frame w (addressed_at x held ops) l) (short_place x.frame (near x) w a (addressed_at x held ops) l) (selected.place ops l)
 standing_from x {held} l w a [] st = standing_none x w a st
 standing_from x {held} l w a (op ∷ ops) st =

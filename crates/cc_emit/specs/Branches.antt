@@ -1,4 +1,4 @@
--- Which branches stand for comparisons: of two registers, and of a register and a word where a comparison with x0 says the same.
+-- Which branches replace comparisons: of two registers, and of a register and a word if a comparison with x0 has the same result.
 use Rattle.std.specs.Prelude.{ℕ, Bool, ◌==◌, if◌then◌else◌, Option, Some, None, option_map}
 use Rattle.cc_words.specs.declared.operators.Binary as binary
 use Rattle.cc_words.specs.declared.operators.Binary.TheVariants.{Eq, LtS, LtU, LeS, LeU}
@@ -12,7 +12,7 @@ use Rattle.cc_emit.specs.declared.condition.Condition.{Condition}
 use Rattle.cc_emit.specs.declared.recipe.WordRecipe.{WordRecipe}
 use Rattle.cc_emit.specs.declared.recipe.WordRecipe.TheVariants.{WithImmediate, OnZero, ZeroOfImmediate}
 
--- the operation that is taken where another is not
+-- the operation that is taken exactly if another one is not
 abbrev pub opposite : BranchOperation → BranchOperation
 opposite Beq = Bne
 opposite Bne = Beq
@@ -21,7 +21,7 @@ opposite Bge = Blt
 opposite Bltu = Bgeu
 opposite Bgeu = Bltu
 
--- a branch's condition: two registers compare so
+-- a branch's condition: two registers compare like this
 abbrev pub compares : BranchOperation → (left right : ℕ) → Condition
 compares operation left right = record { operation = operation; left = left; right = right }
 
@@ -34,7 +34,7 @@ turned nonzero c = if nonzero then c else opposed c
 
 -- ---- two registers
 
--- where an operator that compares gives 1; at most: the right one is at least the left one
+-- the condition under which an operator that compares gives 1; "at most" means that the right one is at least the left one
 abbrev pub comparison : binary.Binary → (left right : ℕ) → Condition
 comparison Eq a b = compares Beq a b
 comparison LtS a b = compares Blt a b
@@ -45,27 +45,27 @@ comparison operator a b = compares Bne a b
 
 -- ---- a register and a word
 
--- where an instruction with an immediate gives a word that is not 0, if that compares its register with 0: less than 0; less than 1, and so
--- 0 is at least the register's; less than 1, as unsigned, and so equal to 0
+-- the condition under which an instruction with an immediate gives a word that is not 0, if it compares its register with 0: less than 0;
+-- less than 1, so that 0 is at least the register's word; less than 1 as unsigned, so that it equals 0
 abbrev pub immediate_against_zero : ImmediateOperation → (part from : ℕ) → Option Condition
 immediate_against_zero Slti n a = if n == 0 then Some (compares Blt a 0) else if n == 1 then Some (compares Bge 0 a) else None
 immediate_against_zero Sltiu n a = if n == 1 then Some (compares Beq a 0) else None
 immediate_against_zero operation n a = None
 
--- the same of an instruction on 0 and a register: more than 0; more than 0, as unsigned, and so not equal to it
+-- the same for an instruction on 0 and a register: more than 0; more than 0 as unsigned, so that it is not equal to 0
 abbrev pub operation_on_zero : RegisterOperation → (from : ℕ) → Option Condition
 operation_on_zero Slt a = Some (compares Blt 0 a)
 operation_on_zero Sltu a = Some (compares Bne a 0)
 operation_on_zero operation a = None
 
--- the same of a recipe
+-- the condition under which a recipe gives a word that is not 0
 abbrev pub against_zero : WordRecipe → (from : ℕ) → Option Condition
 against_zero (WithImmediate o n) a = immediate_against_zero o n a
 against_zero (ZeroOfImmediate o n) a = option_map opposed (immediate_against_zero o n a)
 against_zero (OnZero o) a = operation_on_zero o a
 against_zero recipe a = None
 
--- how the word of a recipe's first instruction compares to 0 where the recipe gives a word that is not 0
+-- how the word of a recipe's first instruction compares to 0 if the recipe gives a word that is not 0
 abbrev pub asked_of : WordRecipe → BranchOperation
 asked_of (ZeroOfImmediate o n) = Beq
 asked_of recipe = Bne

@@ -18,8 +18,8 @@ use Rattle.cc_simulation.specs.Behavior.{AreWords}
 use Rattle.cc_simulation.specs.World.{Size, World, Answer, Effect, Gives, Unfinished, Failed, size_of, size_in, object_words}
 use Rattle.cc_simulation.specs.Meaning.{Meaning, IsCall}
 
--- What is given of the machine: the instruction at each address; the lowest address of its stack; and `need f opened`, how many bytes of stack
--- below x2 a call of the function f has, made when `opened` calls are open.
+-- What is given about the machine: the instruction at each address; the lowest address of its stack; and `need f opened`, the bytes of
+-- stack below x2 that a call of the function f has if it is made while `opened` calls are open.
 pub record Code : Type 0 where
   pub at : ℕ → Option Instr
   pub floor : ℕ
@@ -41,7 +41,7 @@ store_of Word = Sw
 abbrev pub element_place : Width → (base index : ℕ) → ℕ
 element_place width base index = base + bytes width * index
 
--- how many words an object takes
+-- the number of words that an object takes
 abbrev pub size_words : Size → ℕ
 size_words s = words_of s.width s.elements
 
@@ -56,7 +56,7 @@ pub record ObjectLayout (objects : List Size) : Type 0 where
   pub aligned : (g : ℕ) → base g % 4 ≡ 0
   pub apart : (g k : ℕ) → (g ≡ k → ⊥) → (base g + 4 * words_in objects g ≤ base k) ⊎ (base k + 4 * words_in objects k ≤ base g)
 
--- what the machine loads of an element of an object of this size
+-- the word that the machine loads for an element of an object of this size
 abbrev pub element_at : Size → (memory : ℕ → ℕ) → (base index : ℕ) → ℕ
 element_at s memory base index = loaded (load_of s.width) memory (element_place s.width base index)
 
@@ -73,12 +73,12 @@ filled places place a (Plain i) = i
 filled places place a (Call g) = Jal 1 ((places g + (2 ^ 32 - a)) % 2 ^ 32)
 filled places place a (Go n) = Jal 0 ((place + 4 * n + (2 ^ 32 - a)) % 2 ^ 32)
 
--- the items stand at this address
+-- the items are at this address
 abbrev pub Placed : Code → (places : ℕ → ℕ) → (place a : ℕ) → List PieceItem → Type 0
 Placed code places place a [] = Unit {0}
 Placed code places place a (item ∷ items) = (code.at a ≡ Some (filled places place a item)) × Placed code places place (a + 4) items
 
--- what holds of every state of a run
+-- what holds for every state of a run
 pub record IsSound (s : State) : Type 0 where
   pub zero : s.registers 0 ≡ 0
   pub registers : (r : ℕ) → s.registers r < 2 ^ 32
@@ -101,7 +101,7 @@ Passes (w ∷ ws) r s = (s.registers r ≡ w) × Passes ws (suc r) s
 abbrev pub IsKept : ℕ → Type 0
 IsKept r = ((8 ≤ r) × (r ≤ 9)) ⊎ ((18 ≤ r) × (r ≤ 27))
 
--- what holds of each function that items call
+-- this holds for each function that items call
 abbrev pub EachCalled : (ℕ → Type 0) → List PieceItem → Type 0
 EachCalled Holds [] = Unit {0}
 EachCalled Holds (Plain i ∷ items) = EachCalled Holds items
@@ -115,13 +115,13 @@ largest_frame = 2032
 abbrev pub most_open : ℕ
 most_open = 1024
 
--- A call of the function f has bytes enough: for its frame, and in each call that its items make, for its frame and what the called function
--- has. So `need` may be exact or more: `largest_frame` for each call that the limit still allows is one.
+-- A call of the function f has enough bytes: for its frame, and in each call that its items make, for its frame plus what the called
+-- function has. So `need` may be exact or more; for example `largest_frame` for each call that the limit still allows.
 pub record IsEnough (need : (function opened : ℕ) → ℕ) (f frame : ℕ) (items : List PieceItem) : Type 0 where
   pub own : (opened : ℕ) → opened < most_open → frame ≤ need f opened
   pub calls : (opened : ℕ) → opened < most_open → EachCalled (λ g. frame + need g (suc opened) ≤ need f opened) items
 
--- the machine at a function's first word, called where `opened` calls are open
+-- the machine is at a function's first word, called while `opened` calls are open
 pub record Enters (meaning : Meaning) (layout : ObjectLayout meaning.objects) (code : Code) (f opened place : ℕ) (ws : List ℕ) (h : World) (s : State) : Type 0 where
   pub is_call : IsCall meaning f ws h
   pub at : s.pc ≡ place
@@ -133,16 +133,16 @@ pub record Enters (meaning : Meaning) (layout : ObjectLayout meaning.objects) (c
   pub passes : Passes ws 10 s
   pub shares : Shares layout s h
 
--- the global pointer, which is the word in x3 where a function sets it: 2 KiB behind the beginning of the globals, so that an access reaches the
--- first 4 KiB of them from there
+-- the global pointer, which is the word in x3 in a function that sets it: 2 KiB after the beginning of the globals, so that an access
+-- reaches the first 4 KiB of them from there
 abbrev pub global_pointer : ℕ
 global_pointer = globals_from + 2048
 
--- what x3 holds behind a call: what it held before, or that word; so what set it to that word has it still
+-- what x3 holds after a call: what it held before, or that word; so a function that set it to that word still finds it there
 abbrev pub IsKeptOrPointer : (before after : ℕ) → Type 0
 IsKeptOrPointer before after = (after ≡ before) ⊎ (after ≡ global_pointer)
 
--- the machine behind the return
+-- the machine after the return
 pub record ComesBack {objects : List Size} (layout : ObjectLayout objects) (s : State) (a : Answer) (t : State) : Type 0 where
   pub at : t.pc ≡ s.registers 1
   pub sound : IsSound t
@@ -153,36 +153,37 @@ pub record ComesBack {objects : List Size} (layout : ObjectLayout objects) (s : 
   pub kept : (r : ℕ) → IsKept r → t.registers r ≡ s.registers r
   pub above : (a : ℕ) → s.registers 2 ≤ a → t.memory a ≡ s.memory a
 
--- The machine from s does what the source does within n steps, of which `left` are left where it gives an answer. Of the steps taken each c
--- are paid by one of the m instructions, but for `spare` steps, which are paid elsewhere. So at a greater n more instructions are executed, and
--- a run that never ends is matched by one that never does.
+-- The machine, starting from s, does what the source does within n steps, of which `left` are left if it gives an answer. Each c of the
+-- steps taken are paid for by one of the m instructions, except `spare` steps, which are paid for elsewhere. So for a greater n more
+-- instructions are executed, and a run that never ends is matched by one that never ends.
 abbrev pub Meets : {objects : List Size} (layout : ObjectLayout objects) → Code → (c spare n : ℕ) → State → Effect → Type 0
 Meets layout code c spare n s (Gives a left) = (m : ℕ) × (t : State) × Path code m s t × ComesBack layout s a t × (n ≤ left + spare + c * m)
 Meets layout code c spare n s (Unfinished o) = (m : ℕ) × (t : State) × Path code m s t × (t.output ≡ o) × (n ≤ spare + c * m)
 Meets layout code c spare n s (Failed o) = Unit {0}
 
--- each call from `opened` open calls does what the source's does; the jump to it pays the c steps that are spare
+-- each call made while `opened` calls are open does what the source's call does; the jump to it pays for the c spare steps
 abbrev pub CallsMeet : (meaning : Meaning) → ObjectLayout meaning.objects → Code → (ℕ → ℕ) → (c opened : ℕ) → Type 0
 CallsMeet meaning layout code places c opened =
     (g : ℕ) (ws : List ℕ) (h : World) (s : State) (n : ℕ) → g < meaning.functions → Enters meaning layout code g opened (places g) ws h s → Meets layout code c c n s (meaning.call n opened g ws h)
 
--- an address at which code can stand: of a whole word, within the bytes that the memory map has for code
+-- an address at which code can be: a multiple of a word, within the bytes that the memory map has for code
 pub record IsPlace (a : ℕ) : Type 0 where
   pub aligned : a % 4 ≡ 0
   pub from : 0x10000 ≤ a
   pub to : a < 0x100000
 
--- What a piece keeps, wherever it stands, at each number of open calls: where the calls that it makes do what the source's do at c steps an
--- instruction, its body does what the source's body does. Of the two `rate * c` below the first is how many steps an instruction pays
--- then. The second is what is spare: the steps of one instruction more, which is left to the jump that called the function. For a function
--- without a frame has nothing to execute on entry, so where the source's body has begun the machine may still stand at its first word.
+-- What a piece keeps, wherever it is, at each number of open calls: if the calls that it makes do what the source's do at c steps an
+-- instruction, its body does what the source's body does. Of the two `rate * c` below, the first is the number of steps for which one
+-- instruction pays. The second is what is spare: the steps of one more instruction, which are left to the jump that called the function. A
+-- function without a frame has nothing to execute on entry, so when the source's body has begun, the machine may still be at the function's
+-- first word.
 abbrev pub PieceMeets : (meaning : Meaning) → ObjectLayout meaning.objects → (function frame rate : ℕ) → List PieceItem → Type 0
 PieceMeets meaning layout f frame rate items =
     (code : Code) (places : ℕ → ℕ) (place : ℕ) → IsPlace place → IsPlace (place + 4 * length items) → Placed code places place place items → IsEnough code.need f frame items → ((g : ℕ) → g < meaning.functions → IsPlace (places g))
     → (opened c : ℕ) → opened < most_open → 1 ≤ c → CallsMeet meaning layout code places c (suc opened)
     → (ws : List ℕ) (h : World) (s : State) (n : ℕ) → Enters meaning layout code f opened place ws h s → Meets layout code (rate * c) (rate * c) n s (meaning.body n opened f ws h)
 
--- an item that has a word, wherever the piece stands
+-- an item that has a word, wherever the piece is
 abbrev pub IsFit : (functions long : ℕ) → PieceItem → Type 0
 IsFit functions long (Plain i) = IsEncodable i
 IsFit functions long (Call g) = g < functions
@@ -192,8 +193,9 @@ abbrev pub AreFit : (functions long : ℕ) → List PieceItem → Type 0
 AreFit functions long [] = Unit {0}
 AreFit functions long (i ∷ is) = IsFit functions long i × AreFit functions long is
 
--- The items of a function's code do what it does. A pair of Linear and those above it keep `follows`, which is their promise, and `keeps_up`,
--- which only serves to go on from there; a selected pair and a piece keep what serves to go on alone, and the promise is that of the linked image.
+-- The items of a function's code do what it does. A pair of Linear and the pairs above it keep `follows`, which is their promise, and
+-- `keeps_up`, which only serves to go on from there. A selected pair and a piece keep only what serves to go on; their promise is that of
+-- the linked image.
 pub record IsPiece (meaning : Meaning) (layout : ObjectLayout meaning.objects) (f frame : ℕ) (items : List PieceItem) : Type 0 where
   pub rate : ℕ
   pub meets : PieceMeets meaning layout f frame rate items

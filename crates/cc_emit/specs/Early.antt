@@ -1,10 +1,8 @@
 -- Functions that may return before they have a frame. Where a function begins with operations on registers that a call destroys and a test, and
--- one way of the test returns after few such operations, these stand before the frame is made. If the test leads to a label after which the function
--- returns, at most one such operation further on, these are the operations, the test the other way round, what is after the label, and the return;
--- the function goes on after the test. If the function returns right after the test, with any number of such operations before, and the test leads
--- to the label after the return, they are the function's steps up to that label; the function goes on at the label. What goes on stands in its frame
--- as a function's code does.
-use Rattle.std.specs.Prelude.{ℕ, suc, Bool, true, false, not, ◌&&◌, ◌||◌, ◌==◌, nat_le, if◌then◌else◌, Option, Some, None, option_map, List, [], ◌∷◌, ◌++◌, take, drop}
+-- the test leads to a label behind which the function returns, at most one such operation further on, these stand before the frame is made:
+-- the operations, the test the other way round, what is behind the label, and the return. The test goes on behind them, where the rest stands in
+-- its frame as a function's code does.
+use Rattle.std.specs.Prelude.{ℕ, Bool, true, false, not, ◌&&◌, ◌||◌, ◌==◌, nat_le, if◌then◌else◌, Option, Some, None, option_map, List, [], ◌∷◌, ◌++◌}
 use Rattle.cc_ltl.specs.declared.operation.Move.TheVariants.{Between}
 use Rattle.cc_linear_language.specs.declared.item.LinearItem.TheVariants.{Label, IfNonzero, IfZero, Copy, Const, Unary, Binary, Return}
 use Rattle.cc_select.specs.declared.step.Step.{Step}
@@ -45,7 +43,7 @@ fork_of (Branch operator nonzero left right to) = Some (record { to = to; turned
 fork_of (BranchImmediate operator nonzero from word to) = Some (record { to = to; turned = BranchImmediate operator (not nonzero) from word to })
 fork_of step = None
 
--- ---- the end that a label leads to
+-- ---- the ending to which a label leads
 
 abbrev pub is_return : Step → Bool
 is_return (One Return) = true
@@ -59,30 +57,14 @@ abbrev pub last_of : List Step → Option (List Step)
 last_of [] = None
 last_of (step ∷ steps) = if is_return step then Some [] else last_one step steps
 
--- what is done from a label's place on up to a return
+-- what is done from a label's place up to a return
 abbrev pub ending : List Step → Option (List Step)
 ending (One (Label label) ∷ steps) = last_of steps
 ending steps = None
 
--- ---- a return right after the test
-
--- how many operations that need no frame these begin with
-abbrev pub lights : List Step → ℕ
-lights [] = 0
-lights (step ∷ steps) = if is_light step then suc (lights steps) else 0
-
--- a return, and after it that label
-abbrev pub is_label_at : (label : ℕ) → List Step → Bool
-is_label_at label (One (Label here) ∷ steps) = here == label
-is_label_at label steps = false
-
-abbrev pub is_ending : (label : ℕ) → List Step → Bool
-is_ending label [] = false
-is_ending label (step ∷ steps) = is_return step && is_label_at label steps
-
 -- ---- what stands before the frame
 
--- the steps before the frame, with the label behind them to which the test goes on, and those in the frame
+-- the steps before the frame, followed by the label to which the test goes on, and the steps in the frame
 pub record Early : Type 0 where
   pub head : List Step
   pub rest : List Step
@@ -91,26 +73,18 @@ abbrev pub early_at : Option (List Step) → Fork → (rest : List Step) → Opt
 early_at None fork rest = None
 early_at (Some last) fork rest = Some (record { head = fork.turned ∷ (last ++ One Return ∷ One (Label fork.to) ∷ []); rest = rest })
 
--- the function returns after so many operations behind the test
-abbrev pub early_after : (operations : ℕ) → Step → Fork → (rest : List Step) → Option Early
-early_after n test fork rest = if is_ending fork.to (drop n rest) then Some (record { head = test ∷ (take n rest ++ One Return ∷ One (Label fork.to) ∷ []); rest = drop (suc n) rest }) else None
-
-abbrev pub early_or : Option Early → Option Early → Option Early
-early_or None other = other
-early_or (Some e) other = Some e
-
-abbrev pub early_by : (all : List Step) → (test : Step) → Option Fork → (rest : List Step) → Option Early
-early_by all test None rest = None
-early_by all test (Some fork) rest = early_or (early_at (ending (place all fork.to)) fork rest) (early_after (lights rest) test fork rest)
+abbrev pub early_by : (all : List Step) → Option Fork → (rest : List Step) → Option Early
+early_by all None rest = None
+early_by all (Some fork) rest = early_at (ending (place all fork.to)) fork rest
 
 abbrev pub with_first : Step → Early → Early
 with_first step e = record { head = step ∷ e.head; rest = e.rest }
 
--- of these steps of the function
+-- for these steps of the function
 abbrev pub early_from : (all : List Step) → List Step → Option Early
 early_from all [] = None
-early_from all (step ∷ steps) = if is_light step then option_map (with_first step) (early_from all steps) else early_by all step (fork_of step) steps
+early_from all (step ∷ steps) = if is_light step then option_map (with_first step) (early_from all steps) else early_by all (fork_of step) steps
 
--- of a function with this many slots, where it has a frame
+-- for a function with this many slots, if it has a frame
 abbrev pub early : (slots : ℕ) → List Step → Option Early
 early slots steps = if frame_size (frame_of false slots steps) == 0 then None else early_from steps steps

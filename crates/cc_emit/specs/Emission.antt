@@ -1,6 +1,5 @@
--- The code of a function: which items stand for its steps, and in which order.
--- A place is a number of items of the piece before it. Which branches are near is known from a first pass, in which each branch is
--- far; a second pass has the places of labels with each branch as long as it is.
+-- The code of a function: the items of its steps, and their order. A place is the number of items of the piece before it. A first pass, in
+-- which each branch is far, shows which branches are near; a second pass has the places of labels with each branch at its final length.
 use Rattle.std.specs.Prelude.{ℕ, ◌+◌, ◌-◌, ◌*◌, ◌/◌, ◌%◌, ◌^◌, Bool, false, ◌&&◌, ◌==◌, nat_lt, nat_le, if◌then◌else◌, Option, Some, None, List, [], ◌∷◌, ◌++◌, length}
 use Rattle.cc_words.specs.Words.{add, neg}
 use Rattle.cc_words.specs.declared.operators.Unary as unary
@@ -58,7 +57,7 @@ load_word to address offset = load_element Word to address offset
 abbrev pub store_word : (address from offset : ℕ) → PieceItem
 store_word address from offset = store_element Word address from offset
 
--- the lower twelve bits of a word, which the machine extends with their sign, and what the upper twenty then have to be
+-- the lower twelve bits of a word, which the machine sign-extends, and what the upper twenty then have to be
 abbrev pub low : (word : ℕ) → ℕ
 low w = if nat_lt (w % 2 ^ 12) (2 ^ 11) then w % 2 ^ 12 else w % 2 ^ 12 + (2 ^ 32 - 2 ^ 12)
 
@@ -79,7 +78,7 @@ abbrev pub restoring : (offset : ℕ) → List ℕ → List PieceItem
 restoring offset [] = []
 restoring offset (r ∷ rs) = load_word r 2 offset ∷ restoring (offset + 4) rs
 
--- x3 becomes the global pointer, where the function sets it
+-- x3 becomes the global pointer, if the function sets it
 abbrev pub pointer_items : Frame → List PieceItem
 pointer_items f = if f.sets_pointer then Plain (instr.Lui 3 (high global_pointer)) ∷ addi 3 3 (low global_pointer) ∷ [] else []
 
@@ -89,7 +88,7 @@ prologue f = pointer_items f ++ (stack_moved f (2 ^ 32 - frame_size f) ++ saving
 abbrev pub epilogue : Frame → List PieceItem
 epilogue f = restoring (4 * f.slots) f.saved ++ (stack_moved f (frame_size f) ++ Plain (instr.Jalr 0 1 0) ∷ [])
 
--- ---- what stands for an item of Linear; x5 and x6 alone are between
+-- ---- the items of an item of Linear; only x5 and x6 are used in between
 
 -- a move
 abbrev pub move_item : Move → PieceItem
@@ -97,7 +96,7 @@ move_item (Between to from) = addi to from 0
 move_item (Reload to slot) = load_word to 2 (4 * slot)
 move_item (Spill slot from) = store_word 2 from (4 * slot)
 
--- a word: its lower part alone, its upper part alone, or both
+-- a word: only its lower part, only its upper part, or both
 abbrev pub const_items : (to word : ℕ) → List PieceItem
 const_items to w =
     if high w == 0 then addi to 0 (low w) ∷ []
@@ -110,8 +109,8 @@ unary_instr Neg to from = instr.Op operation.Sub to 0 from
 unary_instr Complement to from = instr.OpImm Xori to from (2 ^ 32 - 1)
 unary_instr IsZero to from = instr.OpImm Sltiu to from 1
 
--- how an operator on two words is made: by one instruction; or by asking whether the word that one gives is zero, with the operands as
--- they are or exchanged; or whether it is not
+-- the instructions for an operator on two words: one instruction; or asking whether the word that one gives is zero, with the operands as
+-- they are or exchanged; or asking whether it is not zero
 abbrev pub recipe : binary.Binary → Recipe
 recipe Add = Direct operation.Add
 recipe Sub = Direct operation.Sub
@@ -139,32 +138,32 @@ recipe_items (ZeroOf o) to a b = Plain (instr.Op o 5 a b) ∷ Plain (instr.OpImm
 recipe_items (ZeroOfExchanged o) to a b = Plain (instr.Op o 5 b a) ∷ Plain (instr.OpImm Sltiu to 5 1) ∷ []
 recipe_items (NonzeroOf o) to a b = Plain (instr.Op o 5 a b) ∷ Plain (instr.Op operation.Sltu to 0 5) ∷ []
 
--- x6 becomes the upper part of an address, where it is needed and not there
+-- x6 becomes the upper part of an address, if it is needed and not there yet
 abbrev pub upper_items : Remembered → (address : ℕ) → List PieceItem
 upper_items Nothing address = Plain (instr.Lui 6 (high address)) ∷ []
 upper_items known address = []
 
--- the register from which an address is reached: x3, or x6 with the address's upper part; where x5 holds the element's address, by an upper part or
--- by x3, the answer is 6, and is never used
+-- the register from which an address is reached: x3, or x6 with the address's upper part; if x5 holds the element's address, by an upper
+-- part or by x3, the answer is 6 and is never used
 abbrev pub base_register : Remembered → ℕ
 base_register ByPointer = 3
 base_register known = 6
 
--- how far from x3 an address lies, within the first 4 KiB of the globals
+-- the distance from x3 of an address within the first 4 KiB of the globals
 abbrev pub from_pointer : (address : ℕ) → ℕ
 from_pointer a = low (add a (2 ^ 32 - global_pointer))
 
--- the access's offset, from that register or from what x5 holds of an element's address: an object's part of it
+-- the access's offset from that register, or from what x5 holds of an element's address: the object's part of the address
 abbrev pub part_of : Remembered → (address : ℕ) → ℕ
 part_of ByPointer a = from_pointer a
 part_of ElementByPointer a = from_pointer a
 part_of known a = low a
 
--- before the access to an element: x5 becomes its address, less the object's part of it, from how many bytes it lies behind the first one
+-- before the access to an element: x5 becomes its address minus the object's part of it, from its distance in bytes from the first element
 abbrev pub based : Remembered → (base distance : ℕ) → List PieceItem → List PieceItem
 based known base distance items = upper_items known base ++ Plain (instr.Op operation.Add 5 distance (base_register known)) ∷ items
 
--- from its number, where it is not that address
+-- from its number, unless x5 has that address already
 abbrev pub indexed : Remembered → Width → (base index : ℕ) → List PieceItem → List PieceItem
 indexed Element width base index items = items
 indexed ElementByPointer width base index items = items
@@ -175,18 +174,18 @@ indexed known Word base index items = Plain (instr.Shift Slli 5 index 2) ∷ bas
 abbrev pub service : (number : ℕ) → List PieceItem
 service number = addi 17 0 number ∷ Plain instr.Ecall ∷ []
 
--- from one place to another, in bytes, as a word
+-- the distance from one place to another, in bytes, as a word
 abbrev pub distance : (from to : ℕ) → ℕ
 distance from to = if nat_le from to then 4 * (to - from) else 2 ^ 32 - 4 * (from - to)
 
--- a branch: where it is near, one instruction, else the opposite one over a jump
+-- a branch: one instruction if it is near, else the opposite branch over a jump
 abbrev pub branch_items : (near : Bool) → Condition → (place to : ℕ) → List PieceItem
 branch_items near c place to =
     if near then Plain (instr.Branch c.operation c.left c.right (distance place to)) ∷ []
     else Plain (instr.Branch (opposite c.operation) c.left c.right 8) ∷ Go to ∷ []
 
--- the items of one item of Linear at a place, of whose address so much is known; `base` has the objects' addresses, `labels` the labels'
--- places, `near` says whether a branch from here to a label is near
+-- the items of one item of Linear at a place; `known` is how much of its address is there, `base` has the objects' addresses, `labels` the
+-- labels' places, and `near` says whether a branch from here to a label is near
 abbrev pub items_of_one : (base : ℕ → ℕ) → Frame → (near : ℕ → Bool) → (labels : ℕ → ℕ) → (place : ℕ) → Remembered → LinearItem → List PieceItem
 items_of_one base f near labels place known (Label label) = []
 items_of_one base f near labels place known (Jump to) = Go (labels to) ∷ []
@@ -203,10 +202,10 @@ items_of_one base f near labels place known Read = service 2
 items_of_one base f near labels place known Write = service 1
 items_of_one base f near labels place known Return = epilogue f
 
--- ---- what stands for the other steps
+-- ---- the items of the other steps
 
--- how an operator on a register and a word is made: by one instruction with an immediate, by a shift, or by one instruction on 0 and the
--- register; or by asking whether the word that an instruction with an immediate gives is zero, or whether it is not
+-- the instructions for an operator on a register and a word: one instruction with an immediate, a shift, or one instruction on 0 and the
+-- register; or asking whether the word that an instruction with an immediate gives is zero, or whether it is not
 abbrev pub word_recipe : WordOperator → (word : ℕ) → WordRecipe
 word_recipe immediates.Add w = WithImmediate Addi (low w)
 word_recipe immediates.Sub w = WithImmediate Addi (low (neg w))
@@ -216,23 +215,23 @@ word_recipe immediates.ShrU w = ShiftBy Srli (w % 32)
 word_recipe immediates.And w = WithImmediate Andi (low w)
 word_recipe immediates.Or w = WithImmediate Ori (low w)
 word_recipe immediates.Xor w = WithImmediate Xori (low w)
--- equal to 0: less than 1, as unsigned; equal to another word: the difference is 0
+-- equal to 0 is less than 1, as unsigned; equal to another word means that the difference is 0
 word_recipe immediates.Eq w = if w == 0 then WithImmediate Sltiu 1 else ZeroOfImmediate Addi (low (neg w))
--- not equal to 0: 0 is less, as unsigned; to another word: the difference is not 0
+-- not equal to 0 is "0 is less", as unsigned; not equal to another word means that the difference is not 0
 word_recipe immediates.Ne w = if w == 0 then OnZero operation.Sltu else NonzeroOfImmediate Addi (low (neg w))
 word_recipe immediates.LtS w = WithImmediate Slti (low w)
 word_recipe immediates.LtU w = WithImmediate Sltiu (low w)
--- at most the word: less than the next one
+-- at most the word is less than the next one
 word_recipe immediates.LeS w = WithImmediate Slti (low (add w 1))
 word_recipe immediates.LeU w = WithImmediate Sltiu (low (add w 1))
--- more than the word, which is 0: 0 is less
+-- more than the word, which is 0, is "0 is less"
 word_recipe immediates.GtS w = OnZero operation.Slt
 word_recipe immediates.GtU w = OnZero operation.Sltu
--- at least the word: not less than it
+-- at least the word is not less than it
 word_recipe immediates.GeS w = ZeroOfImmediate Slti (low w)
 word_recipe immediates.GeU w = ZeroOfImmediate Sltiu (low w)
 
--- the instruction that a recipe begins with, into a register
+-- the first instruction of a recipe, with its result in a register
 abbrev pub first_instr : WordRecipe → (to from : ℕ) → Instr
 first_instr (WithImmediate o n) to a = instr.OpImm o to a n
 first_instr (ShiftBy o n) to a = instr.Shift o to a n
@@ -245,8 +244,8 @@ word_recipe_items (ZeroOfImmediate o n) to a = Plain (first_instr (ZeroOfImmedia
 word_recipe_items (NonzeroOfImmediate o n) to a = Plain (first_instr (NonzeroOfImmediate o n) 5 a) ∷ Plain (instr.Op operation.Sltu to 0 5) ∷ []
 word_recipe_items recipe to a = Plain (first_instr recipe to a) ∷ []
 
--- a branch on a register and a word, by the recipe of the comparison: on x0 alone, where that says the same, else on x5 behind the recipe's
--- first instruction
+-- a branch on a register and a word, by the recipe of the comparison: on x0 alone if that has the same result, else on x5 after the
+-- recipe's first instruction
 abbrev pub word_branch_items : (alone : Option Condition) → WordRecipe → (near nonzero : Bool) → (from place to : ℕ) → List PieceItem
 word_branch_items (Some c) recipe near nonzero a place to = branch_items near (turned nonzero c) place to
 word_branch_items None recipe near nonzero a place to = Plain (first_instr recipe 5 a) ∷ branch_items near (turned nonzero (compares (asked_of recipe) 5 0)) (place + 1) to
@@ -261,7 +260,8 @@ load_at known width to address = upper_items known address ++ load_element width
 abbrev pub store_at : Remembered → Width → (from address : ℕ) → List PieceItem
 store_at known width from address = upper_items known address ++ store_element width (base_register known) from (part_of known address) ∷ []
 
--- the items of a step at a place, of whose address so much is known; an element near by is one of an object that begins so much further on
+-- the items of a step at a place; `known` is how much of its address is there; a nearby element is an element of an object that begins that
+-- much further on
 abbrev pub items_of_step : (base : ℕ → ℕ) → Frame → (near : ℕ → Bool) → (labels : ℕ → ℕ) → (place : ℕ) → Remembered → Step → List PieceItem
 items_of_step base f near labels place known (One item) = items_of_one base f near labels place known item
 items_of_step base f near labels place known (Immediate operator to from word) = word_recipe_items (word_recipe operator word) to from
@@ -278,7 +278,7 @@ items_of_step base f near labels place known (BranchImmediate operator nonzero f
 abbrev pub items_of : (base : ℕ → ℕ) → Frame → (near : ℕ → Bool) → (labels : ℕ → ℕ) → (place : ℕ) → Addressed → List PieceItem
 items_of base f near labels place s = items_of_step base f near labels place s.known s.step
 
--- ---- how many items that are
+-- ---- the number of items
 
 abbrev pub stack_moved_size : Frame → ℕ
 stack_moved_size f = if frame_size f == 0 then 0 else 1
@@ -287,7 +287,7 @@ stack_moved_size f = if frame_size f == 0 then 0 else 1
 abbrev pub pointer_size : (sets_pointer : Bool) → ℕ
 pointer_size sets_pointer = if sets_pointer then 2 else 0
 
--- the prologue's
+-- those of the prologue
 abbrev pub prologue_size : Frame → ℕ
 prologue_size f = pointer_size f.sets_pointer + (stack_moved_size f + length f.saved)
 
@@ -303,7 +303,7 @@ recipe_size (NonzeroOf o) = 2
 abbrev pub branch_size : (near : Bool) → ℕ
 branch_size near = if near then 1 else 2
 
--- an access to an element whose number is in a register
+-- those of an access to an element whose number is in a register
 abbrev pub access_size : Remembered → Width → ℕ
 access_size Nothing Byte = 3
 access_size Nothing Word = 4
@@ -314,7 +314,7 @@ access_size ByPointer Byte = 2
 access_size ByPointer Word = 3
 access_size ElementByPointer width = 1
 
--- whose number is known
+-- those of an access to an element whose number is known
 abbrev pub known_access_size : Remembered → ℕ
 known_access_size Nothing = 2
 known_access_size known = 1
@@ -359,17 +359,17 @@ size_of_step f near known (BranchImmediate operator nonzero from word to) = word
 abbrev pub size : Frame → (near : ℕ → Bool) → Addressed → ℕ
 size f near s = size_of_step f near s.known s.step
 
--- with each branch in its long form
+-- those of a step with each branch in its long form
 abbrev pub long_size : Frame → Addressed → ℕ
 long_size f s = size f (λ label. false) s
 
--- ---- where labels stand
+-- ---- the places of labels
 
 abbrev pub is_label_step : (label : ℕ) → Step → Bool
 is_label_step label (One (Label other)) = other == label
 is_label_step label step = false
 
--- the label that a step is
+-- the label, if the step is one
 abbrev pub label_of_step : Step → Option ℕ
 label_of_step (One (Label label)) = Some label
 label_of_step step = None
@@ -377,17 +377,17 @@ label_of_step step = None
 abbrev pub is_label : (label : ℕ) → Addressed → Bool
 is_label label s = is_label_step label s.step
 
--- in the first pass, in steps from this place on; their end, where the label stands nowhere
+-- in the first pass, in steps from this place on; their end, if the label does not occur
 abbrev pub long_place : Frame → (place : ℕ) → List Addressed → (label : ℕ) → ℕ
 long_place f place [] label = place
 long_place f place (s ∷ steps) label = if is_label label s then place else long_place f (place + long_size f s) steps label
 
--- whether a branch, which reaches from -4096 to 4092 bytes, does so from one place, and from the next one, to another: a step's branch may
--- stand behind an instruction
+-- whether a branch, which reaches from -4096 to 4092 bytes, reaches a place from another and from the place after that: a step's branch may
+-- come after an instruction
 abbrev pub is_close : (from to : ℕ) → Bool
 is_close from to = nat_lt from (to + 1024) && nat_lt to (from + 1024)
 
--- whether a step's branch is near, by the step's place in the first pass, where the function's items begin at place 0
+-- whether a step's branch is near, by the step's place in the first pass, in which the function's items begin at place 0
 abbrev pub is_near : Frame → List Addressed → (long label : ℕ) → Bool
 is_near f steps long label = is_close long (long_place f 0 steps label)
 
@@ -399,13 +399,13 @@ short_place f near long place (s ∷ steps) label =
 
 -- ---- the code
 
--- what stands for steps from these places on
+-- the items of steps from these places on
 abbrev pub emitted : (base : ℕ → ℕ) → Frame → (near : (long label : ℕ) → Bool) → (labels : ℕ → ℕ) → (long place : ℕ) → List Addressed → List PieceItem
 emitted base f near labels long place [] = []
 emitted base f near labels long place (s ∷ steps) =
     items_of base f (near long) labels place s ++ emitted base f near labels (long + long_size f s) (place + size f (near long) s) steps
 
--- in a frame
+-- the items of a function's code: those of its steps, after the prologue
 abbrev pub framed_items : (base : ℕ → ℕ) → Frame → List Addressed → List PieceItem
 framed_items base f steps =
     prologue f ++ emitted base f (is_near f steps) (short_place f (is_near f steps) 0 (prologue_size f) steps) 0 (prologue_size f) steps

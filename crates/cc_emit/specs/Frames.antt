@@ -1,4 +1,4 @@
--- The frame of a function, from x2 upward: its slots, x1 where the function calls, and those of x8, x9, x18 to x27 that it writes.
+-- The frame of a function, from x2 upward: its slots, x1 if the function calls others, and those of x8, x9, x18 to x27 that it writes.
 use Rattle.std.specs.Prelude.{ℕ, ◌+◌, ◌*◌, Bool, true, false, ◌||◌, if◌then◌else◌, ◌==◌, List, [], ◌∷◌, length}
 use Rattle.cc_ltl.specs.declared.location.Location.TheVariants.{Register}
 use Rattle.cc_ltl.specs.Ltl.{target, same_location}
@@ -7,21 +7,21 @@ use Rattle.cc_linear_language.specs.declared.item.LinearItem.TheVariants.{Copy, 
 use Rattle.cc_select.specs.declared.step.Step.{Step}
 use Rattle.cc_select.specs.declared.step.Step.TheVariants.{One, Immediate, LoadAt, LoadNear}
 
--- slot i lies at x2 + 4 * i, and behind the slots the saved registers in this order; `sets_pointer` where the function sets x3
+-- slot i lies at x2 + 4 * i, and after the slots come the saved registers in this order; `sets_pointer` says whether the function sets x3
 pub record Frame : Type 0 where
   pub sets_pointer : Bool
   pub slots : ℕ
   pub saved : List ℕ
 
--- in bytes
+-- the size of a frame in bytes
 abbrev pub frame_size : Frame → ℕ
 frame_size f = 4 * (f.slots + length f.saved)
 
--- the registers that a function gives back as it got them
+-- the registers that a function leaves as it found them
 abbrev pub kept_registers : List ℕ
 kept_registers = 8 ∷ 9 ∷ 18 ∷ 19 ∷ 20 ∷ 21 ∷ 22 ∷ 23 ∷ 24 ∷ 25 ∷ 26 ∷ 27 ∷ []
 
--- whether an item of Linear writes a register, other than one that a call destroys
+-- whether an item of Linear writes a register, other than as one that a call destroys
 abbrev pub item_writes : (register : ℕ) → LinearItem → Bool
 item_writes r (Copy m) = same_location (target m) (Register r)
 item_writes r (Const to word) = to == r
@@ -42,7 +42,7 @@ abbrev pub is_written : List Step → (register : ℕ) → Bool
 is_written [] r = false
 is_written (step ∷ steps) r = writes r step || is_written steps r
 
--- those that steps write
+-- those of these registers that steps write
 abbrev pub written : List Step → List ℕ → List ℕ
 written steps [] = []
 written steps (r ∷ rs) = if is_written steps r then r ∷ written steps rs else written steps rs
@@ -55,7 +55,7 @@ abbrev pub calls : List Step → Bool
 calls [] = false
 calls (step ∷ steps) = is_call step || calls steps
 
--- which registers are saved
+-- the registers that are saved
 abbrev pub saved_by : List Step → List ℕ
 saved_by steps = if calls steps then 1 ∷ written steps kept_registers else written steps kept_registers
 

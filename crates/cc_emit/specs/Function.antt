@@ -1,9 +1,8 @@
--- The code of a whole function: the steps that are selected for its items, each with how much of its address is known, in their frame.
+-- The code of a whole function: its steps, each with how much of its address is known, in their frame.
 use Rattle.std.specs.Prelude.{ℕ, ◌+◌, Bool, false, Option, Some, None, List, ◌++◌, length, map}
 use Rattle.cc_c_laws.specs.Numbered.{objects_in}
-use Rattle.cc_linear_language.specs.Pair as above
+use Rattle.cc_select.specs.Pair as above
 use Rattle.cc_select.specs.declared.step.Step.{Step}
-use Rattle.cc_select.specs.Selection.{selected}
 use Rattle.cc_emit.specs.declared.item.PieceItem.{PieceItem}
 use Rattle.cc_emit.specs.declared.item.PieceItem.TheVariants.{Plain, Call, Go}
 use Rattle.cc_emit.specs.Objects.{object_address}
@@ -37,10 +36,10 @@ early_items base slots (Some e) steps = behind (items_with base false 0 e.head) 
 abbrev pub function_items : (base : ℕ → ℕ) → (slots : ℕ) → List Step → List PieceItem
 function_items base slots steps = early_items base slots (early slots steps) steps
 
--- the items that a pair's code becomes, with the objects of its unit in order
+-- the items that a pair's steps become, with the objects of its unit in order
 unfoldable pub pair_items : above.Pair → List PieceItem
-pair_items p = function_items (object_address (objects_in (above.tree_of p))) p.ltl.slots (selected p.code)
+pair_items p = function_items (object_address (objects_in (above.tree_of p))) p.ltl.slots p.code
 
--- how many bytes the frame of a pair's code has
+-- how many bytes the frame of a pair's steps has
 unfoldable pub pair_frame : above.Pair → ℕ
-pair_frame p = frame_size (frame_of false p.ltl.slots (selected p.code))
+pair_frame p = frame_size (frame_of false p.ltl.slots p.code)

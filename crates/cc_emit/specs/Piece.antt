@@ -14,8 +14,8 @@ use Rattle.cc_emit.specs.declared.item.PieceItem.{PieceItem}
 use Rattle.cc_emit.specs.Contract.{ObjectLayout, IsPiece, largest_frame}
 use Rattle.cc_emit.specs.Objects.{IsInOrder}
 
--- a piece as contracts see it: the mode, the unit, the function's number in the order of definitions, its LTL, how many bytes its frame has,
--- and the items of its code
+-- a piece as contracts see it: the mode, the unit, the function's number in the order of definitions, its LTL, the number of bytes of its
+-- frame, and the items of its code
 pub record Piece : Type 0 where
   pub mode : Mode
   pub unit : parsed.Unit

@@ -1,10 +1,11 @@
--- What x5 and x6 hold between the steps of a straight piece, and how much of an element's address is so there already. An access leaves in x6 the
--- upper part of an address, and in x5 the address of the element, less the lower part of its object's address, or less the object's distance from
--- x3. So the next access to an object near by needs no upper part, and one to elements of the same number, in any object that is reached the same
--- way, is one instruction.
--- A function sets x3 to the global pointer where its accesses take fewer instructions so, those that set it counted: from there an access reaches
--- the first 4 KiB of the globals. An access in a loop counts as eight.
--- Which accesses are so is told of each step: its size follows from that alone.
+-- What x5 and x6 hold between the steps of a straight piece, and how much of an element's address is there already because of it. An access
+-- leaves in x6 the upper part of an address, and in x5 the address of the element, minus the lower part of its object's address or minus
+-- the object's distance from x3. So the next access to a nearby object needs no upper part, and the next one to elements with the same
+-- number, in any object that is reached the same way, is one instruction.
+--
+-- A function sets x3 to the global pointer if its accesses then take fewer instructions, including those that set it: from there an access
+-- reaches the first 4 KiB of the globals. An access in a loop counts as eight. Each step says which of these applies to its access, and its
+-- size follows from that alone.
 use Rattle.std.specs.Prelude.{ℕ, ◌*◌, ◌+◌, ◌^◌, Bool, true, false, ◌&&◌, ◌||◌, ◌==◌, nat_le, nat_lt, if◌then◌else◌, Option, Some, None, List, [], ◌∷◌}
 use Rattle.cc_words.specs.declared.operators.Width.{Width}
 use Rattle.cc_words.specs.Widths.{same_width}
@@ -31,12 +32,12 @@ use Rattle.cc_emit.specs.Emission.{access_size, high, known_access_size, known_p
 
 -- ---- what the registers hold
 
--- it is not known what
+-- nothing is known about them
 abbrev pub nothing : Scratch
 nothing = record { upper = None; address = None }
 
--- x5 is the sum of a word, which is the upper part of the object's address times 2^12, or the global pointer, and of what the element's number takes
--- in bytes
+-- x5 is the sum of a word, which is the upper part of the object's address times 2^12 or the global pointer, and of what the element's
+-- number takes in bytes
 abbrev pub address_of : Width → (index sum_base : ℕ) → ElementAddress
 address_of width index sum_base = record { width = width; index = index; sum_base = sum_base }
 
@@ -54,8 +55,8 @@ is_address (Some a) width index sum_base = same_width a.width width && ((a.index
 abbrev pub is_in_reach : (address : ℕ) → Bool
 is_in_reach a = nat_le globals_from a && nat_lt a (globals_from + 4096)
 
--- of the address of an element whose number is in a register; `sets_pointer` says whether x3 is the global pointer. An address that x5 holds needs
--- no instruction, so it comes first
+-- how much is there of the address of an element whose number is in a register; `sets_pointer` says whether x3 is the global pointer. An
+-- address in x5 needs no instruction, so it has priority
 abbrev pub known_of : (sets_pointer : Bool) → Scratch → Width → (base index : ℕ) → Remembered
 known_of sets_pointer k width base index =
     if is_address k.address width index (high base * 2 ^ 12) then Element
@@ -63,11 +64,11 @@ known_of sets_pointer k width base index =
     else if is_upper k.upper (high base) then Upper
     else Nothing
 
--- of an address
+-- how much is there of a known address
 abbrev pub known_at : (sets_pointer : Bool) → Scratch → (address : ℕ) → Remembered
 known_at sets_pointer k address = if sets_pointer && is_in_reach address then ByPointer else if is_upper k.upper (high address) then Upper else Nothing
 
--- of what a step reads or writes, where it does
+-- of the address that a step reads or writes, if it does
 abbrev pub remembered : (base : ℕ → ℕ) → (sets_pointer : Bool) → Scratch → Step → Remembered
 remembered base sets_pointer k (One (Load width object to index)) = known_of sets_pointer k width (base object) index
 remembered base sets_pointer k (One (Store width object index from)) = known_of sets_pointer k width (base object) index
@@ -77,9 +78,9 @@ remembered base sets_pointer k (LoadNear width object to index word) = known_of 
 remembered base sets_pointer k (StoreNear width object index word from) = known_of sets_pointer k width (known_place width (base object) word) index
 remembered base sets_pointer k step = Nothing
 
--- ---- what the registers hold behind a step
+-- ---- what the registers hold after a step
 
--- the address is not known where the index register is another
+-- the address is no longer known if the index register has changed
 abbrev pub unless_of : (register : ℕ) → Option ElementAddress → Option ElementAddress
 unless_of register None = None
 unless_of register (Some a) = if a.index == register then None else Some a
@@ -111,27 +112,27 @@ abbrev pub behind_word_branch : (alone : Option Condition) → Scratch → Scrat
 behind_word_branch (Some c) k = k
 behind_word_branch None k = without_address k
 
--- x6 behind an access: as it was, where the access did not need it
+-- x6 after an access: unchanged, if the access did not need it
 abbrev pub upper_behind : Remembered → Option ℕ → (address : ℕ) → Option ℕ
 upper_behind Nothing upper a = Some (high a)
 upper_behind Upper upper a = Some (high a)
 upper_behind known upper a = upper
 
--- what is in the sum that x5 is, besides the element's number in bytes
+-- what x5 holds in addition to the element's number in bytes
 abbrev pub sum_base : Remembered → (base : ℕ) → ℕ
 sum_base ByPointer base = global_pointer
 sum_base ElementByPointer base = global_pointer
 sum_base known base = high base * 2 ^ 12
 
--- an access to an element whose number is in a register
+-- after an access to an element whose number is in a register
 abbrev pub behind_element : Remembered → Scratch → Width → (base index : ℕ) → Scratch
 behind_element known k width base index = record { upper = upper_behind known k.upper base; address = Some (address_of width index (sum_base known base)) }
 
--- an access to an address
+-- after an access to an address
 abbrev pub behind_at : Remembered → Scratch → (address : ℕ) → Scratch
 behind_at known k address = record { upper = upper_behind known k.upper address; address = k.address }
 
--- an item of Linear: a jump may lead to a label, and a call destroys both registers
+-- after an item of Linear: a jump may lead to a label, and a call destroys both registers
 abbrev pub behind_one : (base : ℕ → ℕ) → (sets_pointer : Bool) → LinearItem → Scratch → Scratch
 behind_one base sets_pointer (Label label) k = nothing
 behind_one base sets_pointer (Jump to) k = nothing
@@ -172,7 +173,7 @@ addressed base sets_pointer k (step ∷ steps) = with_known base sets_pointer k 
 
 -- ---- whether a function gains by x3
 
--- how many instructions the access of a step takes, where it has one
+-- the number of instructions that the access of a step takes, if it has one
 abbrev pub step_access_size : Remembered → Step → ℕ
 step_access_size known (One (Load width object to index)) = access_size known width
 step_access_size known (One (Store width object index from)) = access_size known width
@@ -200,30 +201,30 @@ abbrev pub lead_to : (label : ℕ) → List Step → Bool
 lead_to label [] = false
 lead_to label (step ∷ steps) = is_led (led_to step) label || lead_to label steps
 
--- to one of the labels
+-- one of these steps may lead to one of the labels
 abbrev pub lead_back : (labels : List ℕ) → List Step → Bool
 lead_back [] steps = false
 lead_back (label ∷ labels) steps = lead_to label steps || lead_back labels steps
 
--- how often an access counts, by the labels before it and the steps from it on: eight times in a loop, which is between a label and a later step
--- that leads back to it
+-- how many times an access counts, by the labels before it and the steps from it on: eight times in a loop, which goes from a label to a
+-- later step that leads back to it
 abbrev pub loop_weight : ℕ
 loop_weight = 8
 
 abbrev pub weight : (labels : List ℕ) → List Step → ℕ
 weight labels steps = if lead_back labels steps then loop_weight else 1
 
--- the labels before what is behind a step
+-- the labels before the point after a step
 abbrev pub labels_past : Option ℕ → List ℕ → List ℕ
 labels_past None labels = labels
 labels_past (Some label) labels = label ∷ labels
 
--- how many instructions the accesses of these steps take, each as often as it counts
+-- the number of instructions that the accesses of these steps take, each counted by its weight
 abbrev pub accesses_size : (base : ℕ → ℕ) → (sets_pointer : Bool) → Scratch → (labels : List ℕ) → List Step → ℕ
 accesses_size base sets_pointer k labels [] = 0
 accesses_size base sets_pointer k labels (step ∷ steps) =
     weight labels (step ∷ steps) * step_access_size (remembered base sets_pointer k step) step + accesses_size base sets_pointer (behind_step base sets_pointer step k) (labels_past (label_of_step step) labels) steps
 
--- the accesses take fewer instructions with x3, those that set it counted
+-- the accesses take fewer instructions with x3, including those that set it
 abbrev pub gains : (base : ℕ → ℕ) → List Step → Bool
 gains base steps = nat_lt (pointer_size true + accesses_size base true nothing [] steps) (accesses_size base false nothing [] steps)

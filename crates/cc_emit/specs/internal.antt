@@ -1,9 +1,9 @@
--- What only private contracts and proofs speak of.
+-- Definitions for private contracts and proofs.
 -- places counted from the end
 pub mod Behind
 -- the addresses of objects as a table
 pub mod Bases
--- what stands before a frame
+-- what comes before a frame
 pub mod Ahead
 -- which steps are in loops
 pub mod Loops

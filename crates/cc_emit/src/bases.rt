@@ -1,4 +1,4 @@
-// The addresses of a unit's objects: each right behind the one before it, in the order of their declarations.
+// The addresses of a unit's objects: each right after the one before it, in the order of their declarations.
 
 ghost use Rattle.std.specs.Prelude.{◌≡◌, ◌≤◌, ◌<◌, ◌++◌, ◌∷◌, ℕ, List, length, IfOk, OnOk};
 ghost use Rattle.cc_ast.specs.Erase.{object_trees, external_tree, external_trees};
@@ -17,7 +17,7 @@ use cc_types::object_words;
 use std::alloc::{AllocError, Global};
 use std::marker::Model;
 
-/// The address of each object, and the one behind the last. A clause sees the list.
+/// The address of each object, and the one after the last. Contracts see the list.
 #[derive(Drop)]
 pub(crate) struct Bases {
     addresses: Vec<u32>,
@@ -34,13 +34,13 @@ impl Model for Bases {
 }
 
 impl Bases {
-    /// Those of the objects of a unit, by its declarations.
+    /// The addresses of a unit's objects, from its declarations. Err: memory ran out.
     pub(crate) fn new(alloc: Global, trees: &[External]) -> Result<Bases, AllocError>
         requires typed { IsTyped (external_trees trees.now) }
         requires limits { IsWithinLimits (external_trees trees.now) }
         ensures { IfOk result (λ b. (object : ℕ) → base_in b object ≡ object_address (objects_in (external_trees trees.now)) object) }
     {
-        // In a typed unit an object has before the run as many words as its declaration says.
+        // In a typed unit an object has as many words before the run as its declaration says.
         names_have_numbers();
         let mut addresses = Vec::new(alloc);
         let mut behind = GLOBALS_FROM;
@@ -51,7 +51,7 @@ impl Bases {
         Ok(Bases { addresses })
     }
 
-    /// The address of an object; of one that there is not, the address behind the last.
+    /// The address of an object; the address after the last object, if there is no such object.
     pub(crate) fn of(&self, object: u32) -> u32
         ensures { result ≡ base_in self.now object }
     {
@@ -70,7 +70,7 @@ fn objects_of(external: &External) -> &[Object]
     }
 }
 
-// Adds the addresses of some objects, of which the first lies at `address`, and answers the address behind them.
+// Adds the addresses of some objects, the first of which lies at `address`, and answers the address after them.
 fn add_bases(addresses: &mut Vec<u32>, address: u32, trees: &[Object]) -> Result<u32, AllocError>
     requires { address_behind address (object_trees trees.now) ≤ globals_to }
     ensures bases { OnOk result (addresses.new.items ≡ addresses.old.items ++ bases_from address (object_trees trees.now)) }

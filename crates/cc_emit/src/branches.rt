@@ -1,5 +1,5 @@
-// Branches: one instruction to a near place, else the opposite one over a jump. A branch on a register and a word has an instruction in
-// front of it where no comparison with 0 says the same.
+// Branches: one instruction to a near place, else the opposite branch over a jump. A branch on a register and a word has an instruction in
+// front of it, unless a comparison with 0 has the same result.
 
 ghost use Rattle.std.specs.Prelude.{◌≡◌, ◌<◌, ◌≤◌, ◌+◌, ◌++◌, true, length, get_or, OnOk};
 ghost use Rattle.cc_rv32.specs.Fields.{IsBranchOffset};
@@ -15,7 +15,7 @@ use crate::recipe::WordRecipe;
 use crate::tables::Places;
 use std::alloc::AllocError;
 
-// How far it is from one place to another, in bytes.
+// The distance from one place to another, in bytes.
 fn distance(from: usize, to: usize) -> u32
     requires { reaches from to ≡ true }
     ensures value { result ≡ distance from to }
@@ -28,7 +28,7 @@ fn distance(from: usize, to: usize) -> u32
     }
 }
 
-// Puts a branch to the item of that number.
+// Puts a branch to the item with that number.
 fn put_branch(
     items: &mut Vec<PieceItem>,
     near: bool,
@@ -47,7 +47,7 @@ fn put_branch(
     }
 }
 
-// Puts a branch on a register and a word to the item of that number, by the recipe of their comparison.
+// Puts a branch on a register and a word to the item with that number, by the recipe of their comparison.
 fn put_word_branch(
     items: &mut Vec<PieceItem>,
     near: bool,
@@ -72,7 +72,7 @@ fn put_word_branch(
     }
 }
 
-/// Puts a branch to a label, for a step that has this many items from it on, with each branch long.
+/// Puts a branch to a label. `here` is the number of items from the step on, with each branch long.
 pub(crate) fn put_branch_to(
     items: &mut Vec<PieceItem>,
     places: &Places,
@@ -89,7 +89,7 @@ pub(crate) fn put_branch_to(
     put_branch(items, near, condition, place)
 }
 
-/// The same on a register and a word.
+/// The same for a branch on a register and a word.
 pub(crate) fn put_word_branch_to(
     items: &mut Vec<PieceItem>,
     places: &Places,

@@ -1,5 +1,5 @@
 // Conditions of branches: how the words of two registers compare. A comparison of registers is a condition of its own, so a branch on it
-// needs no truth value in a register; so is one with a word, where a comparison with 0 says the same.
+// needs no truth value in a register. So is a comparison with a word, if a comparison with 0 has the same result.
 
 ghost use Rattle.std.specs.Prelude.{◌≡◌, ◌<◌};
 ghost use Rattle.cc_emit.specs.Branches.{opposite, compares, opposed, turned, comparison, immediate_against_zero, operation_on_zero, against_zero};
@@ -19,7 +19,7 @@ pub(crate) struct Condition {
 }
 
 impl Condition {
-    /// Where two registers compare so.
+    /// Two registers compare like this.
     pub(crate) fn new(operation: BranchOperation, left: u8, right: u8) -> Condition
         requires left { left < 32 }
         requires right { right < 32 }
@@ -32,7 +32,7 @@ impl Condition {
         }
     }
 
-    /// Where this one does not hold.
+    /// The condition that holds exactly if this one does not.
     pub(crate) fn opposite(self) -> Condition
         ensures { result ≡ opposed self }
     {
@@ -43,14 +43,14 @@ impl Condition {
         }
     }
 
-    /// This one for `nonzero`, else its opposite.
+    /// This condition for `nonzero`, else its opposite.
     pub(crate) fn turned(self, nonzero: bool) -> Condition
         ensures { result ≡ turned nonzero self }
     {
         if nonzero { self } else { self.opposite() }
     }
 
-    /// Where a comparison of two registers gives 1.
+    /// The condition under which a comparison of two registers gives 1.
     pub(crate) fn of_comparison(operator: Binary, left: u8, right: u8) -> Condition
         requires left { left < 32 }
         requires right { right < 32 }
@@ -66,7 +66,7 @@ impl Condition {
         }
     }
 
-    /// Where a recipe gives a word that is not 0, if that compares the register with 0.
+    /// The condition under which a recipe gives a word that is not 0, if it compares the register with 0.
     pub(crate) fn against_zero(recipe: WordRecipe, from: u8) -> Option<Condition>
         requires { from < 32 }
         ensures { result ≡ against_zero recipe from }
@@ -87,7 +87,7 @@ impl Condition {
     }
 }
 
-// The operation that is taken where another is not.
+// The operation that is taken exactly if another one is not.
 fn opposite(operation: BranchOperation) -> BranchOperation
     ensures { result ≡ opposite operation }
 {
@@ -101,7 +101,7 @@ fn opposite(operation: BranchOperation) -> BranchOperation
     }
 }
 
-// Where an instruction with an immediate gives a word that is not 0, if that compares its register with 0.
+// The condition under which an instruction with an immediate gives a word that is not 0, if it compares its register with 0.
 fn immediate_against_zero(operation: ImmediateOperation, part: u32, from: u8) -> Option<Condition>
     requires { from < 32 }
     ensures { result ≡ immediate_against_zero operation part from }
@@ -114,7 +114,7 @@ fn immediate_against_zero(operation: ImmediateOperation, part: u32, from: u8) ->
     }
 }
 
-// The same of an instruction on 0 and a register.
+// The same for an instruction on 0 and a register.
 fn operation_on_zero(operation: RegisterOperation, from: u8) -> Option<Condition>
     requires { from < 32 }
     ensures { result ≡ operation_on_zero operation from }

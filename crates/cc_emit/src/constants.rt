@@ -1,4 +1,4 @@
-// Constants: one instruction where the word has twelve bits or twelve zeros at its end, else two.
+// Constants: one instruction if the word has at most twelve bits or ends in twelve zeros, else two.
 
 ghost use Rattle.std.specs.Prelude.{◌≡◌, ◌≤◌, ◌<◌, ◌++◌, OnOk};
 ghost use Rattle.cc_emit.specs.Emission.{const_items, const_size};
@@ -7,7 +7,7 @@ use crate::instructions::{ZERO, add_immediate, high, load_upper, low, put};
 use crate::item::PieceItem;
 use std::alloc::AllocError;
 
-/// How many items a constant takes: 1 or 2.
+/// The number of items that a constant takes: 1 or 2.
 pub(crate) fn constant_size(word: u32) -> usize
     ensures answer { result ≡ const_size word }
     ensures few { result ≤ 2 }

@@ -1,18 +1,17 @@
-// What comes before a function's frame. A function may begin with operations on registers that a call destroys and a test. If the test leads to a
-// label after which the function returns, at most one such operation further on, these come before the frame, with the test the other way round,
-// and the function goes on after the test. If the function returns right after the test, after any number of such operations, and the test leads
-// to the label after the return, the function's steps up to that label come before the frame, and it goes on at the label.
+// What stands before a function's frame: where a function begins with operations on registers that a call destroys and a test, and the test
+// leads to a label behind which the function returns, at most one such operation further on, these stand before the frame is made, with the
+// test the other way round. The test goes on behind them.
 
-ghost use Rattle.std.specs.Prelude.{◌≡◌, ◌<◌, ◌≤◌, ◌+◌, ◌∷◌, ◌++◌, [], List, IfOk, IfSome, drop, take, length, option_map};
+ghost use Rattle.std.specs.Prelude.{◌≡◌, ◌≤◌, ◌+◌, ◌∷◌, ◌++◌, [], List, IfOk, IfSome, drop, take, length, option_map};
 ghost use Rattle.cc_ltl.specs.Registers.{most_slots};
 ghost use Rattle.cc_select.specs.declared.step.Step.{Step as Shown};
 ghost use Rattle.cc_linear_language.specs.declared.item.LinearItem.TheVariants.{Label, Return};
 ghost use Rattle.cc_select.specs.declared.step.Step.TheVariants.{One};
 ghost use Rattle.cc_select.specs.Selected.{place};
-ghost use Rattle.cc_emit.specs.Early.{is_lost, written_by, is_light, fork_of, is_return, last_of, ending, lights, is_ending, early_from, early};
+ghost use Rattle.cc_emit.specs.Early.{is_lost, written_by, is_light, fork_of, is_return, last_of, ending, early_from, early};
 ghost use Rattle.cc_emit.specs.Emission.{label_of_step};
 ghost use Rattle.cc_emit.specs.Scratch.{is_led};
-ghost use Rattle.cc_emit.specs.internal.Ahead.{listed, shown, with_before, early_test, staying_from};
+ghost use Rattle.cc_emit.specs.internal.Ahead.{listed, shown, with_before, early_test};
 
 use crate::frame::frame_bytes;
 use crate::tables::label_of_step;
@@ -21,14 +20,14 @@ use cc_ltl::Move;
 use cc_select::Step;
 use std::alloc::{AllocError, Global};
 
-/// The steps that stand before the frame, and how many of the function's steps they stand for.
+/// The steps before the frame, and how many of the function's steps they replace.
 #[derive(Drop)]
 pub(crate) struct Ahead {
     pub(crate) head: Vec<Step>,
     pub(crate) taken: usize,
 }
 
-/// A test the other way round, and where it leads.
+/// A test the other way round, and where the test leads.
 #[derive(Clone, Copy)]
 pub(crate) struct Fork {
     to: u32,
@@ -60,7 +59,7 @@ fn written_by(step: &Step) -> Option<u8>
     }
 }
 
-// Whether it is an operation on registers that needs no frame.
+// Whether a step is an operation on registers that needs no frame.
 fn is_light(step: &Step) -> bool
     ensures { result ≡ is_light step.now }
 {
@@ -70,7 +69,7 @@ fn is_light(step: &Step) -> bool
     }
 }
 
-// The test that a step is, the other way round.
+// The step as a test the other way round, if it is a test.
 fn fork_of(step: &Step) -> Option<Fork>
     ensures { result ≡ fork_of step.now }
 {
@@ -125,7 +124,7 @@ fn is_return(step: &Step) -> bool
     matches!(step, Step::One(LinearItem::Return))
 }
 
-// Whether a step is that label.
+// Whether a step is this label.
 fn is_label(step: &Step, label: u32) -> bool
     ensures { result ≡ is_led (label_of_step step.now) label }
 {
@@ -135,7 +134,7 @@ fn is_label(step: &Step, label: u32) -> bool
     }
 }
 
-// Where a label stands: behind the last step, where it stands nowhere.
+// The place of a label; the place after the last step, if the label does not occur.
 fn place_of(code: &[Step], label: u32) -> usize
     ensures place { drop result code.now ≡ place code.now label }
     ensures within { result ≤ length code.now }
@@ -150,7 +149,7 @@ fn place_of(code: &[Step], label: u32) -> usize
     at
 }
 
-// What stands between a place and the return behind it: at most one light step.
+// What comes between a place and the return after it: at most one light step.
 fn last_of(code: &[Step], at: usize) -> Option<Option<Step>>
     ensures { option_map listed result ≡ last_of (drop at code.now) }
 {
@@ -182,10 +181,9 @@ fn ending(code: &[Step], label: u32) -> Option<Option<Step>>
     }
 }
 
-// How many light steps these begin with.
+// The number of light steps at the beginning.
 fn light_count(code: &[Step]) -> usize
     ensures within { result ≤ length code.now }
-    ensures count { result ≡ lights code.now }
     ensures light { (all : List Shown) → early_from all code.now ≡ option_map (with_before (take result code.now)) (early_test all (drop result code.now)) }
 {
     let mut count = 0;
@@ -198,7 +196,7 @@ fn light_count(code: &[Step]) -> usize
     count
 }
 
-// The steps that stand before the frame: these, the test the other way round, the return and the label.
+// The steps before the frame: these, the test the other way round, the return and the label.
 fn head_of(alloc: Global, before: &[Step], fork: Fork) -> Result<Vec<Step>, AllocError>
     ensures { IfOk result (λ head. head.items ≡ before.now ++ (fork.turned ∷ One Return ∷ One (Label fork.to) ∷ [])) }
 {
@@ -209,7 +207,7 @@ fn head_of(alloc: Global, before: &[Step], fork: Fork) -> Result<Vec<Step>, Allo
     Ok(head)
 }
 
-// The same with a step before the return.
+// The same with one more step before the return.
 fn head_with(
     alloc: Global,
     before: &[Step],
@@ -226,44 +224,7 @@ fn head_with(
     Ok(head)
 }
 
-// Whether a return is there, and after it that label.
-fn is_ending(code: &[Step], at: usize, label: u32) -> bool
-    ensures { result ≡ is_ending label (drop at code.now) }
-{
-    if at >= code.len() {
-        return false;
-    }
-    if !is_return(&code[at]) || at + 1 >= code.len() {
-        return false;
-    }
-    is_label(&code[at + 1], label)
-}
-
-// What comes before a frame if the test after so many steps leads to that label, and the function returns right after the test.
-fn staying(
-    alloc: Global,
-    code: &[Step],
-    count: usize,
-    label: u32,
-) -> Result<Option<Ahead>, AllocError>
-    requires { count < length code.now }
-    ensures found { IfOk result (λ found. option_map (shown code.now) found ≡ staying_from count label code.now) }
-    ensures few { IfOk result (λ found. IfSome found (λ a. (a.taken ≤ length code.now) × (length a.head.items ≤ length code.now + 4))) }
-{
-    let rest = &code[count + 1..];
-    let more = light_count(rest);
-    if !is_ending(rest, more, label) {
-        return Ok(None);
-    }
-    let taken = count + 1 + more + 1;
-    if taken >= code.len() {
-        return Ok(None);
-    }
-    let head = Vec::from_slice(alloc, &code[..taken + 1])?;
-    Ok(Some(Ahead { head, taken }))
-}
-
-// What comes before a frame, if there is such.
+// What stands before a frame, if there is such.
 fn found(alloc: Global, code: &[Step]) -> Result<Option<Ahead>, AllocError>
     ensures found { IfOk result (λ found. option_map (shown code.now) found ≡ early_from code.now code.now) }
     ensures few { IfOk result (λ found. IfSome found (λ a. (a.taken ≤ length code.now) × (length a.head.items ≤ length code.now + 4))) }
@@ -276,7 +237,7 @@ fn found(alloc: Global, code: &[Step]) -> Result<Option<Ahead>, AllocError>
         return Ok(None);
     };
     let Some(last) = ending(code, fork.to) else {
-        return staying(alloc, code, count, fork.to);
+        return Ok(None);
     };
     let before = &code[..count];
     let taken = count + 1;
@@ -292,7 +253,7 @@ fn found(alloc: Global, code: &[Step]) -> Result<Option<Ahead>, AllocError>
     }
 }
 
-/// What stands before the frame of a function with this many slots, if it has a frame and there is such.
+/// What comes before the frame of a function with this many slots, if it has a frame and anything comes before it.
 pub(crate) fn before_frame(
     alloc: Global,
     slots: u16,

@@ -1,4 +1,4 @@
-// The items of a function's code: those that stand for one step, and those of all steps behind the prologue.
+// The items of a function's code: those of one step, and those of all steps after the prologue.
 
 ghost use Rattle.std.specs.Prelude.{◌≡◌, ◌≤◌, ◌<◌, ◌+◌, ◌^◌, ◌++◌, ◌∷◌, [], ℕ, List, true, length, get_or, OnOk, IfOk};
 ghost use Rattle.std.specs.List.{AllByRecursion};
@@ -43,7 +43,7 @@ const WRITE: u32 = 1;
 /// The machine's service that reads a word.
 const READ: u32 = 2;
 
-// A word from one location to another.
+// Moves a word from one location to another.
 fn move_word(between: Move) -> Instr
     ensures { Plain result ≡ move_item between }
 {
@@ -54,7 +54,7 @@ fn move_word(between: Move) -> Instr
     }
 }
 
-// Puts the upper part of an address into x6, where it is needed and not there.
+// Puts the upper part of an address into x6, if it is needed and not there yet.
 fn put_upper(items: &mut Vec<PieceItem>, known: Remembered, address: u32) -> Result<(), AllocError>
     ensures { OnOk result (items.new.items ≡ items.old.items ++ upper_items known address) }
 {
@@ -67,7 +67,7 @@ fn put_upper(items: &mut Vec<PieceItem>, known: Remembered, address: u32) -> Res
     }
 }
 
-// The register from which an address is reached; where x5 holds the element's address, it is not used.
+// The register from which an address is reached. If x5 holds the element's address, the answer is not used.
 fn base_register(known: Remembered) -> u8
     ensures value { result ≡ base_register known }
     ensures below { result < 32 }
@@ -81,7 +81,7 @@ fn base_register(known: Remembered) -> u8
     }
 }
 
-// The access's offset, from that register or from what x5 holds of an element's address: an object's part of it.
+// The access's offset from that register, or from what x5 holds of an element's address: the object's part of the address.
 fn part_of(known: Remembered, address: u32) -> u32
     ensures value { result ≡ part_of known address }
     ensures fits { IsImmediate result }
@@ -92,7 +92,7 @@ fn part_of(known: Remembered, address: u32) -> u32
     }
 }
 
-// Puts an access to an element that lies this many bytes behind the first: x5 becomes its address, less the object's part of it.
+// Puts an access to an element that lies this many bytes after the first one: x5 becomes its address, minus the object's part of it.
 fn put_based(
     items: &mut Vec<PieceItem>,
     known: Remembered,
@@ -116,7 +116,7 @@ fn put_based(
     put(items, access)
 }
 
-// Puts an access to an element of that number.
+// Puts an access to the element whose number is in a register.
 fn put_indexed(
     items: &mut Vec<PieceItem>,
     known: Remembered,
@@ -155,7 +155,7 @@ fn put_load(
     put_indexed(items, known, width, base, index, access)
 }
 
-// Puts a store into one.
+// Puts a store into such an element.
 fn put_store(
     items: &mut Vec<PieceItem>,
     known: Remembered,
@@ -172,7 +172,7 @@ fn put_store(
     put_indexed(items, known, width, base, index, access)
 }
 
-// Puts a load of the element of that number.
+// Puts a load of the element with that number.
 fn put_load_at(
     items: &mut Vec<PieceItem>,
     known: Remembered,
@@ -190,7 +190,7 @@ fn put_load_at(
     put(items, access)
 }
 
-// Puts a store into the element of that number.
+// Puts a store into the element with that number.
 fn put_store_at(
     items: &mut Vec<PieceItem>,
     known: Remembered,
@@ -217,8 +217,8 @@ fn put_service(items: &mut Vec<PieceItem>, number: u32) -> Result<(), AllocError
     put(items, serve())
 }
 
-// Puts the items of one item of Linear, of whose address so much is known, and which has this many from it on, with each branch long;
-// `bases` has the objects' addresses.
+// Puts the items of one item of Linear. `known` is how much of its address is there, `here` the number of items from it on, with each
+// branch long; `bases` has the objects' addresses.
 fn put_items_of_one(
     items: &mut Vec<PieceItem>,
     frame: &Frame,
@@ -288,8 +288,8 @@ fn put_items_of_one(
     }
 }
 
-// Puts the items of a step, of whose address so much is known, and which has this many from it on, with each branch long; `bases` has the
-// objects' addresses.
+// Puts the items of a step. `known` is how much of its address is there, `here` the number of items from it on, with each branch long;
+// `bases` has the objects' addresses.
 fn put_items_of(
     items: &mut Vec<PieceItem>,
     frame: &Frame,
@@ -368,7 +368,7 @@ fn put_items_of(
     }
 }
 
-// Puts the items of a function behind its prologue.
+// Puts the items of a function after its prologue.
 fn put_code(
     items: &mut Vec<PieceItem>,
     frame: &Frame,
@@ -390,8 +390,8 @@ fn put_code(
     Ok(())
 }
 
-// The items of the code of a function with this many slots, all in its frame; `bases` has the objects' addresses, and the labels are below
-// `count`.
+// The items of the code of a function with this many slots, all in its frame. `bases` has the objects' addresses, and the labels are below
+// `count`. Err: memory ran out.
 fn whole_items(
     alloc: Global,
     slots: u16,
@@ -414,7 +414,7 @@ fn whole_items(
     Ok(items)
 }
 
-// An item of code that stands behind so many others. No memory holds so many that the sum is none.
+// An item of code after this many others. No memory holds so many items that the sum overflows.
 fn shifted(before: usize, item: PieceItem) -> Result<PieceItem, AllocError>
     ensures { IfOk result (λ moved. moved ≡ shifted before item) }
 {
@@ -427,7 +427,7 @@ fn shifted(before: usize, item: PieceItem) -> Result<PieceItem, AllocError>
     }
 }
 
-// Puts the items of code behind others.
+// Puts the items of some code after others.
 fn put_behind(items: &mut Vec<PieceItem>, rest: &[PieceItem]) -> Result<(), AllocError>
     ensures { OnOk result (items.new.items ≡ behind_items items.old.items rest.now) }
 {
@@ -439,7 +439,7 @@ fn put_behind(items: &mut Vec<PieceItem>, rest: &[PieceItem]) -> Result<(), Allo
     Ok(())
 }
 
-/// The items of the code of a function with this many slots; `bases` has the objects' addresses.
+/// The items of the code of a function with this many slots; `bases` has the objects' addresses. Err: memory ran out.
 pub(crate) fn function_items(
     alloc: Global,
     slots: u16,

@@ -1,4 +1,4 @@
-// The pass: the piece of a pair of Linear, by the steps that are selected for it.
+// The pass: the piece of a pair of selected steps.
 
 ghost use Rattle.std.specs.Prelude.{◌≡◌, IfOk};
 ghost use Rattle.cc_emit.specs.Function.{pair_frame, pair_items};
@@ -7,8 +7,7 @@ use crate::bases::Bases;
 use crate::emission::function_items;
 use crate::frame::frame_bytes;
 use crate::piece::Piece;
-use cc_linear_language::LinearPair;
-use cc_select::select;
+use cc_select::SelectedPair;
 use std::alloc::{AllocError, Global};
 use std::sync::Arc;
 
@@ -20,7 +19,7 @@ const MOST_STEPS: usize = 1 << 55;
 /// frame has.
 ///
 /// It fails only for lack of memory (40); the pair is gone then.
-pub fn emit(alloc: Global, pair: LinearPair) -> Result<Piece, AllocError>
+pub fn emit(alloc: Global, pair: SelectedPair) -> Result<Piece, AllocError>
     ensures mode { IfOk result (λ piece. piece.mode ≡ pair.mode) }
     ensures unit { IfOk result (λ piece. piece.unit ≡ pair.unit) }
     ensures function { IfOk result (λ piece. piece.function ≡ pair.function) }
@@ -28,16 +27,15 @@ pub fn emit(alloc: Global, pair: LinearPair) -> Result<Piece, AllocError>
     ensures frame { IfOk result (λ piece. piece.frame ≡ pair_frame pair) }
     ensures items { IfOk result (λ piece. piece.items ≡ pair_items pair) }
 {
-    let selected = select(alloc, pair)?;
-    let code = selected.code();
+    let code = pair.code();
     if code.len() > MOST_STEPS {
         return Err(AllocError);
     }
-    let bases = Bases::new(alloc, selected.unit().externals())?;
-    let items = function_items(alloc, selected.slots(), code, &bases)?;
-    let frame = frame_bytes(alloc, selected.slots(), code)?;
-    let mode = selected.mode();
-    let function = selected.function();
-    let (unit, ltl) = selected.into_parts();
+    let bases = Bases::new(alloc, pair.unit().externals())?;
+    let items = function_items(alloc, pair.slots(), code, &bases)?;
+    let frame = frame_bytes(alloc, pair.slots(), code)?;
+    let mode = pair.mode();
+    let function = pair.function();
+    let (unit, ltl) = pair.into_parts();
     Ok(Piece::new(mode, unit, function, ltl, frame, items))
 }

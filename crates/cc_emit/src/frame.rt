@@ -1,4 +1,4 @@
-// The frame of a function: its slots, and the registers that it saves behind them.
+// The frame of a function: its slots, and after them the registers that it saves.
 
 ghost use Rattle.std.specs.Prelude.{◌≡◌, ◌≤◌, ◌<◌, ◌+◌, ◌*◌, ◌++◌, ◌==◌, ℕ, false, length, get_or, IfOk, OnOk, MatchOption};
 ghost use Rattle.std.specs.List.{AllByRecursion};
@@ -17,13 +17,13 @@ use cc_select::Step;
 use std::alloc::{AllocError, Global};
 use std::marker::Model;
 
-/// The registers that a function gives back as it got them.
+/// The registers that a function leaves as it found them.
 const KEPT: [u8; 12] = [8, 9, 18, 19, 20, 21, 22, 23, 24, 25, 26, 27];
 
-/// The most registers that a function saves: those, and `x1`.
+/// A function saves at most this many registers: those, and `x1`.
 const MOST_SAVED: usize = 13;
 
-/// The frame of a function: whether it sets `x3`, at most 495 slots and 13 registers. A clause sees all three.
+/// The frame of a function: whether it sets `x3`, at most 495 slots, and at most 13 registers. Contracts see all three.
 #[derive(Drop)]
 pub(crate) struct Frame {
     sets_pointer: bool,
@@ -45,7 +45,7 @@ impl Model for Frame {
 }
 
 impl Frame {
-    /// The frame of these steps; `sets_pointer` where the function sets `x3`.
+    /// The frame of these steps; `sets_pointer` says whether the function sets `x3`.
     pub(crate) fn new(
         alloc: Global,
         sets_pointer: bool,
@@ -81,7 +81,7 @@ impl Frame {
         self.saved.as_slice()
     }
 
-    /// How many bytes it has.
+    /// Its number of bytes.
     pub(crate) fn size(&self) -> u32
         ensures answer { result ≡ frame_size self.now }
         ensures small { result ≤ 2032 }
@@ -89,7 +89,7 @@ impl Frame {
         4 * (u32::from(self.slots) + self.saved.len() as u32)
     }
 
-    /// How many items move the stack pointer by it: one, and none where the frame is empty.
+    /// The number of items that move the stack pointer by it: one, or none if the frame is empty.
     pub(crate) fn moves(&self) -> usize
         ensures answer { result ≡ stack_moved_size self.now }
         ensures few { result ≤ 1 }
@@ -97,7 +97,7 @@ impl Frame {
         usize::from(self.size() != 0)
     }
 
-    /// How many items come before those of the function's steps: at most 16.
+    /// The number of items before those of the function's steps: at most 16.
     pub(crate) fn prologue_size(&self) -> usize
         ensures answer { result ≡ prologue_size self.now }
         ensures few { result ≤ 16 }
@@ -105,7 +105,7 @@ impl Frame {
         pointer_size(self.sets_pointer) + (self.moves() + self.saved.len())
     }
 
-    /// `x3` is set, the stack pointer goes down by the frame's size, and the registers are saved.
+    /// Puts the prologue: `x3` is set, the stack pointer goes down by the frame's size, and the registers are saved.
     pub(crate) fn put_prologue(&self, items: &mut Vec<PieceItem>) -> Result<(), AllocError>
         ensures { OnOk result (items.new.items ≡ items.old.items ++ prologue self.now) }
     {
@@ -120,7 +120,7 @@ impl Frame {
         put_saving(items, 4 * u32::from(self.slots), self.saved.as_slice())
     }
 
-    /// The registers are restored, the stack pointer goes up, and the function returns.
+    /// Puts the epilogue: the registers are restored, the stack pointer goes up, and the function returns.
     pub(crate) fn put_epilogue(&self, items: &mut Vec<PieceItem>) -> Result<(), AllocError>
         ensures { OnOk result (items.new.items ≡ items.old.items ++ epilogue self.now) }
     {
@@ -133,7 +133,7 @@ impl Frame {
     }
 }
 
-/// How many bytes the frame of a function with these slots and steps has.
+/// The number of bytes of the frame of a function with these slots and steps. Err: memory ran out.
 pub(crate) fn frame_bytes(alloc: Global, slots: u16, code: &[Step]) -> Result<u32, AllocError>
     requires { slots ≤ most_slots }
     ensures { IfOk result (λ bytes. bytes ≡ frame_size (frame_of false slots code.now)) }
@@ -142,7 +142,7 @@ pub(crate) fn frame_bytes(alloc: Global, slots: u16, code: &[Step]) -> Result<u3
     Ok(frame.size())
 }
 
-/// How many items set `x3`: two where the function sets it, else none.
+/// The number of items that set `x3`: two if the function sets it, else none.
 pub(crate) fn pointer_size(sets_pointer: bool) -> usize
     ensures answer { result ≡ pointer_size sets_pointer }
     ensures few { result ≤ 2 }
@@ -193,7 +193,7 @@ fn is_call(step: &Step) -> bool
     matches!(step, Step::One(LinearItem::Call { .. }))
 }
 
-// Of each register whether steps write it, other than one that a call destroys.
+// For each register, whether steps write it, other than as a register that a call destroys.
 fn written(code: &[Step]) -> [bool; 32]
     ensures { (r : ℕ) → r < 32 → get_or result r false ≡ is_written code.now r }
 {

@@ -1,4 +1,4 @@
-// Instructions by the numbers of their operands, as items, and a word cut in two, for `lui` and the instruction behind it.
+// Instructions by the numbers of their operands, as items; and a word split in two, for `lui` and the instruction after it.
 
 ghost use Rattle.std.specs.Prelude.{◌≡◌, ◌<◌, ◌^◌, ◌++◌, ◌∷◌, [], OnOk};
 ghost use Rattle.cc_rv32.specs.Fields.{IsImmediate, IsBranchOffset};
@@ -21,16 +21,16 @@ use cc_rv32::operand::{BranchOffset, Immediate, Register, ShiftCount, UpperImmed
 use cc_words::Width;
 use std::alloc::AllocError;
 
-/// What `x3` holds where a function sets it: an access reaches the first 4 KiB of the globals from there.
+/// The word in `x3` in a function that sets it: an access reaches the first 4 KiB of the globals from there.
 pub(crate) const GLOBAL_POINTER: u32 = GLOBALS_FROM + 2048;
 
 /// `x0`, which holds 0.
 pub(crate) const ZERO: u8 = 0;
-/// `x1`, in which a call leaves the address behind it.
+/// `x1`, in which a call leaves the address after it.
 pub(crate) const RETURN_ADDRESS: u8 = 1;
 /// `x2`, the address of the frame.
 pub(crate) const STACK: u8 = 2;
-/// `x3`, the global pointer where a function sets it.
+/// `x3`, the global pointer in a function that sets it.
 pub(crate) const POINTER: u8 = 3;
 /// `x5`, for a result between two instructions of a step, and for an element's address.
 pub(crate) const SCRATCH: u8 = 5;
@@ -39,7 +39,7 @@ pub(crate) const OTHER_SCRATCH: u8 = 6;
 /// `x17`, in which the machine finds the number of a service.
 pub(crate) const SERVICE: u8 = 17;
 
-/// Puts an item behind the others.
+/// Puts an item after the others.
 pub(crate) fn put_item(items: &mut Vec<PieceItem>, item: PieceItem) -> Result<(), AllocError>
     ensures { OnOk result (items.new.items ≡ items.old.items ++ item ∷ []) }
 {
@@ -52,7 +52,7 @@ pub(crate) fn put_item(items: &mut Vec<PieceItem>, item: PieceItem) -> Result<()
     }
 }
 
-/// Puts an instruction behind the others.
+/// Puts an instruction after the others.
 pub(crate) fn put(items: &mut Vec<PieceItem>, instr: Instr) -> Result<(), AllocError>
     ensures { OnOk result (items.new.items ≡ items.old.items ++ Plain instr ∷ []) }
 {
@@ -206,7 +206,7 @@ pub(crate) fn load_upper(to: u8, field: u32) -> Instr
     }
 }
 
-/// Back to where the function was called.
+/// Goes back to where the function was called.
 pub(crate) fn go_back() -> Instr
     ensures { result ≡ Jalr 0 1 0 }
 {
@@ -217,14 +217,14 @@ pub(crate) fn go_back() -> Instr
     }
 }
 
-/// The machine's service whose number `x17` holds.
+/// Calls the machine's service whose number is in `x17`.
 pub(crate) fn serve() -> Instr
     ensures { result ≡ Ecall }
 {
     Instr::Ecall
 }
 
-/// The lower twelve bits of a word, as the immediate that they are with their sign.
+/// The lower twelve bits of a word, as a sign-extended immediate.
 pub(crate) fn low(word: u32) -> u32
     ensures value { result ≡ low word }
     ensures fits { IsImmediate result }
@@ -237,7 +237,7 @@ pub(crate) fn low(word: u32) -> u32
     }
 }
 
-/// The upper twenty bits of a word, and one more where the lower twelve, with their sign, are below 0.
+/// The upper twenty bits of a word, plus one if the lower twelve bits, sign-extended, are below 0.
 pub(crate) fn high(word: u32) -> u32
     ensures value { result ≡ high word }
     ensures fits { result < 2 ^ 20 }
@@ -245,7 +245,7 @@ pub(crate) fn high(word: u32) -> u32
     ((u64::from(word) + 2048) / 4096 % 1_048_576) as u32
 }
 
-/// How far from `x3` an address lies that it reaches.
+/// The distance from `x3` of an address within its reach.
 pub(crate) fn from_pointer(address: u32) -> u32
     ensures value { result ≡ from_pointer address }
     ensures fits { IsImmediate result }

@@ -1,4 +1,4 @@
-// The items of a function's code, before it is known where the code stands.
+// The items of a function's code, before it is known where the code will be.
 
 use cc_rv32::instr::Instr;
 
@@ -7,8 +7,8 @@ use cc_rv32::instr::Instr;
 pub enum PieceItem {
     /// An instruction.
     Plain(Instr),
-    /// A call of the function of that number, in the order of definitions.
+    /// A call of the function with that number, in the order of definitions.
     Call(u32),
-    /// A jump to the item of that number of the same piece, counted from 0.
+    /// A jump to the item with that number in the same piece, counted from 0.
     Go(usize),
 }

@@ -1,5 +1,5 @@
-// Loops: a step is in one where it stands between a label and a later step that leads back to it. Of each label it is noted how far the last
-// such step is from the beginning, so the first steps need not be looked at again.
+// Loops: a step is in a loop if it is between a label and a later step that leads back to the label. For each label the code notes how far
+// the last such step is from the beginning, so the first steps need not be looked at again.
 
 ghost use Rattle.std.specs.Prelude.{◌≡◌, ◌<◌, ℕ, length, get_or, IfOk};
 ghost use Rattle.cc_emit.specs.Emission.{label_of_step};
@@ -27,7 +27,7 @@ fn led_to(step: &Step) -> Option<u32>
     }
 }
 
-// Notes of a step that has this many up to it, and leads to a label, that no step before it is the last that does.
+// Notes a step that leads to a label, if no later step does; `at` is the number of steps up to it.
 fn note(last: &mut Vec<usize>, step: &Step, at: usize)
     ensures long { length last.new.items ≡ length last.old.items }
     ensures each { (label : ℕ) → label < length last.old.items → get_or last.new.items label 0 ≡ noted (is_led (led_to step.now) label) (get_or last.old.items label 0) at }
@@ -40,7 +40,7 @@ fn note(last: &mut Vec<usize>, step: &Step, at: usize)
     }
 }
 
-/// Of each label below a number, how many steps there are up to the last that leads to it: 0 where none does.
+/// For each label below a number, the number of steps up to the last one that leads to it; 0 if none does. Err: memory ran out.
 pub(crate) fn last_leads(
     alloc: Global,
     code: &[Step],
@@ -63,7 +63,7 @@ fn later(a: usize, b: usize) -> usize
     if a < b { b } else { a }
 }
 
-/// How many steps there are up to the last that leads back to a label before what is behind this step.
+/// The number of steps up to the last one that leads back to a label before the point after this step.
 pub(crate) fn reach_past(last: &[usize], reach: usize, step: &Step) -> usize
     ensures { result ≡ reach_past last.now (label_of_step step.now) reach }
 {

@@ -1,6 +1,6 @@
 // Operators: the items of each, by its recipe.
 
-ghost use Rattle.std.specs.Prelude.{◌≡◌, ◌<◌, ◌≤◌, ◌%◌, ◌++◌, OnOk};
+ghost use Rattle.std.specs.Prelude.{◌≡◌, ◌<◌, ◌++◌, OnOk};
 ghost use Rattle.cc_emit.specs.Emission.{recipe, recipe_items, word_recipe, word_recipe_items, unary_instr};
 ghost use Rattle.cc_rv32.specs.declared.instr.Instr.TheVariants.{Op, OpImm};
 ghost use Rattle.cc_rv32.specs.declared.instr.RegisterOperation.TheVariants.{Sltu};
@@ -93,7 +93,7 @@ fn is_zero(to: u8) -> Instr
     operate_immediate(ImmediateOperation::Sltiu, to, SCRATCH, 1)
 }
 
-// Whether it is not.
+// Whether the scratch register's word is not 0.
 fn is_nonzero(to: u8) -> Instr
     requires { to < 32 }
     ensures { result ≡ Op Sltu to 0 5 }

@@ -1,4 +1,4 @@
-// The code of one function of a unit, with the fact that the machine does with it what the function does.
+// The code of one function of a unit, together with the fact that it makes the machine do what the function does.
 
 ghost use Rattle.std.specs.Prelude.{◌≡◌, ◌<◌, ◌≤◌, length};
 ghost use Rattle.std.specs.Arc.{arc_value};
@@ -15,9 +15,9 @@ use cc_types::TypedUnit;
 use std::marker::Model;
 use std::sync::Arc;
 
-/// The code of one function of a typed unit, and the LTL that it was made of. Contracts see the unit, the function's number, the LTL and
-/// the items; that the machine does with the items what the function does, wherever they stand, belongs to the type, so nobody holds a
-/// piece of which it is not true.
+/// The code of one function of a typed unit, and the LTL from which it was made. Contracts see the unit, the function's number, the LTL and
+/// the items. The type carries the fact that the machine does with the items what the function does, wherever they are, so no piece exists
+/// for which this is false.
 pub struct Piece {
     mode: Mode,
     unit: Arc<TypedUnit>,
@@ -27,7 +27,7 @@ pub struct Piece {
     items: Vec<PieceItem>,
 }
 
-// By hand, so that crates above call it and do not prove anew how each part is dropped.
+// Written by hand, so that crates above call it and need not prove again how each part is dropped.
 impl Drop for Piece {
     fn drop(self) {
         let Piece {
@@ -58,7 +58,7 @@ impl Model for Piece {
 }
 
 impl Piece {
-    // The one place where a piece is made.
+    // The only place where a piece is made.
     pub(crate) fn new(
         mode: Mode,
         unit: Arc<TypedUnit>,
@@ -80,7 +80,7 @@ impl Piece {
         }
     }
 
-    /// What the code owes if the function goes wrong.
+    /// The mode: what the code owes if the function goes wrong.
     pub fn mode(&self) -> Mode
         ensures answer { result ≡ self.now.mode }
     {
@@ -102,7 +102,7 @@ impl Piece {
         self.function
     }
 
-    /// The LTL that its code was made of: at most 4,096 blocks, whose run keeps up with the function.
+    /// The LTL from which its code was made: at most 4,096 blocks, whose run keeps up with the function.
     pub fn ltl(&self) -> &Ltl
         ensures ltl { result.now ≡ self.now.ltl }
         ensures is_ltl { IsLtl self.now.ltl }
@@ -112,7 +112,7 @@ impl Piece {
         &self.ltl
     }
 
-    /// How many bytes its frame has: at most 2,032.
+    /// The number of bytes of its frame: at most 2,032.
     pub fn frame(&self) -> u32
         ensures answer { result ≡ self.now.frame }
         ensures small { self.now.frame ≤ largest_frame }
@@ -120,8 +120,8 @@ impl Piece {
         self.frame
     }
 
-    /// The items of its code, one for each word. Each call is of a function of the unit, and each jump goes to an item of the piece or
-    /// to its end. Wherever they stand, the machine does with them what the function does.
+    /// The items of its code, one for each word. Each call is of a function of the unit, and each jump goes to an item of the piece or to
+    /// its end. Wherever the items are, the machine does with them what the function does.
     pub fn items(&self) -> &[PieceItem]
         ensures items { result.now ≡ self.now.items }
         ensures piece { IsPieceOfUnit self.now }

@@ -1,4 +1,5 @@
-// How operators become instructions: by one, or by asking of one's result whether it is 0. How many these are and which follows from that.
+// How operators become instructions: one instruction, or one followed by asking whether its result is 0. And how many instructions that
+// takes.
 
 ghost use Rattle.std.specs.Prelude.{◌≡◌, ◌<◌, ◌≤◌};
 ghost use Rattle.cc_emit.specs.Branches.{asked_of};
@@ -13,21 +14,21 @@ use cc_rv32::instr::{
 use cc_select::WordOperator;
 use cc_words::{Binary, add, sub};
 
-/// How an operator on two words is made.
+/// The instructions for an operator on two words.
 #[derive(Clone, Copy)]
 pub(crate) enum Recipe {
-    /// By one instruction.
+    /// One instruction.
     Direct(RegisterOperation),
-    /// By asking whether the word that an instruction gives is 0.
+    /// Asking whether the word that an instruction gives is 0.
     ZeroOf(RegisterOperation),
     /// The same, with the operands exchanged.
     ZeroOfExchanged(RegisterOperation),
-    /// By asking whether that word is not 0.
+    /// Asking whether that word is not 0.
     NonzeroOf(RegisterOperation),
 }
 
 impl Recipe {
-    /// That of an operator.
+    /// The recipe of an operator.
     pub(crate) fn of(operator: Binary) -> Recipe
         ensures { result ≡ recipe operator }
     {
@@ -55,7 +56,7 @@ impl Recipe {
         }
     }
 
-    /// How many items it takes.
+    /// The number of items that it takes.
     pub(crate) fn size(self) -> usize
         ensures answer { result ≡ recipe_size self }
         ensures few { result ≤ 2 }
@@ -67,23 +68,23 @@ impl Recipe {
     }
 }
 
-/// How an operator on a register and a word is made.
+/// The instructions for an operator on a register and a word.
 #[derive(Clone, Copy)]
 pub(crate) enum WordRecipe {
-    /// By one instruction with an immediate.
+    /// One instruction with an immediate.
     WithImmediate(ImmediateOperation, u32),
-    /// By a shift.
+    /// A shift.
     ShiftBy(ShiftOperation, u8),
-    /// By one instruction on 0 and the register.
+    /// One instruction on 0 and the register.
     OnZero(RegisterOperation),
-    /// By asking whether the word that an instruction with an immediate gives is 0.
+    /// Asking whether the word that an instruction with an immediate gives is 0.
     ZeroOfImmediate(ImmediateOperation, u32),
-    /// By asking whether that word is not 0.
+    /// Asking whether that word is not 0.
     NonzeroOfImmediate(ImmediateOperation, u32),
 }
 
 impl WordRecipe {
-    /// That of an operator and a word.
+    /// The recipe of an operator and a word.
     pub(crate) fn of(operator: WordOperator, word: u32) -> WordRecipe
         ensures answer { result ≡ word_recipe operator word }
         ensures fits { HasRoom result }
@@ -119,7 +120,7 @@ impl WordRecipe {
         }
     }
 
-    /// How many items it takes.
+    /// The number of items that it takes.
     pub(crate) fn size(self) -> usize
         ensures answer { result ≡ word_recipe_size self }
         ensures few { result ≤ 2 }
@@ -131,7 +132,7 @@ impl WordRecipe {
         }
     }
 
-    /// The instruction that it begins with, into a register.
+    /// The first instruction, with its result in a register.
     pub(crate) fn first(self, to: u8, from: u8) -> Instr
         requires room { HasRoom self }
         requires to { to < 32 }
@@ -149,7 +150,7 @@ impl WordRecipe {
         }
     }
 
-    /// How the word of that instruction compares to 0 where the recipe gives a word that is not 0.
+    /// How the word of that instruction compares to 0 if the recipe gives a word that is not 0.
     pub(crate) fn asked(self) -> BranchOperation
         ensures { result ≡ asked_of self }
     {
@@ -160,7 +161,7 @@ impl WordRecipe {
     }
 }
 
-// Whether a register's word is this one: less than 1, as unsigned, for 0.
+// Whether a register's word is this one. For 0: whether it is less than 1, as unsigned.
 fn equal_to(word: u32) -> WordRecipe
     ensures answer { result ≡ word_recipe Eq word }
     ensures fits { HasRoom result }
@@ -172,7 +173,7 @@ fn equal_to(word: u32) -> WordRecipe
     }
 }
 
-// Whether it is another: more than 0, as unsigned, for 0.
+// Whether a register's word is another one. For 0: whether it is more than 0, as unsigned.
 fn unequal_to(word: u32) -> WordRecipe
     ensures answer { result ≡ word_recipe Ne word }
     ensures fits { HasRoom result }

@@ -1,15 +1,15 @@
 // What the scratch registers hold within a straight piece. An access leaves in `x6` the upper part of an address, and in `x5` the address
-// of an element, less the lower part of its object's address, or less the object's distance from `x3`; later accesses take what they need
-// of it. It is forgotten at a label and a call, and the element's address where its index register is written or `x5` is used. What is
-// reached from `x3`, the global pointer, needs no upper part; a function sets `x3` where its accesses take fewer instructions so, those in
-// loops counted eight times, and those that set it counted.
+// of an element, minus the lower part of its object's address or minus the object's distance from `x3`. Later accesses use what they need
+// of it. It is forgotten at a label and at a call; the element's address is also forgotten if its index register is written or `x5` is
+// used. What is reached from `x3`, the global pointer, needs no upper part. A function sets `x3` if its accesses then take fewer
+// instructions, including those that set it; accesses in loops count eight times.
 
 ghost use Rattle.std.specs.Prelude.{◌≡◌, ◌≤◌, ◌<◌, ◌^◌, Bool, [], length, if◌then◌else◌, IfOk};
 ghost use Rattle.std.specs.List.{AllByRecursion};
 ghost use Rattle.cc_words.specs.Widths.{same_width};
 ghost use Rattle.cc_select.specs.declared.step.Step.TheVariants.{One};
 ghost use Rattle.cc_select.specs.Selected.{labels};
-ghost use Rattle.cc_emit.specs.Emission.{recipe, word_recipe};
+ghost use Rattle.cc_emit.specs.Emission.{recipe};
 ghost use Rattle.cc_emit.specs.Branches.{against_zero};
 ghost use Rattle.cc_emit.specs.Scratch.{nothing, is_upper, is_address, is_in_reach, known_of, known_at, remembered, without, without_address, upper_behind, sum_base, step_access_size, loop_weight, accesses_size, gains, behind_move, behind_recipe, behind_word_recipe, behind_word_branch, behind_element, behind_at, behind_one, behind_step, addressed};
 ghost use Rattle.cc_emit.specs.internal.Bases.{base_in};
@@ -33,17 +33,17 @@ use std::alloc::{AllocError, Global};
 /// The register in which a read leaves its word.
 const RESULT: u8 = 10;
 
-/// The address of an element of an object, less the lower part of the object's address, or less the object's distance from `x3`.
+/// The address of an element of an object, minus the lower part of the object's address or minus the object's distance from `x3`.
 #[derive(Clone, Copy)]
 pub(crate) struct ElementAddress {
     width: Width,
     /// The register that holds the element's number.
     index: u8,
-    /// What is in the address besides: the upper part of the object's, times 4,096, or the global pointer.
+    /// The other part of the address: the upper part of the object's address, times 4,096, or the global pointer.
     sum_base: u32,
 }
 
-/// What `x6` holds of an upper part, and `x5` of an element's address.
+/// The upper part in `x6`, and the element's address in `x5`.
 #[derive(Clone, Copy)]
 pub(crate) struct Scratch {
     upper: Option<u32>,
@@ -51,7 +51,7 @@ pub(crate) struct Scratch {
 }
 
 impl Scratch {
-    // Nothing is known of them.
+    // Nothing is known about them.
     fn nothing() -> Scratch
         ensures { result ≡ nothing }
     {
@@ -83,7 +83,7 @@ impl Scratch {
         }
     }
 
-    // What is there of the address of an element whose number is in a register; `sets_pointer` where x3 is the global pointer.
+    // How much of the address of an element whose number is in a register is there; `sets_pointer` says whether x3 is the global pointer.
     fn known_of(&self, sets_pointer: bool, width: Width, base: u32, index: u8) -> Remembered
         ensures { result ≡ known_of sets_pointer self.now width base index }
     {
@@ -102,7 +102,7 @@ impl Scratch {
         }
     }
 
-    // What is there of an address.
+    // How much of an address is there.
     fn known_at(&self, sets_pointer: bool, address: u32) -> Remembered
         ensures { result ≡ known_at sets_pointer self.now address }
     {
@@ -115,7 +115,7 @@ impl Scratch {
         }
     }
 
-    // What is there of the address of the element that an item of Linear reads or writes.
+    // How much of the address of the element that an item of Linear reads or writes is there.
     fn remembered_of_one(&self, bases: &Bases, sets_pointer: bool, item: LinearItem) -> Remembered
         ensures { result ≡ remembered (base_in bases.now) sets_pointer self.now (One item) }
     {
@@ -136,7 +136,7 @@ impl Scratch {
         }
     }
 
-    // What is there of the address of a step's element.
+    // How much of the address of a step's element is there.
     fn remembered(&self, bases: &Bases, sets_pointer: bool, step: Step) -> Remembered
         ensures { result ≡ remembered (base_in bases.now) sets_pointer self.now step }
     {
@@ -178,7 +178,7 @@ impl Scratch {
         }
     }
 
-    // A register is written.
+    // Notes that a register is written.
     fn write(&mut self, register: u8)
         ensures { self.new ≡ without register self.old }
     {
@@ -188,14 +188,14 @@ impl Scratch {
         }
     }
 
-    // `x5` is used.
+    // Notes that `x5` is used.
     fn use_scratch(&mut self)
         ensures { self.new ≡ without_address self.old }
     {
         self.address = None;
     }
 
-    // Goes behind a move.
+    // Advances past a move.
     fn go_behind_move(&mut self, between: Move)
         ensures { self.new ≡ behind_move between self.old }
     {
@@ -205,7 +205,7 @@ impl Scratch {
         }
     }
 
-    // Goes behind an operator on two words.
+    // Advances past an operator on two words.
     fn go_behind_recipe(&mut self, recipe: Recipe, to: u8)
         ensures { self.new ≡ behind_recipe recipe to self.old }
     {
@@ -218,7 +218,7 @@ impl Scratch {
         self.write(to);
     }
 
-    // Goes behind an operator on a register and a word.
+    // Advances past an operator on a register and a word.
     fn go_behind_word_recipe(&mut self, recipe: WordRecipe, to: u8)
         ensures { self.new ≡ behind_word_recipe recipe to self.old }
     {
@@ -232,7 +232,7 @@ impl Scratch {
         self.write(to);
     }
 
-    // Goes behind a branch on a register and a word that is not taken.
+    // Advances past a branch on a register and a word that is not taken.
     fn go_behind_word_branch(&mut self, recipe: WordRecipe, from: u8)
         requires { from < 32 }
         ensures { self.new ≡ behind_word_branch (against_zero recipe from) self.old }
@@ -242,7 +242,7 @@ impl Scratch {
         }
     }
 
-    // What x6 holds of an upper part behind an access.
+    // The upper part in x6 after an access.
     fn upper_behind(&self, known: Remembered, address: u32) -> Option<u32>
         ensures { result ≡ upper_behind known self.now.upper address }
     {
@@ -253,7 +253,7 @@ impl Scratch {
         }
     }
 
-    // Goes behind an access to an element whose number is in a register, of whose address so much was there.
+    // Advances past an access to an element whose number is in a register; `known` is how much of its address was there.
     fn go_behind_element(&mut self, known: Remembered, width: Width, base: u32, index: u8)
         ensures { self.new ≡ behind_element known self.old width base index }
     {
@@ -265,14 +265,14 @@ impl Scratch {
         });
     }
 
-    // Goes behind an access to an address, of which so much was there.
+    // Advances past an access to an address; `known` is how much of it was there.
     fn go_behind_at(&mut self, known: Remembered, address: u32)
         ensures { self.new ≡ behind_at known self.old address }
     {
         self.upper = self.upper_behind(known, address);
     }
 
-    // Goes behind an item of Linear, of the address of whose element so much was there.
+    // Advances past an item of Linear; `known` is how much of its element's address was there.
     fn go_behind_one(&mut self, bases: &Bases, known: Remembered, item: LinearItem)
         ensures { (sets_pointer : Bool) → known ≡ remembered (base_in bases.now) sets_pointer self.old (One item) → self.new ≡ behind_one (base_in bases.now) sets_pointer item self.old }
     {
@@ -312,7 +312,7 @@ impl Scratch {
         }
     }
 
-    // Goes behind a step, of the address of whose element so much was there.
+    // Advances past a step; `known` is how much of its element's address was there.
     fn go_behind(&mut self, bases: &Bases, known: Remembered, step: Step)
         ensures { (sets_pointer : Bool) → known ≡ remembered (base_in bases.now) sets_pointer self.old step → self.new ≡ behind_step (base_in bases.now) sets_pointer step self.old }
     {
@@ -388,7 +388,7 @@ fn is_in_reach(address: u32) -> bool
     GLOBALS_FROM <= address && address < GLOBALS_FROM + 4096
 }
 
-// What x5 holds behind an access, besides an element's number in bytes.
+// What x5 holds after an access, in addition to an element's number in bytes.
 fn sum_base(known: Remembered, base: u32) -> u32
     ensures { result ≡ sum_base known base }
 {
@@ -398,7 +398,7 @@ fn sum_base(known: Remembered, base: u32) -> u32
     }
 }
 
-// How many instructions the access of a step takes, where it has one: at most 4.
+// The number of instructions that the access of a step takes, if it has one: at most 4.
 fn step_access_size(known: Remembered, step: Step) -> usize
     ensures answer { result ≡ step_access_size known step }
     ensures few { result ≤ 4 }
@@ -412,10 +412,10 @@ fn step_access_size(known: Remembered, step: Step) -> usize
     }
 }
 
-/// How often an access in a loop counts.
+/// An access in a loop counts this many times.
 const LOOP_WEIGHT: usize = 8;
 
-// How often an access counts.
+// How many times an access counts.
 fn weight(in_loop: bool) -> usize
     ensures answer { result ≡ (if in_loop then loop_weight else 1) }
     ensures few { result ≤ 8 }
@@ -423,15 +423,15 @@ fn weight(in_loop: bool) -> usize
     if in_loop { LOOP_WEIGHT } else { 1 }
 }
 
-// The steps of a function, each with what is there of its address, and how many instructions their accesses take in all, each as often as
-// it counts.
+// The steps of a function, each with how much of its address is there, and how many instructions their accesses take together, each counted
+// by its weight.
 #[derive(Drop)]
 struct Walked {
     steps: Vec<Addressed>,
     accesses: usize,
 }
 
-// The steps of a function, each with what is there of its address; `bases` has the objects' addresses, `sets_pointer` says whether `x3`
+// The steps of a function, each with how much of its address is there; `bases` has the objects' addresses, `sets_pointer` says whether `x3`
 // is the global pointer, `last` which steps are in loops. Their accesses take at most 2^61 instructions.
 fn walk(
     alloc: Global,
@@ -463,9 +463,9 @@ fn walk(
     Ok(Walked { steps, accesses })
 }
 
-/// The steps of a function, each with what is there of its address, and whether the function sets `x3` to the global pointer: where its
-/// accesses take fewer instructions with it, those in loops counted eight times, and the two that set it counted. `bases` has the objects'
-/// addresses; the labels are below `count`.
+/// The steps of a function, each with how much of its address is there, and whether the function sets `x3` to the global pointer: it does
+/// if its accesses then take fewer instructions, including the two that set it; accesses in loops count eight times. `bases` has the
+/// objects' addresses; the labels are below `count`.
 pub(crate) fn addressed(
     alloc: Global,
     bases: &Bases,

@@ -1,6 +1,6 @@
-// Where labels stand. A place is told by how many items come from it on, so a table of labels is filled from the back, and each sum is
-// known where it is needed. A first table takes each branch for long; by it a branch is near or far. A second one has the places with
-// each branch as long as it is.
+// The places of labels. A place is given by the number of items from it on, so a table of labels is filled from the back, and each sum is
+// known when it is needed. A first table takes each branch as long; it decides which branches are near. A second one has the places with
+// each branch at its final length.
 
 ghost use Rattle.std.specs.Prelude.{◌≡◌, ◌≤◌, ◌<◌, ◌^◌, length, get_or, ℕ, List, [], ◌∷◌, false, IfOk};
 ghost use Rattle.std.specs.List.{AllByRecursion};
@@ -20,8 +20,8 @@ use cc_select::Step;
 use cc_words::Width;
 use std::alloc::{AllocError, Global};
 
-/// Where the labels of a function stand, by how many items come from there on: with each branch long, and with each as long as it is;
-/// how many items there are behind the prologue with each branch long, and how many the function's code has.
+/// The places of a function's labels, as the number of items from there on: with each branch long, and with each at its final length; the
+/// number of items after the prologue with each branch long, and the number of items of the function's code.
 #[derive(Drop)]
 pub(crate) struct Places {
     first: Vec<usize>,
@@ -31,7 +31,7 @@ pub(crate) struct Places {
 }
 
 impl Places {
-    /// Those of these steps, for the labels below a number.
+    /// The places for these steps, for the labels below a number. Err: memory ran out.
     pub(crate) fn new(
         alloc: Global,
         frame: &Frame,
@@ -54,28 +54,28 @@ impl Places {
         })
     }
 
-    /// How many items there are behind the prologue, with each branch long.
+    /// The number of items after the prologue, with each branch long.
     pub(crate) fn long(&self) -> usize
         ensures { result ≡ self.now.long }
     {
         self.long
     }
 
-    /// How many items the function's code has.
+    /// The number of items of the function's code.
     pub(crate) fn end(&self) -> usize
         ensures { result ≡ self.now.end }
     {
         self.end
     }
 
-    /// Whether a branch to a label is near that has this many items from it on, with each branch long.
+    /// Whether a branch to a label is near; `here` is the number of items from the branch on, with each branch long.
     pub(crate) fn is_near(&self, here: usize, label: u32) -> bool
         ensures { result ≡ near_behind self.now.first.items here label }
     {
         is_near(self.first.as_slice(), here, label)
     }
 
-    /// The place of a label, by how many items are before it.
+    /// The place of a label, as the number of items before it.
     pub(crate) fn place(&self, label: u32) -> usize
         requires known { label < length self.now.second.items }
         requires within { get_or self.now.second.items label 0 ≤ self.now.end }
@@ -85,7 +85,7 @@ impl Places {
     }
 }
 
-/// A number that is above each label of these steps.
+/// A number above all labels of these steps.
 pub(crate) fn label_count(code: &[Step]) -> usize
     ensures { AllByRecursion (λ label. label < result) (labels code.now) }
 {
@@ -96,7 +96,7 @@ pub(crate) fn label_count(code: &[Step]) -> usize
     count
 }
 
-// One more than a step's label, and 0 where it is none.
+// A step's label plus one; 0 if it is not a label.
 fn above_label(step: &Step) -> usize
     ensures { (n : ℕ) (rest : List Shown) → result ≤ n → AllByRecursion (λ label. label < n) (labels rest) → AllByRecursion (λ label. label < n) (labels (step.now ∷ rest)) }
 {
@@ -106,7 +106,7 @@ fn above_label(step: &Step) -> usize
     }
 }
 
-// Whether a branch reaches one place from another and from the next place: they are at most 1,023 items apart.
+// Whether a branch reaches one place from another and from the place after that: they are at most 1,023 items apart.
 fn is_close(from: usize, to: usize) -> bool
     ensures { result ≡ is_close from to }
 {
@@ -117,7 +117,7 @@ fn is_close(from: usize, to: usize) -> bool
     }
 }
 
-// Whether a branch is near that has this many items from it on, where the first table knows its label.
+// Whether a branch is near, if the first table knows its label; `here` is the number of items from the branch on.
 fn is_near(first: &[usize], here: usize, label: u32) -> bool
     ensures { result ≡ near_behind first.now here label }
 {
@@ -127,7 +127,7 @@ fn is_near(first: &[usize], here: usize, label: u32) -> bool
     }
 }
 
-/// How many items an access to an element takes whose number is in a register.
+/// The number of items of an access to an element whose number is in a register.
 pub(crate) fn access_size(known: Remembered, width: Width) -> usize
     ensures answer { result ≡ access_size known width }
     ensures few { result ≤ 4 }
@@ -141,7 +141,7 @@ pub(crate) fn access_size(known: Remembered, width: Width) -> usize
     }
 }
 
-/// How many items an access to an element takes whose number is known.
+/// The number of items of an access to an element whose number is known.
 pub(crate) fn known_access_size(known: Remembered) -> usize
     ensures answer { result ≡ known_access_size known }
     ensures few { result ≤ 2 }
@@ -155,7 +155,7 @@ pub(crate) fn known_access_size(known: Remembered) -> usize
     }
 }
 
-// How many items an item of Linear takes where each branch is long: at most 15.
+// The number of items that an item of Linear takes if each branch is long: at most 15.
 fn long_size_of_one(frame: &Frame, known: Remembered, item: &LinearItem) -> usize
     ensures answer { result ≡ size_of_one frame.now (λ label. false) known item.now }
     ensures few { result ≤ 15 }
@@ -179,7 +179,7 @@ fn long_size_of_one(frame: &Frame, known: Remembered, item: &LinearItem) -> usiz
     }
 }
 
-// How many items a long branch on a register and a word takes: 2 or 3.
+// The number of items that a long branch on a register and a word takes: 2 or 3.
 fn long_word_branch_size(recipe: WordRecipe, from: u8) -> usize
     requires { from < 32 }
     ensures answer { result ≡ word_branch_size (against_zero recipe from) false }
@@ -191,7 +191,7 @@ fn long_word_branch_size(recipe: WordRecipe, from: u8) -> usize
     }
 }
 
-/// How many items a step takes where each branch is long: at most 15.
+/// The number of items that a step takes if each branch is long: at most 15.
 pub(crate) fn long_size(frame: &Frame, step: &Addressed) -> usize
     ensures answer { result ≡ long_size frame.now step.now }
     ensures few { result ≤ 15 }
@@ -213,7 +213,7 @@ pub(crate) fn long_size(frame: &Frame, step: &Addressed) -> usize
     }
 }
 
-// How many items a step takes that takes `long` where each branch is long, where this many come from it on: one less if it is a near branch.
+// The number of items of a step that takes `long` if each branch is long, with this many items from it on: one less if it is a near branch.
 fn size(frame: &Frame, first: &[usize], here: usize, long: usize, step: &Addressed) -> usize
     requires long { long ≡ long_size frame.now step.now }
     requires few { long ≤ 15 }
@@ -226,7 +226,7 @@ fn size(frame: &Frame, first: &[usize], here: usize, long: usize, step: &Address
     }
 }
 
-// The label to which a step branches, where it does.
+// The label to which a step branches, if it does.
 fn branched_to(step: &Addressed) -> Option<u32>
     ensures { result ≡ branched_to step.now }
 {
@@ -238,7 +238,7 @@ fn branched_to(step: &Addressed) -> Option<u32>
     }
 }
 
-/// The label that a step is, where it is one.
+/// The label, if the step is one.
 pub(crate) fn label_of_step(step: &Step) -> Option<u32>
     ensures { result ≡ label_of_step step.now }
 {
@@ -254,7 +254,7 @@ fn label_of(step: &Addressed) -> Option<u32>
     label_of_step(&step.step)
 }
 
-// A table of the labels below `count`, and how many items there are in all; `first` tells which branches are near.
+// A table of the labels below `count`, and the number of all items; `first` says which branches are near.
 fn table(
     alloc: Global,
     frame: &Frame,

@@ -1,4 +1,4 @@
--- An edge more in both directions.
+-- One more edge in both directions.
 use Rattle.std.proofs.Common.{◌≡◌, ℕ, zero, suc, ◌<◌, List, [], ◌∷◌, ◌++◌, refl, sym, ap, ◌∙◌, subst, ◌⊎◌, inl, inr, ◌≢◌, length, set, get_or, All, Contains, arith}
 use Rattle.smallvec.specs.SmallVec.{SmallVec}
 use Rattle.std.proofs.lemmas.Bool.{cases_eq}
@@ -22,15 +22,15 @@ row_set rows at new row h = map-set' rows at new ∙ ap (set (rows_of rows) at) 
     map-set' (r ∷ rs) zero v = refl
     map-set' (r ∷ rs) (suc i) v = ap (λ xs. r.items ∷ xs) (map-set' rs i v)
 
--- to what it was
+-- a row set to what it was
 pub row_kept : (rows : List (SmallVec ℕ)) (at : ℕ) (new : SmallVec ℕ) → new.items ≡ successors_of (rows_of rows) at → rows_of (set rows at new) ≡ rows_of rows
 row_kept rows at new h = row_set rows at new (successors_of (rows_of rows) at) h ∙ set-get_or (rows_of rows) at []
 
--- a row with a node more
+-- a row with one more node
 abbrev pub more_in : List (List ℕ) → (at node : ℕ) → List (List ℕ)
 more_in rows at node = set rows at (successors_of rows at ++ node ∷ [])
 
--- what stands in a row still does
+-- what is in a row is still there
 still_in : (rows : List (List ℕ)) (at node i x : ℕ) → at < length rows → Contains (successors_of rows i) x → Contains (successors_of (more_in rows at node) i) x
 still_in rows at node i x h c = go (cases_eq i at)
   where
@@ -43,11 +43,11 @@ still_in rows at node i x h c = go (cases_eq i at)
         subst (λ r. Contains r x) (sym same) (Contains-append_left (successors_of rows at) (node ∷ []) x (subst (λ k. Contains (successors_of rows k) x) e c))
     go (inr n) = subst (λ r. Contains r x) (sym (get_or-set_other rows at i new [] n)) c
 
--- a node that was put in a row stands there
+-- a node that was added to a row is in it
 put_in : (rows : List (List ℕ)) (at node : ℕ) → at < length rows → Contains (successors_of (more_in rows at node) at) node
 put_in rows at node h = subst (λ r. Contains r node) (sym (get_or-set_same rows at (successors_of rows at ++ node ∷ []) [] h)) (Contains-push (successors_of rows at) node)
 
--- nothing else does
+-- nothing else is new
 only_more : (rows : List (List ℕ)) (at node i x : ℕ) → at < length rows → Contains (successors_of (more_in rows at node) i) x → Contains (successors_of rows i) x ⊎ ((i ≡ at) × (node ≡ x))
 only_more rows at node i x h c = go (cases_eq i at)
   where
@@ -66,7 +66,7 @@ nodes_more n rows at node h lt all =
     let P : List ℕ → Type 0 = λ row. All (λ x. x < n) row in
     All-set P rows at (successors_of rows at ++ node ∷ []) (All-push (λ x. x < n) (successors_of rows at) node (All-get_or P rows at [] h all) lt) all
 
--- a predecessor more
+-- one more predecessor
 pub with_predecessor : (successors predecessors : List (List ℕ)) (from to : ℕ) → from < length successors → to < length successors → AreEdges successors predecessors → AreEdges successors (more_in predecessors to from)
 with_predecessor successors predecessors from to f t e =
     let within : to < length predecessors = let r = e.rows in omega arith in
@@ -77,7 +77,7 @@ with_predecessor successors predecessors from to f t e =
       leads = λ p s h. still_in predecessors to from s p within (e.leads p s h);
     }
 
--- an edge whose predecessor stands there
+-- an edge whose predecessor is there already
 pub with_edge : (successors predecessors : List (List ℕ)) (from to : ℕ) → from < length successors → to < length successors → AreEdges successors predecessors → AreEdges (more_in successors from to) (more_in predecessors to from)
 with_edge successors predecessors from to f t e =
     let half = with_predecessor successors predecessors from to f t e in

@@ -1,4 +1,4 @@
--- Joins up to equivalence, and facts that rise while they stay below every solution.
+-- Joins up to equivalence, and facts that rise while they remain below every solution.
 use Rattle.std.proofs.Common.{◌≡◌, ℕ, suc, ◌+◌, ◌*◌, ◌<◌, ◌≤◌, List, [], ◌∷◌, refl, sym, ap, ◌∙◌, subst, arith, Bool, true, false, ◌≢◌, length, set, ◌⊎◌, inl, inr, Contains}
 use Rattle.std.proofs.lemmas.Bool.{cases_eq}
 use Rattle.std.proofs.lemmas.List.{get_or-set_same, get_or-set_other}
@@ -12,18 +12,18 @@ module _ {F : Type 0} (below : F → F → Type 0) (bottom : F) (lub : F → F �
   pub same_again : (x : F) → Equivalent below x x
   same_again x = (laws.reflexive x, laws.reflexive x)
 
-  -- one node more in front
+  -- one more node before the others
   pub lub_more : (r x y s : F) → Equivalent below r (lub x s) → Equivalent below x y → Equivalent below r (lub s y)
   lub_more r x y s h e = (
     laws.transitive _ _ _ h.0 (laws.within x s (lub s y) (laws.transitive _ _ _ e.0 (laws.second s y)) (laws.first s y)),
     laws.within s y r (laws.transitive _ _ _ (laws.second x s) h.1) (laws.transitive _ _ _ e.1 (laws.transitive _ _ _ (laws.first x s) h.1)),
   )
 
-  -- one node alone
+  -- a single node
   pub lub_alone : (x : F) → Equivalent below x (lub x bottom)
   lub_alone x = (laws.first x bottom, laws.within x bottom x (laws.reflexive x) (laws.least x))
 
-  -- joins go up with the facts
+  -- joins rise with the facts
   pub joined_up : (facts other : ℕ → F) → ((l : ℕ) → below (facts l) (other l)) → (ss : List ℕ) → below (joined bottom lub facts ss) (joined bottom lub other ss)
   joined_up facts other h [] = laws.reflexive bottom
   joined_up facts other h (s ∷ ss) = laws.within _ _ _ (laws.transitive _ _ _ (h s) (laws.first _ _)) (laws.transitive _ _ _ (joined_up facts other h ss) (laws.second _ _))
@@ -35,11 +35,11 @@ module _ {F : Type 0} (below : F → F → Type 0) (bottom : F) (lub : F → F �
       ap (λ x. lub x (joined bottom lub facts ss)) (h s (0, omega arith, refl))
       ∙ ap (lub (other s)) (joined_same facts other ss (λ x c. h x (suc c.0, (let l = c.1 in omega arith), c.2)))
 
-  -- what rose by something within a bound stays within it
+  -- facts that rose by something within a bound remain within it
   pub rose_within : (old new r c z : F) → Equivalent below new (lub old r) → Equivalent below r c → below old z → below c z → below new z
   rose_within old new r c z h e under under' = laws.transitive _ _ _ h.0 (laws.within old r z under (laws.transitive _ _ _ e.0 under'))
 
-  -- what was joined lies in what came of it
+  -- what was joined is below the result
   pub holds_joined : (old new r c : F) → Equivalent below new (lub old r) → Equivalent below r c → below c new
   holds_joined old new r c h e = laws.transitive _ _ _ e.1 (laws.transitive _ _ _ (laws.second old r) h.1)
 
@@ -48,7 +48,7 @@ module _ {F : Type 0} (below : F → F → Type 0) (bottom : F) (lub : F → F �
     carries_same l r x y h e = (laws.transitive _ _ _ h.0 (monotone l x y e.0), laws.transitive _ _ _ (monotone l y x e.1) h.1)
 
     module _ (graph : List (List ℕ)) where
-      -- what a node makes of facts below a solution lies in the solution
+      -- what a node makes of facts below a solution is below the solution
       pub carried_within : (facts other : ℕ → F) → LiesUnder below facts other → Solves below bottom lub carries graph other → (l : ℕ) → l < length graph → below (carried bottom lub carries graph facts l) (other l)
       carried_within facts other h solves l i = laws.transitive _ _ _ (monotone l _ _ (joined_up facts other h (successors_of graph l))) (solves l i)
 
@@ -58,7 +58,7 @@ module _ {F : Type 0} (below : F → F → Type 0) (bottom : F) (lub : F → F �
         | inr n ↦ subst (λ x. below x (other l)) (sym (get_or-set_other facts at l new bottom n)) (under l)
       ]
 
-      -- what comes back to a node lies in its facts
+      -- what comes back to a node is below its facts
       abbrev pub Settled : List F → ℕ → Type 0
       Settled facts l = below (carried bottom lub carries graph (facts_at bottom facts) l) (facts_at bottom facts l)
 
@@ -66,7 +66,7 @@ module _ {F : Type 0} (below : F → F → Type 0) (bottom : F) (lub : F → F �
       abbrev pub IsDone : List Bool → List F → Type 0
       IsDone flags facts = (l : ℕ) → l < length graph → (waits flags l ≡ true) ⊎ Settled facts l
 
-      -- facts that rose at a node that others don't read
+      -- facts rose at a node that this one does not read
       settled_still : (facts : List F) (at : ℕ) (new : F) (l : ℕ) → (Contains (successors_of graph l) at → ⊥) → l ≢ at → Settled facts l → Settled (set facts at new) l
       settled_still facts at new l unread n settled =
           let same : joined bottom lub (facts_at bottom facts) (successors_of graph l) ≡ joined bottom lub (facts_at bottom (set facts at new)) (successors_of graph l)
@@ -87,7 +87,7 @@ module _ {F : Type 0} (below : F → F → Type 0) (bottom : F) (lub : F → F �
         | inr n ↦ elim (done l within) [ inl w ↦ inl (others_wait flags node l n ∙ w) | inr s ↦ inr s ]
       ]
 
-      -- it rose, and all that read it wait
+      -- the node rose, and all that read it wait
       pub done_risen : (flags flags' : List Bool) (facts : List F) (node : ℕ) (new : F) → node < length facts → below (carried bottom lub carries graph (facts_at bottom facts) node) new
           → ((l : ℕ) → waits (set flags node false) l ≡ true → waits flags' l ≡ true) → ((l : ℕ) → Contains (successors_of graph l) node → waits flags' l ≡ true)
           → IsDone flags facts → IsDone flags' (set facts node new)
@@ -105,11 +105,11 @@ module _ {F : Type 0} (below : F → F → Type 0) (bottom : F) (lub : F → F �
                 ]
               ]
 
-      -- where none waits the facts are a solution
+      -- if no node waits the facts are a solution
       pub solved : (flags : List Bool) (facts : List F) → ((l : ℕ) → waits flags l ≡ false) → IsDone flags facts → Solves below bottom lub carries graph (facts_at bottom facts)
       solved flags facts none done l within = elim (done l within) [ inl w ↦ absurd (let n = none l in cc) | inr s ↦ s ]
 
--- a rise pays for all that wait after it
+-- a rise pays for all nodes that wait after it
 pub pays : (n s s' w w' : ℕ) → s' < s → w' ≤ n → s' * suc n + w' < s * suc n + w
 pays n s s' w w' h few =
     let a : suc s' * suc n ≤ s * suc n = mul-le-mul_right (suc n) h in

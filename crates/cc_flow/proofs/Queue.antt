@@ -1,4 +1,4 @@
--- A queue and its flags go together.
+-- The queue and its flags agree.
 use Rattle.std.proofs.Common.{◌≡◌, ℕ, zero, suc, ◌+◌, ◌<◌, ◌≤◌, List, [], ◌∷◌, refl, sym, ap, ◌∙◌, subst, ◌⊎◌, inl, inr, ◌≢◌, length, set, replicate, Bool, true, false, cond, ◌==◌, arith}
 use Rattle.std.specs.List.Sorted.{IsPermutation}
 use Rattle.std.proofs.lemmas.Bool.{cases_eq, cases_lt}
@@ -47,7 +47,7 @@ queued_more nodes nodes' flags node within out perm q k = go (cases_eq k node)
         let sum : times k nodes' ≡ times k nodes = omega arith in
         sum ∙ q k ∙ sym (ap (λ b. cond b 1 0) now)
 
--- what is popped waited
+-- a node that is popped was waiting
 pub popped_waits : (nodes nodes' : List ℕ) (flags : List Bool) (node : ℕ) → IsPermutation nodes (node ∷ nodes') → IsQueued nodes flags → waits flags node ≡ true
 popped_waits nodes nodes' flags node perm q = go (waits flags node) refl
   where

@@ -1,11 +1,11 @@
--- Facts ordered by how much they say. What stands for the same facts may differ in form, so the order is a preorder and a join is known up
--- to equivalence.
+-- Facts ordered by how much they say. The same facts may have several forms, so the order is a preorder and a join is known up to
+-- equivalence.
 
--- each lies below the other: they say the same
+-- each is below the other: they say the same
 abbrev pub Equivalent : {F : Type 0} → (below : F → F → Type 0) → F → F → Type 0
 Equivalent below a b = below a b × below b a
 
--- an order in which `bottom` lies below all, and `lub` gives a least upper bound
+-- an order in which `bottom` is below everything, and `lub` gives a least upper bound
 pub record IsLattice {F : Type 0} (below : F → F → Type 0) (bottom : F) (lub : F → F → F) : Type 0 where
   pub reflexive : (x : F) → below x x
   pub transitive : (x y z : F) → below x y → below y z → below x z

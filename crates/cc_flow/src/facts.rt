@@ -1,13 +1,13 @@
-// What may be known at a node, and what a node makes of it.
+// What may be known at a node, and what a node turns it into.
 
 ghost use Rattle.std.specs.Prelude.{◌≡◌, ℕ, ◌<◌, ◌≤◌, IfOk, IfErr, IsTrue, IsFalse};
 ghost use Rattle.cc_flow.specs.Lattice.{Equivalent, IsLattice};
 
 use std::alloc::{AllocError, Global};
 
-/// What may be known at a node, ordered by how much is said.
+/// What may be known at a node, ordered by how much it says.
 ///
-/// `below` is that order, `bottom` its least value, `lub` the join. `room` says how often a value can still rise, and no value rises
+/// `below` is the order, `bottom` its least value, `lub` the join. `room` says how often a value can still rise; no value rises
 /// more than `height` times from the least.
 pub trait Facts: Drop {
     ghost below: { Self → Self → Type 0 };
@@ -20,11 +20,11 @@ pub trait Facts: Drop {
 
     ghost height: { ℕ };
 
-    /// The least value.
+    /// Returns the least value.
     fn least(alloc: Global) -> Result<Self, AllocError>
         ensures { IfOk result (λ facts. facts ≡ bottom) };
 
-    /// Joins other facts to these, and answers whether these rose. Without memory they stay as they were.
+    /// Joins other facts to these, and returns whether these rose. Without memory they remain as they were.
     fn join(&mut self, other: &Self) -> Result<bool, AllocError>
         ensures joined { IfOk result (λ _. Equivalent below self.new (lub self.old other.now)) }
         ensures unchanged { IfOk result (λ rose. IsFalse rose → self.new ≡ self.old) }
@@ -34,15 +34,15 @@ pub trait Facts: Drop {
     // The order has a least value and least upper bounds.
     ghost laws: { IsLattice below bottom lub };
 
-    // No value rises more often than that.
+    // No value rises more often than `height`.
     ghost bounded: { room bottom ≤ height };
 }
 
-/// What each node makes of the facts behind it, which more facts only make more.
+/// What each node makes of the facts after it. More facts only make more.
 pub trait Transfer<F: Facts> {
     ghost carries: { Self → ℕ → F → F };
 
-    /// What a node makes of these facts.
+    /// Returns what a node makes of these facts.
     fn apply(&self, alloc: Global, node: usize, facts: &F) -> Result<F, AllocError>
         ensures { IfOk result (λ carried. Equivalent F.below carried (carries self.now node facts.now)) };
 

@@ -7,14 +7,14 @@ use smallvec::SmallVec;
 use std::alloc::{AllocError, Global};
 use std::marker::Model;
 
-// Where a node leads: to two nodes at most where it is no switch, so most rows take no memory of their own.
+// The nodes that a node leads to: at most two in code without switches, so most rows take no memory of their own.
 type Row = SmallVec<usize, 2>;
 
 /// A graph: for each node, numbered from 0, the nodes that it leads to. Contracts see it as the list of these rows.
 #[derive(Drop)]
 pub struct Graph {
     successors: Vec<Row>,
-    // For each node at least those that lead to it.
+    // For each node at least the nodes that lead to it.
     predecessors: Vec<Row>,
 }
 
@@ -31,7 +31,7 @@ impl Model for Graph {
 }
 
 impl Graph {
-    /// A graph of this many nodes without an edge.
+    /// Makes a graph of this many nodes without edges. `AllocError` if memory runs out.
     pub fn new(alloc: Global, nodes: usize) -> Result<Graph, AllocError>
         ensures { IfOk result (λ graph. graph ≡ replicate nodes []) }
     {
@@ -48,7 +48,7 @@ impl Graph {
         self.successors.len()
     }
 
-    /// Leads one node to another, last in the row of the first. Without memory the graph stays as it was.
+    /// Adds an edge from one node to another, last in the row of the first. Without memory the graph remains as it was.
     pub fn add_edge(&mut self, from: usize, to: usize) -> Result<(), AllocError>
         requires from { from < length self.old }
         requires to { to < length self.old }
@@ -79,7 +79,7 @@ impl Graph {
     }
 }
 
-/// So many empty rows.
+/// This many empty rows.
 fn empty_rows(alloc: Global, nodes: usize) -> Result<Vec<Row>, AllocError>
     ensures { IfOk result (λ rows. rows_of rows.items ≡ replicate nodes []) }
 {
@@ -99,7 +99,7 @@ fn row_at(rows: &[Row], at: usize) -> &[usize]
     rows[at].as_slice()
 }
 
-/// Puts a node last in one row.
+/// Adds a node at the end of one row.
 fn push_in(rows: &mut Vec<Row>, at: usize, node: usize) -> Result<(), AllocError>
     requires { at < length rows.old.items }
     ensures added { IfOk result (λ _. rows_of rows.new.items ≡ set (rows_of rows.old.items) at (successors_of (rows_of rows.old.items) at ++ node ∷ [])) }

@@ -1,8 +1,8 @@
 // The solver.
 
-ghost use Rattle.std.specs.Prelude.{◌≡◌, ℕ, ◌<◌, length, set, IfOk, IsTrue, IsFalse, All, sum_by, Bool, true, Contains};
+ghost use Rattle.std.specs.Prelude.{◌≡◌, ℕ, ◌<◌, length, set, IfOk, IsTrue, IsFalse, All, sum_by, true, Contains};
 ghost use Rattle.cc_flow.specs.Lattice.{Equivalent};
-ghost use Rattle.cc_flow.specs.Flow.{joined, carried, facts_at, successors_of, Solves, LiesUnder};
+ghost use Rattle.cc_flow.specs.Flow.{joined, carried, facts_at, Solves, LiesUnder};
 ghost use Rattle.cc_flow.specs.internal.Waiting.{waits};
 
 use crate::facts::{Facts, Transfer};
@@ -26,14 +26,14 @@ impl<F> Model for Solution<F> {
 }
 
 impl<F> Solution<F> {
-    /// The facts of the nodes in their order.
+    /// The facts of the nodes, in order.
     pub fn as_slice(&self) -> &[F]
         ensures { result.now ≡ self.now }
     {
         self.facts.as_slice()
     }
 
-    /// The same as a `Vec`. It takes no memory.
+    /// The same as a `Vec`. Takes no memory.
     pub fn into_vec(self) -> Vec<F>
         ensures { result.items ≡ self }
     {
@@ -42,9 +42,9 @@ impl<F> Solution<F> {
     }
 }
 
-/// The solution that lies below every other.
+/// Returns the solution that is below every other. `AllocError` if memory runs out.
 ///
-/// Each node takes what its transfer makes of the join of its successors' facts.
+/// Each node gets what its transfer makes of the join of its successors' facts.
 pub fn solve_backward<F: Facts, T: Transfer<F>>(
     alloc: Global,
     graph: &Graph,
@@ -77,7 +77,7 @@ fn least_facts<F: Facts>(alloc: Global, nodes: usize) -> Result<Vec<F>, AllocErr
     Ok(facts)
 }
 
-/// Each of these nodes waits, and whoever did.
+/// Makes each of these nodes wait; nodes that waited still do.
 fn wake(waiting: &mut Worklist, nodes: &[usize]) -> Result<(), AllocError>
     requires { All (λ node. node < length waiting.old) nodes.now }
     ensures long { IfOk result (λ _. length waiting.new ≡ length waiting.old) }
@@ -90,7 +90,7 @@ fn wake(waiting: &mut Worklist, nodes: &[usize]) -> Result<(), AllocError>
     Ok(())
 }
 
-/// Joins what comes back to a node to its facts, and answers whether these rose.
+/// Joins what comes back to a node to its facts, and returns whether these rose.
 fn raise<F: Facts, T: Transfer<F>>(
     alloc: Global,
     graph: &Graph,

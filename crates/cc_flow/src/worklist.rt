@@ -1,13 +1,13 @@
 // The nodes that wait for a visit.
 
-ghost use Rattle.std.specs.Prelude.{◌≡◌, ◌<◌, ℕ, Bool, true, false, replicate, slice_set, slice_get, Some, All, IfOk, IfSome, IfNone, length};
+ghost use Rattle.std.specs.Prelude.{◌≡◌, ◌<◌, ℕ, Bool, true, false, replicate, slice_set, Some, IfOk, IfSome, IfNone, length};
 ghost use Rattle.cc_flow.specs.internal.Waiting.{waits};
 
 use std::alloc::{AllocError, Global};
 use std::collections::BinaryHeap;
 use std::marker::Model;
 
-/// The nodes that wait, each once. The last of them is taken first. Contracts see a flag for each node.
+/// The nodes that wait, each once. The last of them in order is taken first. Contracts see a flag for each node.
 #[derive(Drop)]
 pub struct Worklist {
     waits: Vec<bool>,
@@ -27,7 +27,7 @@ impl Model for Worklist {
 }
 
 impl Worklist {
-    /// None of this many nodes waits.
+    /// Returns a list in which none of this many nodes waits.
     fn of_none(alloc: Global, nodes: usize) -> Result<Worklist, AllocError>
         ensures { IfOk result (λ waiting. waiting ≡ replicate nodes false) }
     {
@@ -37,7 +37,7 @@ impl Worklist {
         })
     }
 
-    /// Each of this many nodes waits.
+    /// Returns a list in which each of this many nodes waits.
     pub fn of_all(alloc: Global, nodes: usize) -> Result<Worklist, AllocError>
         ensures long { IfOk result (λ waiting. length waiting ≡ nodes) }
         ensures waits { IfOk result (λ waiting. (node : ℕ) → node < nodes → waits waiting node ≡ true) }
@@ -49,7 +49,7 @@ impl Worklist {
         Ok(waiting)
     }
 
-    /// Takes the last node that waits, which then waits no more.
+    /// Takes the last node that waits, which then no longer waits.
     pub fn take(&mut self) -> Option<usize>
         ensures taken { IfSome result (λ node. (waits self.old node ≡ true) × (self.new ≡ slice_set self.old node false)) }
         ensures all_done { IfNone result ((node : ℕ) → waits self.old node ≡ false) }
@@ -59,7 +59,7 @@ impl Worklist {
         Some(node)
     }
 
-    /// A node waits.
+    /// Makes a node wait.
     pub fn add(&mut self, node: usize) -> Result<(), AllocError>
         requires { node < length self.old }
         ensures { IfOk result (λ _. self.new ≡ slice_set self.old node true) }

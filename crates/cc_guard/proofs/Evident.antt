@@ -1,5 +1,4 @@
--- What an expression's form shows of its value: a word that it does not exceed, or that it is a divisor; so an operation is evidently
--- right.
+-- What an expression's form shows of its value: a bound, or that it is a divisor. So an operation evidently has a value.
 use Rattle.std.proofs.Common.{◌≡◌, ℕ, zero, suc, ◌+◌, ◌-◌, ◌*◌, ◌/◌, ◌^◌, ◌%◌, ◌<◌, ◌≤◌, Bool, true, false, ◌==◌, nat_lt, List, [], ◌∷◌, ◌++◌, inl, inr, Option, Some, None, refl, sym, ap, ◌∙◌, subst, mod-lt, arith, pos}
 use Rattle.std.specs.Prelude.{if◌then◌else◌, not, ◌&&◌, ◌||◌, nat_le, int_lt, int_le, ◌-ℤ◌}
 use Rattle.std.specs.Option.{option_or}
@@ -48,7 +47,7 @@ product_within None k x y w le p q = tt
 product_within (Some m) None x y w le p q = tt
 product_within (Some m) (Some k) x y w le p q = let u : x * y ≤ m * k = mul-le-mul p q in word_within (m * k) w (omega arith)
 
--- an answer that may be none
+-- a value that may not be there
 when_false : (b : Bool) (v w : ℕ) → (if b then None else Some v) ≡ Some w → v ≡ w
 when_false true v w e = absurd (let f : None ≡ Some w = e in cc)
 when_false false v w e = (let f : Some v ≡ Some w = e in cc)
@@ -81,7 +80,7 @@ given : (b : Bool) (v w : ℕ) → b ≡ false → (if b then None else Some v) 
 given true v w e f = absurd (let g : true ≡ false = e in cc)
 given false v w e f = some_is v w f
 
--- what is known holds
+-- the known bounds hold
 abbrev pub Holds : List Limit → Variables → Type 0
 Holds [] l = Unit {0}
 Holds (k ∷ ks) l = (l k.variable ≤ k.most) × Holds ks l
@@ -165,7 +164,7 @@ module _ (l : Variables) (h : World) where
   pub is_small : (ks : List Limit) → Holds ks l → (e : Expression) (n w : ℕ) → is_below (most ks e) n ≡ true → value e l h ≡ Some w → w < n
   is_small ks p e n w is v = below_by (most ks e) n w is (within ks p e w v)
 
-  -- ---- what a condition tells
+  -- ---- what a condition shows
 
   abbrev pub HoldsOf : Option Limit → Type 0
   HoldsOf None = Unit {0}
@@ -262,7 +261,7 @@ module _ (l : Variables) (h : World) where
   told_holds [] (Some k) p q = (q, tt)
   told_holds (y ∷ ks) (Some k) p q = (p.0, told_holds ks (Some k) p.1 q)
 
-  -- ---- operators that always have an answer
+  -- ---- operators that always have a value
 
   some_answer : (b : Bool) (w : ℕ) → b ≡ false → (v : ℕ) × ((if b then None else Some w) ≡ Some v)
   some_answer true w e = absurd (let f : true ≡ false = e in cc)

@@ -1,5 +1,6 @@
--- What is known of variables where a statement begins, and where it is done. What is known of a variable that no part of a statement sets is known
--- after it too, on each way out. So code into which guards can be put has what is known at each place (`Flows`).
+-- What is known of variables at the start of a statement and at its end. What is known of a variable that no part of a statement
+-- sets is known after it too, on each way out. So code into which guards can be put satisfies `Flows`: at each place what should
+-- be known is known.
 use Rattle.std.proofs.Common.{◌≡◌, ℕ, zero, suc, ◌<◌, ◌≤◌, ◌==◌, max, Bool, true, false, List, [], ◌∷◌, ◌++◌, length, Option, Some, None, ◌⊎◌, inl, inr, refl, sym, ap, ◌∙◌, subst, arith}
 use Rattle.std.specs.Prelude.{if◌then◌else◌, not, ◌&&◌, ◌||◌, nat_lt, nat_le}
 use Rattle.std.proofs.Math.Nat.{le-max_left, le-max_right}
@@ -15,13 +16,13 @@ use Rattle.cc_guard.specs.internal.Next.{Noted, Last, AndThen, InLoop, InBlock, 
 use Rattle.cc_guard.proofs.Evident.{Within, Holds, in_limits}
 use Rattle.cc_guard.proofs.Values.{LimitsUnder}
 
--- ---- one of the facts
+-- ---- one of the bounds
 
 abbrev pub Has : List Limit → Limit → Type 0
 Has [] f = ⊥
 Has (k ∷ ks) f = (k ≡ f) ⊎ Has ks f
 
--- what holds of some facts
+-- if the bounds of the first list hold, those of the second do
 abbrev pub Yields : List Limit → List Limit → Type 0
 Yields ks gs = (l : Variables) → Holds ks l → Holds gs l
 
@@ -42,7 +43,7 @@ has_push [] x f i = absurd i
 has_push (k ∷ ks) x f (inl e) = inl e
 has_push (k ∷ ks) x f (inr i) = inr (has_push ks x f i)
 
--- ---- what is kept
+-- ---- the bounds that are kept
 
 and_left : (a b : Bool) → (a && b) ≡ true → a ≡ true
 and_left true b e = refl
@@ -64,7 +65,7 @@ is_false : (a : Bool) → not a ≡ true → a ≡ false
 is_false true e = absurd (let f : false ≡ true = e in cc)
 is_false false e = refl
 
--- of a statement of two parts
+-- for a statement of two parts
 stays_both : (n : ℕ) (p q : ℕ → Bool) (f : Limit) → stays n (λ x. p x || q x) f ≡ true → (stays n p f ≡ true) × (stays n q f ≡ true)
 stays_both n p q f is =
     let below = and_left (nat_lt f.variable n) (not (p f.variable || q f.variable)) is in
@@ -77,7 +78,7 @@ stays_below n p f is = let lt : nat_lt f.variable n ≡ true = and_left (nat_lt 
 stays_unset : (n : ℕ) (p : ℕ → Bool) (f : Limit) → stays n p f ≡ true → p f.variable ≡ false
 stays_unset n p f is = is_false (p f.variable) (and_right (nat_lt f.variable n) (not (p f.variable)) is)
 
--- it is below n
+-- the variable is below n
 stays_skip : (n : ℕ) (p : ℕ → Bool) (f : Limit) → stays n p f ≡ true → stays n (sets Skip) f ≡ true
 stays_skip n p f is = both_true (nat_lt f.variable n) true (and_left (nat_lt f.variable n) (not (p f.variable)) is) refl
 
@@ -106,11 +107,11 @@ limits_of : (n : ℕ) (gs : List Limit) → ((f : Limit) → Has gs f → f.vari
 limits_of n [] f = tt
 limits_of n (g ∷ gs) f = (f g (inl refl), limits_of n gs (λ k i. f k (inr i)))
 
--- it is of variables below n
+-- the bounds kept are of variables below n
 pub kept_under : (n : ℕ) (p : ℕ → Bool) (ks : List Limit) → LimitsUnder n (kept n p ks)
 kept_under n p ks = limits_of n (kept n p ks) (λ f i. stays_below n p f (is_kept n p ks f i).1)
 
--- and it holds after such variables were changed
+-- and they hold after such variables were changed
 pub kept_holds : (n : ℕ) (p : ℕ → Bool) (ks : List Limit) (k l : Variables) → Holds ks k → ((x : ℕ) → p x ≡ false → l x ≡ k x) → Holds (kept n p ks) l
 kept_holds n p ks k l h same =
     holds_of (kept n p ks) l (λ f i. let q = is_kept n p ks f i in subst (λ w. w ≤ f.most) (sym (same f.variable (stays_unset n p f q.1))) (fact_of ks f k q.0 h))
@@ -118,7 +119,7 @@ kept_holds n p ks k l h same =
 pub yields_kept : (n : ℕ) (p : ℕ → Bool) (ks : List Limit) → Yields ks (kept n p ks)
 yields_kept n p ks = yields_of ks (kept n p ks) (λ f i. (is_kept n p ks f i).0)
 
--- ---- what is known twice
+-- ---- two lists of bounds
 
 has_left : (ks gs : List Limit) (f : Limit) → Has ks f → Has (ks ++ gs) f
 has_left [] gs f i = absurd i
@@ -133,7 +134,7 @@ under_both : (n : ℕ) (ks gs : List Limit) → LimitsUnder n ks → LimitsUnder
 under_both n [] gs p q = q
 under_both n (k ∷ ks) gs p q = (p.0, under_both n ks gs p.1 q)
 
--- what two ways know holds after each of them
+-- the bounds that two ways share hold after each of them
 joined_left : (a b : List Limit) (l : Variables) → Holds a l → Holds (joined a b) l
 joined_left [] b l p = tt
 joined_left (k ∷ a) b l p = by (most_in b k.variable) (joined_left a b l p.1)
@@ -158,7 +159,7 @@ joined_under n (k ∷ a) b u = by (most_in b k.variable) (joined_under n a b u.1
     by None rest = rest
     by (Some m) rest = (u.0, rest)
 
--- where the ways of an `If` meet
+-- after the ways of an `If` meet
 has_met : (p q : Bool) (n : ℕ) (u : Statement) (before one other : List Limit) (f : Limit) → Has before f → Has one f → Has other f → Has (met p q n u before one other) f
 has_met true true n u before one other f i j k = has_left before (joined (kept n (unset u) one) other) f i
 has_met true false n u before one other f i j k = j
@@ -312,7 +313,7 @@ module _ (objects : List Size) where
     has_after (Exit k) ks f i is = i
     has_after (Return e) ks f i is = has_kept n (sets (Return e)) (guarded objects ks n e).known f (has_guarded e ks n f i) is
 
-    -- what is known after a loop's turn, and after a block that is done
+    -- what is known after a loop's turn, and after a block that ends
     yields_after : (s : Statement) (ks : List Limit) → Yields (known_after objects n ks s) (kept n (sets s) ks)
     yields_after s ks = yields_of (known_after objects n ks s) (kept n (sets s) ks) (λ f i. let p = is_kept n (sets s) ks f i in has_after s ks f p.0 p.1)
 
@@ -374,17 +375,17 @@ module _ (objects : List Size) where
     -- ---- code with what is known at each place
 
     module _ (quiet : Bool) where
-      -- no guard, if it is to be quiet
+      -- no guards, if the code is to be quiet
       abbrev pub Silent : List Guard → Type 0
       Silent gs = quiet ≡ true → some_guard gs ≡ false
 
-      -- an exit leaves blocks that there are, and what is to be known after the last of them is known
+      -- an exit leaves blocks that exist, and what should be known after the last of them is known
       abbrev pub ExitKnows : List (List Limit) → (k : ℕ) → List Limit → Type 0
       ExitKnows [] k ks = ⊥
       ExitKnows (gs ∷ E) zero ks = Yields ks gs
       ExitKnows (gs ∷ E) (suc k) ks = ExitKnows E k ks
 
-      -- a statement leads to what is known, if what is after it can be done next
+      -- a statement makes these bounds known, if control can reach its end
       abbrev pub Leads : Statement → List Limit → List Limit → Type 0
       Leads s ks gs = falls s ≡ true → Yields (known_after objects n ks s) gs
 
@@ -408,7 +409,7 @@ module _ (objects : List Size) where
       Flows E ks (Exit k) = ExitKnows E k ks
       Flows E ks (Return e) = Under n e × Silent (guarded objects ks n e).before
 
-      -- what is to be done after a statement that leaves this known
+      -- what remains to be done after a statement that leaves these bounds known
       abbrev pub Continues : List Limit → Noted → Type 0
       Continues gs Last = Unit {0}
       Continues gs (AndThen ks s ν) = Yields gs ks × LimitsUnder n ks × Flows (exits_of ν) ks s × (after : List Limit) × Leads s ks after × Continues after ν
@@ -421,9 +422,10 @@ module _ (objects : List Size) where
       continues_more ks gs (InLoop hs s ν) g c = (λ l h. c.0 l (g l h), c.1, c.2, c.3, c.4, c.5)
       continues_more ks gs (InBlock hs ν) g c = (λ l h. c.0 l (g l h), c.1, c.2)
 
-      -- ---- each code has that
+      -- ---- all code that fits has these properties
 
-      -- what is to be known after a block is known in it, of variables that it does not set, if an exit leaves just that block
+      -- if an exit leaves just one block, what should be known after that block, of variables that the block does not set, is
+      -- known in it
       abbrev AllStay : List (List Limit) → (ℕ → Bool) → List Limit → Statement → Type 0
       AllStay [] out ks s = Unit {0}
       AllStay (gs ∷ E) out ks s = (out 0 ≡ true → (f : Limit) → Has gs f → IsKept n (sets s) ks f) × AllStay E (λ k. out (suc k)) ks s

@@ -1,10 +1,10 @@
--- The code with words in variables, as it is written: lists of statements.
+-- The code with words in variables, as it is written: as lists of statements.
 use Rattle.std.proofs.Common.{◌≡◌, ℕ, suc, List, [], ◌∷◌, ◌++◌, refl, ap}
 use Rattle.cc_cminor.specs.Cminor.{Constant, Statement, Set, Sequence}
 use Rattle.cc_cminor.specs.Code.{in_sequence}
 use Rattle.cc_guard.specs.Held.{held_in, put_first}
 
--- some statements
+-- a list of statements
 abbrev pub all_held : List ℕ → (m : ℕ) → List Statement → List Statement
 all_held ws m [] = []
 all_held ws m (s ∷ ss) = held_in ws m s ∷ all_held ws m ss
@@ -14,7 +14,7 @@ sequence_held ws m [] = refl
 sequence_held ws m (s ∷ []) = refl
 sequence_held ws m (s ∷ t ∷ ss) = ap (λ x. Sequence (held_in ws m s) x) (sequence_held ws m (t ∷ ss))
 
--- what puts the words there
+-- the statements that put the words into their variables
 abbrev pub puts_code : List ℕ → (m : ℕ) → List Statement
 puts_code [] m = []
 puts_code (w ∷ ws) m = Set m (Constant w) ∷ puts_code ws (suc m)

@@ -1,5 +1,6 @@
--- Code with words in variables does what the code does, move by move, once they are there: the variables below m hold the same words, and those
--- from m on the words, which nothing sets again. So it keeps up as the code does, its calls are calls and its numbers are within their limits.
+-- Code with words in variables does what the original code does, move by move, once the words are in their variables. The
+-- variables below m have the same words in both, and those from m on hold the chosen words, which nothing sets again. So it keeps
+-- up as the code does, its calls are calls, and its numbers are within their limits.
 use Rattle.std.proofs.Common.{◌≡◌, ℕ, zero, suc, ◌+◌, ◌<◌, ◌≤◌, ◌==◌, cond, Bool, true, false, List, [], ◌∷◌, length, Option, Some, None, inl, inr, refl, sym, ap, ◌∙◌, subst, arith}
 use Rattle.std.specs.Prelude.{if◌then◌else◌}
 use Rattle.std.proofs.lemmas.Bool.Decides.{nat_tests, eqb_tells}
@@ -125,7 +126,7 @@ apart_above (Block s) count = apart_above s count
 apart_above (Exit k) count = (omega arith, tt)
 apart_above (Return e) count = expression_above e count
 
--- ---- words that are in their variables
+-- ---- words in their variables
 
 abbrev Lie : List ℕ → (m : ℕ) → Variables → Type 0
 Lie [] m l = Unit {0}
@@ -134,7 +135,7 @@ Lie (w ∷ ws) m l = (l m ≡ w) × Lie ws (suc m) l
 put_after : (l : Variables) (t w x : ℕ) → t < x → put l t w x ≡ l x
 put_after l t w x lt = let e : (t == x) ≡ false = grind (arith, nat_tests) in ap (λ b. cond b w (l x)) e
 
--- they stay if a variable below them is set
+-- they stay there if a variable below theirs is set
 lie_put : (ws : List ℕ) (m : ℕ) (l : Variables) (x w : ℕ) → x < m → Lie ws m l → Lie ws m (put l x w)
 lie_put [] m l x w lt p = tt
 lie_put (v ∷ vs) m l x w lt p = (put_after l x w m lt ∙ p.0, lie_put vs (suc m) l x w (omega arith) p.1)
@@ -157,7 +158,7 @@ word_there (v ∷ vs) m w l h p = elim (eqb_tells v w) [
   | inr (e, other) ↦ subst (λ b. value (if b then Local m else held_word vs (suc m) w) l h ≡ Some w) (sym e) (word_there vs (suc m) w l h p.1)
 ]
 
--- ---- each is put into its variable
+-- ---- each word is put into its variable
 
 abbrev puts : List ℕ → (m : ℕ) → Variables → Variables
 puts [] m l = l
@@ -183,7 +184,7 @@ puts_way (w ∷ ws) m s l h =
     (config (Set m (Constant w)) (Then rest Ends) l h, refl, (config Skip (Then rest Ends) (put l m w) h, refl, (config rest Ends (put l m w) h, refl, puts_way ws (suc m) s (put l m w) h)))
 
 module _ (ws : List ℕ) (m : ℕ) where
-  -- ---- a condition has its value
+  -- ---- a condition has the same value
 
   operand_value : (e : Expression) (k l : Variables) (h : World) → Under m e → Agree m k l → Lie ws m k → value (held_operand ws m e) k h ≡ value e l h
   operand_value (Constant w) k l h u p q = word_there ws m w k h q
@@ -201,7 +202,7 @@ module _ (ws : List ℕ) (m : ℕ) where
       ∙ ap (λ o. then_value (value a l h) (λ x. then_value o (λ y. apply_binary op x y))) (operand_value b k l h u.1 p q)
   test_value (Load w o i) k l h u p q = same_value (Load w o i) m k l h u p
 
-  -- ---- hand in hand
+  -- ---- the two runs side by side
 
   abbrev held_next : Continuation → Continuation
   held_next Ends = Ends
@@ -370,7 +371,7 @@ words_track meaning f rate s ws tracks opened below args h is_call n =
     let y = kept_after e nothing_related (λ a b z. absurd z) (λ a b z. absurd z) (long ws) rate n owed (cminor_start (with_words ws m s) args h) d (puts_way ws m (held_in ws m s) l h) (k.moves, k.steps, x) in
     (y.0, y.1, record { moves = y.0; steps = y.1; few = omega arith; few_steps = omega arith; keeps = y.2 })
 
--- what a pair keeps of code
+-- what the type of a pair guarantees of its code
 pub record IsSound (mode : Mode) (unit : List External) (f : ℕ) (s : Statement) : Type 0 where
   pub calls : AreCalls unit s
   pub numbers : StatementFits s

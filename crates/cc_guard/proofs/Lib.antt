@@ -1,25 +1,43 @@
--- How guarded code is shown to keep up. What guards do to the variables is a recursion on them, with no run in it (Passing). A test tells
--- whether an operation has an answer (Tests), and some operations evidently have one (Evident). So the guards of an expression let the run pass
--- exactly if the expression has a value, and its value after them is that (Values). What is known at a place of the code holds there (Flow). A run goes through guards, or one stops it and it goes on for ever. A move of the code is matched by one or more moves of the guarded code, so each cut of the one is a cut of the other, and
--- no less was done (Matching, Moves). Code without guards is as it was, and never comes to what it cannot do (Unguarded). The whole is
--- in Tracking and Lowered. Code with words in variables goes hand in hand with the code (Holding, HeldWriting); marks say what a statement sets (Marking). Words and OnlyDepth show what follows if a unit needs no guard. Numbered and Few show that variables are below their limit, Sizing and Writing that the code makes what the definition
--- says.
+-- How guarded code is shown to keep up.
+-- A recursion on guards shows what they do to the variables, without a run. So the guards of an expression let the run pass
+-- exactly if the expression has a value, and then its value after them is that one. A run passes guards, or one of them stops it
+-- and it goes on for ever. One or more moves of the guarded code match each move of the code, so each cut of the one is a cut of
+-- the other, and no less has been done.
+-- what guards do to the variables
 pub mod Passing
+-- operations that evidently have a value
 pub mod Evident
+-- the tests show whether an operation has a value
 pub mod Tests
+-- a guarded expression has its value after its guards
 pub mod Values
+-- what is known at a place of the code holds there
 pub mod Flow
+-- how guarded code goes along with the code
 pub mod Matching
+-- each move of the code is matched
 pub mod Moves
+-- code without guards is as it was, and never reaches an operation without a value
 pub mod Unguarded
+-- guarded code keeps up: the whole
 pub mod Tracking
+-- numbers in guarded code are within their limits
 pub mod Numbered
+-- guards set few variables
 pub mod Few
+-- sizes of objects, read from declarations
 pub mod Sizing
+-- marks of the variables that a statement sets
 pub mod Marking
+-- code with words in variables goes along with the code
 pub mod Holding
+-- the code writes code with words in variables as the definition says
 pub mod HeldWriting
+-- the pair that the pass makes
 pub mod Lowered
+-- code whose constants are words makes only words
 pub mod Words
+-- a unit that needs no guard goes wrong only in depth
 pub mod OnlyDepth
+-- the code writes guards as the definition says
 pub mod Writing

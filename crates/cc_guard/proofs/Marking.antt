@@ -1,4 +1,4 @@
--- What marks say after one statement and another.
+-- The marks after one statement and then another.
 use Rattle.std.proofs.Common.{◌≡◌, ◌==◌, ℕ, zero, suc, ◌+◌, ◌<◌, ◌≤◌, Bool, true, false, List, [], ◌∷◌, ◌++◌, length, drop, get_or, append_assoc, drop-cons, Some, refl, sym, ap, ◌∙◌, inl, inr, arith}
 use Rattle.std.specs.Prelude.{◌||◌, set}
 use Rattle.std.proofs.lemmas.Bool.Decides.{nat_tests, eqb_tells}
@@ -42,7 +42,7 @@ marks_one old v lt = record { long = length-set old v true; marks = at }
 pub marks_nothing : (old : List Bool) (v : ℕ) → length old ≤ v → Marks (sets_result (Some v)) old old
 marks_nothing old v le = record { long = refl; marks = λ x lt. let e : (v == x) ≡ false = grind (arith, nat_tests) in or_false (get_or old x false) ∙ ap (λ z. get_or old x false || z) (sym e) }
 
--- none is marked, with one more
+-- no mark is set, with one more such mark
 pub none_more : (ms : List Bool) → ((x : ℕ) → get_or ms x false ≡ false) → (x : ℕ) → get_or (ms ++ false ∷ []) x false ≡ false
 none_more [] none zero = refl
 none_more [] none (suc x) = refl
@@ -59,7 +59,7 @@ marks_first s [] old mid new a b =
     record { long = m.long; marks = λ x lt. m.marks x lt ∙ ap (λ z. get_or old x false || z) (sym (or_false (sets s x))) }
 marks_first s (t ∷ ss) old mid new a b = marks_both (sets s) (sets (in_sequence (t ∷ ss))) old mid new a b
 
--- ---- what is kept of what is known
+-- ---- the known bounds that are kept
 
 kept_here : (n : ℕ) (p : ℕ → Bool) (known : List Limit) (i : ℕ) (d : Limit) → i < length known → kept n p (drop i known) ≡ kept_if (stays n p (get_or known i d)) (get_or known i d) (kept n p (drop (i + 1) known))
 kept_here n p known i d lt = ap (kept n p) (drop-cons known i d lt ∙ ap (λ k. get_or known i d ∷ drop k known) (let k : suc i ≡ i + 1 = omega arith in k))

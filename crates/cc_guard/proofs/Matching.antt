@@ -1,5 +1,6 @@
--- How code with guards goes along with code without: each move of the one is one or more moves of the other, the same call or the same
--- return; if an operation has no answer the guarded code comes to a configuration that moves to itself. And what follows for runs.
+-- How code with guards goes along with code without: each move of the code is one or more moves of the guarded code, with the
+-- same call or the same return. If an operation has no value the guarded code reaches a configuration that moves to itself. And
+-- what follows for runs.
 use Rattle.std.proofs.Common.{◌≡◌, ℕ, zero, suc, ◌+◌, ◌-◌, ◌*◌, ◌≤◌, List, [], ◌∷◌, Option, Some, None, inl, inr, refl, sym, ap, ◌∙◌, subst, arith}
 use Rattle.std.proofs.Math.Nat.{mul-le-mul_left, suc-mul}
 use Rattle.cc_simulation.specs.Behavior.{Going, Ended, Outcome, IsRight}
@@ -30,7 +31,7 @@ pub record Spins (o : List ℕ) (c : Config) : Type 0 where
 -- ---- guards run
 
 module _ (s : Statement) (κ : Continuation) (h : World) (b : ℕ) where
-  -- the rest, after a guard
+  -- what remains after a guard
   abbrev rest : List Guard → Continuation
   rest gs = Then (guards_then b gs s) κ
 
@@ -40,14 +41,14 @@ module _ (s : Statement) (κ : Continuation) (h : World) (b : ℕ) where
     pub way : Way moves (config (guards_then b gs s) κ l h) (config s κ after h)
     pub holds : P after
 
-  -- an `If` goes to its second statement, and to its first one
+  -- an `If` goes to its second statement, or to its first one
   to_second : (e : Expression) (c d : Statement) (l : Variables) (κ : Continuation) → value e l h ≡ Some 0 → cminor_move (config (If e c d) κ l h) ≡ Goes (config d κ l h)
   to_second e c d l κ v = ap (λ o. tried o (λ w. Goes (config (chosen w c d) κ l h))) v
 
   to_first : (e : Expression) (c d : Statement) (l : Variables) (κ : Continuation) (w : ℕ) → value e l h ≡ Some (suc w) → cminor_move (config (If e c d) κ l h) ≡ Goes (config c κ l h)
   to_first e c d l κ w v = ap (λ o. tried o (λ w. Goes (config (chosen w c d) κ l h))) v
 
-  -- no guard stops the run: it comes to the statement after them
+  -- no guard stops the run: it reaches the statement after them
   pub through : (gs : List Guard) (l : Variables) (P : Variables → Type 0) → Comes h gs l P → Through gs P l
   through [] l P p = record { moves = 0; after = l; way = (refl, refl); holds = p }
   through (Put t e ∷ gs) l P (w, v, p) =
@@ -90,7 +91,7 @@ module _ (s : Statement) (κ : Continuation) (h : World) (b : ℕ) where
   one_more : (c d : Config) → cminor_move c ≡ Goes d → Spins h.output d → Spins h.output c
   one_more c d e x = record { moves = suc x.moves; to = x.to; way = (d, e, x.way); stays = x.stays; output = x.output }
 
-  -- a guard stops the run: it goes on for ever, if it does so from an exit
+  -- a guard stops the run: it runs for ever, if a run from an exit does
   pub spins : ((l : Variables) → Spins h.output (config (Exit b) κ l h)) → (gs : List Guard) (l : Variables) → Stops h gs l → Spins h.output (config (guards_then b gs s) κ l h)
   spins halts [] l p = absurd p
   spins halts (Put t e ∷ gs) l (w, v, p) =
@@ -157,7 +158,7 @@ module _ (effect : ℕ → Question → Effect) (Related : Config → Config →
   matches_after o (Returns r) n d e p x = record { moves = n + x.moves; to = x.to; way = way_then n x.moves d e x.to p x.way; returns = x.returns; output = x.output }
   matches_after o Fails n d e p x = record { moves = n + x.moves; to = x.to; way = way_then n x.moves d e x.to p x.way; stays = x.stays; output = x.output }
 
-  -- guards, then a statement: no guard stops the run exactly if the statement's move can be made
+  -- guards, then a statement: no guard stops the run exactly if the statement can make its move
   pub guards_match : {A : Type 0} (b : ℕ) (gs : List Guard) (t : Statement) (κ : Continuation) (l : Variables) (h : World) (o : Option A) (go : A → Move Config) (Q : Variables → A → Type 0) → ((m : Variables) → Spins h.output (config (Exit b) κ m h)) → Meets h gs l o Q
       → ((m : Variables) (a : A) → Q m a → o ≡ Some a → Matches h.output (go a) (config t κ m h)) → Matches h.output (tried o go) (config (guards_then b gs t) κ l h)
   guards_match b gs t κ l h None go Q halts p f = spins t κ h b halts gs l p
@@ -193,7 +194,7 @@ module _ (effect : ℕ → Question → Effect) (Related : Config → Config →
       let y : suc (n + works k j d) ≡ suc n + works k j d = omega arith in
       ap (λ m. works m j c) z ∙ ap (λ v. work_act effect v j (works (n + k))) q ∙ ap suc (way_work n k j u d r) ∙ y
 
-  -- a cut with this outcome, of which so much was done
+  -- a cut with this outcome, of a run that has done so much
   pub record Cut (j : ℕ) (a : Outcome Answer) (done : ℕ) (d : Config) : Type 0 where
     pub k : ℕ
     pub same : runs k j d ≡ a
@@ -202,7 +203,7 @@ module _ (effect : ℕ → Question → Effect) (Related : Config → Config →
   cut_after : (n j : ℕ) (a : Outcome Answer) (done more : ℕ) (d e : Config) → Way n d e → more ≤ n + done → Cut j a done e → Cut j a more d
   cut_after n j a done more d e p le x = record { k = n + x.k; same = way_run n x.k j d e p ∙ x.same; paid = let y = x.paid in let z = way_work n x.k j d e p in omega arith }
 
-  -- ---- an operation that has no answer
+  -- ---- an operation that has no value
 
   stays_run : (k j : ℕ) (c : Config) → cminor_move c ≡ Goes c → runs k j c ≡ record { stop = Going; output = cminor_output c }
   stays_run zero j c e = refl
@@ -212,7 +213,7 @@ module _ (effect : ℕ → Question → Effect) (Related : Config → Config →
   stays_work zero j c e = refl
   stays_work (suc k) j c e = ap (λ m. work_act effect m j (works k)) e ∙ ap suc (stays_work k j c e)
 
-  -- cuts with as many moves as is wanted, all going with this output
+  -- cuts of any number of moves, all still running with this output
   abbrev pub Hangs : ℕ → List ℕ → Config → Type 0
   Hangs j o d = (n : ℕ) → Cut j (record { stop = Going; output = o }) n d
 
@@ -297,7 +298,7 @@ module _ (effect : ℕ → Question → Effect) (Related : Config → Config →
     hung zero j o c d rel f = absurd (let g : None ≡ Some o = f in cc)
     hung (suc k) j o c d rel f = hung_at k j o c d (cminor_move c) (matches c d rel) (λ i c d. hung k i o c d) f
 
-    -- ---- what is kept
+    -- ---- what holds at an effect
 
     abbrev pub IsKept : (rate n : ℕ) → Effect → Config → Type 0
     IsKept rate n e c = (k : ℕ) × (j : ℕ) × Keeps rate n e (works k j c) (runs k j c)

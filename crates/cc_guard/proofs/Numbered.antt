@@ -1,4 +1,4 @@
--- The numbers in guarded code are below their limits, if its guards set no more variables than there are.
+-- The numbers in guarded code are below their limits, if its guards set no more variables than code may have.
 use Rattle.std.proofs.Common.{ℕ, suc, ◌<◌, ◌≤◌, Bool, true, false, List, [], ◌∷◌, ◌++◌, arith, ◌≡◌, subst}
 use Rattle.std.specs.Prelude.{if◌then◌else◌, max}
 use Rattle.std.proofs.Math.Nat.{le-max_left, le-max_right}
@@ -31,7 +31,7 @@ then_fits b (Put t e ∷ gs) s p q = ((p.0, p.1), then_fits b gs s p.2 q)
 then_fits b (Stop e ∷ gs) s p q = ((p.0, tt, tt), then_fits b gs s p.1 q)
 then_fits b (StopBoth d e ∷ gs) s p q = ((p.0.0, (p.0.1, tt, tt), tt), then_fits b gs s p.1 q)
 
--- ---- the next variable grows
+-- ---- the next variable does not decrease
 
 waits_grow : (e : Expression) (g : Guarded) → g.next ≤ (waits_as e g).next
 waits_grow (Constant w) g = omega arith

@@ -1,7 +1,7 @@
--- Code that keeps up with the checked function as it is, and goes wrong if the function does, is of a function that goes wrong only in depth. For
--- if the function went wrong otherwise, the checked one would go on for ever, so a run of the code would go wrong at no bound; but the code goes
--- wrong in the plain meaning, and the two meanings are the same for all that it calls. So by induction on the number of open calls the plain and the
--- checked meaning of such a unit are one.
+-- Code that keeps up with the checked function unchanged, and goes wrong if the function does, belongs to a function that goes
+-- wrong only in depth. For if the function went wrong otherwise, the checked function would run for ever, so a run of the code
+-- would go wrong at no bound. But the code goes wrong in the plain meaning, and the two meanings agree on every function that it
+-- calls. So by induction on the number of open calls the plain and the checked meaning of such a unit are the same.
 use Rattle.std.proofs.Common.{◌≡◌, ℕ, zero, suc, ◌+◌, ◌-◌, ◌<◌, Bool, true, false, List, [], length, unwrap_or, refl, sym, ap, ◌∙◌, subst, inl, inr, arith}
 use Rattle.std.specs.Prelude.{if◌then◌else◌}
 use Rattle.std.proofs.lemmas.Bool.{cases_lt}
@@ -78,7 +78,7 @@ module _ (unit : List External) (each : NoneNeedsGuard unit) (go_on : BodiesGoOn
     same_run zero j x is = refl
     same_run (suc k) j x is = same_act k j (cminor_output x) (cminor_move x) (moves_on unit x is) (same_run k)
 
-    -- ---- it ends with a word
+    -- ---- the run ends with a word
 
     given_resumed : (k : ℕ) (e : Effect) (resume : Answer → Config) → Fits e → ((a : Answer) → IsGiven unit a → IsOfWords unit (resume a)) → ((j : ℕ) (x : Config) (b : Answer) → IsOfWords unit x → (runs_in checkedly k j x).stop ≡ runs.Ended b → IsGiven unit b)
         → (b : Answer) → (resumed e resume (runs_in checkedly k)).stop ≡ runs.Ended b → IsGiven unit b
@@ -125,7 +125,7 @@ module _ (unit : List External) (each : NoneNeedsGuard unit) (go_on : BodiesGoOn
           let k = subst (λ (x : Effect). Keeps 1 n x (work cminor_move checkedly t.2.moves t.2.steps (cminor_start code ws h)) (runs_in checkedly t.2.moves t.2.steps (cminor_start code ws h))) e t.2.keeps in
           given t.2.moves t.2.steps (cminor_start code ws h) a start (ap (λ (o : runs.Outcome Answer). o.stop) k.0)
 
-      -- going wrong, but not in depth, it would do so at all bounds: the checked one never
+      -- if it went wrong, but not in depth, it would do so at all bounds, and the checked function at none
       stays_right : (cause : Cause) → stays Checked cause ≡ true → (x : by_name.Effect by_name.Answer) → ((d : Cause) (o : List ℕ) → x ≡ by_name.Failed d o → d ≡ cause) → IsRight (answered (numbered Checked x)).stop
       stays_right cause s (by_name.Answers a left) f = tt
       stays_right cause s (by_name.Unfinished o) f = tt
@@ -206,7 +206,7 @@ module _ (unit : List External) (each : NoneNeedsGuard unit) (go_on : BodiesGoOn
 
 -- ---- programs
 
--- the stop without its cause tells it, but for depth
+-- the stop without its cause determines it, but for depth
 differs : (cause : Cause) → stays Checked cause ≡ true → stop_without_cause (Wrong cause) ≡ stop_without_cause (checked_stop (Wrong cause)) → ⊥
 differs cause s e =
     let f : runs.Wrong ≡ stop_without_cause (if stays Checked cause then outcome.Going else Wrong cause) = e in

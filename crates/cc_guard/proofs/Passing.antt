@@ -1,4 +1,4 @@
--- What guards do to the variables: the run comes after all of them, or one stops it. By recursion on the guards, with no run in it.
+-- What guards do to the variables: the run passes all of them, or one stops it. By recursion on the guards, without a run.
 use Rattle.std.proofs.Common.{◌≡◌, ℕ, suc, List, [], ◌∷◌, ◌++◌, Option, Some, None, ◌⊎◌, inl, inr, refl}
 use Rattle.cc_simulation.specs.World.{World}
 use Rattle.cc_cminor.specs.Cminor.{Expression, Variables, value, put, then_value}
@@ -9,7 +9,7 @@ module _ (h : World) where
   abbrev pub Passes : (first second : Expression) → Variables → Type 0
   Passes d e l = (value d l h ≡ Some 0) ⊎ ((v : ℕ) × (value d l h ≡ Some (suc v)) × (value e l h ≡ Some 0))
 
-  -- no guard stops the run, and P of the variables after them
+  -- no guard stops the run, and P holds of the variables after them
   abbrev pub Comes : List Guard → Variables → (Variables → Type 0) → Type 0
   Comes [] l P = P l
   Comes (Put t e ∷ gs) l P = (w : ℕ) × (value e l h ≡ Some w) × Comes gs (put l t w) P
@@ -23,7 +23,7 @@ module _ (h : World) where
   Stops (Stop e ∷ gs) l = ((w : ℕ) × (value e l h ≡ Some (suc w))) ⊎ ((value e l h ≡ Some 0) × Stops gs l)
   Stops (StopBoth d e ∷ gs) l = ((v : ℕ) × (w : ℕ) × (value d l h ≡ Some (suc v)) × (value e l h ≡ Some (suc w))) ⊎ (Passes d e l × Stops gs l)
 
-  -- no guard stops the run exactly if there is a value, and then Q of the variables after them and the value
+  -- no guard stops the run exactly if there is a value, and then Q holds of the variables after them and the value
   abbrev pub Meets : {A : Type 0} → List Guard → Variables → Option A → (Variables → A → Type 0) → Type 0
   Meets gs l None Q = Stops gs l
   Meets gs l (Some a) Q = Comes gs l (λ m. Q m a)
@@ -59,7 +59,7 @@ module _ (h : World) where
   then_meets gs is l a None Q R p f = stops_then gs is l (comes_as gs l (λ m. Q m a) (λ m. Stops is m) p f)
   then_meets gs is l a (Some b) Q R p f = comes_then gs is l (λ m. R m b) (comes_as gs l (λ m. Q m a) (λ m. Comes is m (λ n. R n b)) p f)
 
-  -- guards of one value, and after them those of what is made of it
+  -- the guards of one value, and after them the guards of what is computed from it
   pub meets_then : {A B : Type 0} (gs is : List Guard) (l : Variables) (o : Option A) (go : A → Option B) (Q : Variables → A → Type 0) (R : Variables → B → Type 0) → Meets gs l o Q
       → ((m : Variables) (a : A) → Q m a → Meets is m (go a) R) → Meets (gs ++ is) l (then_value o go) R
   meets_then gs is l None go Q R p f = stops_first gs is l p
@@ -71,7 +71,7 @@ module _ (h : World) where
   meets_with gs is l None go Q R p f = stops_first gs is l p
   meets_with gs is l (Some a) go Q R p f = then_meets gs is l a (go a) Q R p (λ m q. f m a refl q)
 
-  -- what is made of a value without guards
+  -- what is computed from a value without guards
   pub meets_made : {A B : Type 0} (gs : List Guard) (l : Variables) (o : Option A) (f : A → B) (Q : Variables → A → Type 0) (R : Variables → B → Type 0) → Meets gs l o Q
       → ((m : Variables) (a : A) → Q m a → R m (f a)) → Meets gs l (then_value o (λ a. Some (f a))) R
   meets_made gs l None f Q R p g = p

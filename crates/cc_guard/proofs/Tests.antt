@@ -1,4 +1,5 @@
--- The tests tell: an operator's on two variables, whether it has an answer; an index's, whether it is in its object.
+-- The tests are right: an operator's test on two variables shows whether it has a value, and an index's test shows whether it is
+-- in its object.
 use Rattle.std.proofs.Common.{◌≡◌, ℕ, zero, suc, ◌-◌, ◌^◌, ◌<◌, Bool, true, false, List, [], ◌∷◌, length, map, get_or, ◌==◌, nat_lt, nat_le, Option, Some, None, option_map, slice_get, refl, sym, ap, ◌∙◌, subst, ◌⊎◌, inl, inr, arith}
 use Rattle.std.specs.Prelude.{if◌then◌else◌, not, ◌&&◌, ◌||◌, set}
 use Rattle.std.proofs.lemmas.Bool.Decides.{nat_tests}
@@ -73,7 +74,7 @@ module _ (h : World) where
   shift_asked b l y w R v f =
       tested h (Binary LeU (Constant 32) b) l (if nat_lt y 32 then Some w else None) R (by_not (Binary LeU (Constant 32) b) l (nat_lt y 32) w (below_asked b l y 32 v)) f
 
-  -- what is asked stops the run exactly if the operator has no answer
+  -- an operator's guards stop the run exactly if it has no value
   pub asked_meets : (op : two.Binary) (a b : Expression) (l : Variables) (x y : ℕ) (R : Variables → ℕ → Type 0) → value a l h ≡ Some x → value b l h ≡ Some y → ((w : ℕ) → apply_binary op x y ≡ Some w → R l w) → Meets h (asked op a b) l (apply_binary op x y) R
   asked_meets Add a b l x y R u v f = f _ refl
   asked_meets Sub a b l x y R u v f = f _ refl
@@ -105,7 +106,7 @@ found_at (x ∷ gs) (suc o) = found_at gs o
 size_found : (objects : List Size) (h : World) → map size_of h.globals ≡ objects → (o : ℕ) → size_in objects o ≡ size_of (object_of h o)
 size_found objects h e o = ap (λ (z : List Size). size_in z o) (sym e) ∙ found_at h.globals o
 
--- an element is there just where its index is below the length
+-- there is an element exactly if its index is below the length
 below : (ws : List ℕ) (i : ℕ) → ((nat_lt i (length ws) ≡ true) × (w : ℕ) × (slice_get ws i ≡ Some w)) ⊎ ((nat_lt i (length ws) ≡ false) × (slice_get ws i ≡ None))
 below [] i = inr (grind (arith, nat_tests), refl)
 below (w ∷ ws) zero = inl (grind (arith, nat_tests), w, refl)

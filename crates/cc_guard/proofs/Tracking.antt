@@ -1,4 +1,5 @@
--- The whole: code that keeps up with a meaning, or comes to what it cannot do, keeps up with it when it is guarded.
+-- The whole: code that keeps up with a meaning, or reaches an operation without a value, keeps up with the meaning once it is
+-- guarded.
 use Rattle.std.proofs.Common.{◌≡◌, ℕ, suc, Bool, true, false, List, [], map, inl, inr, refl, sym, subst, arith}
 use Rattle.std.specs.Prelude.{if◌then◌else◌}
 use Rattle.cc_simulation.specs.World.{World, size_of, Question, Answer, Effect, Gives}

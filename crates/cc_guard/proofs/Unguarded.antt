@@ -1,4 +1,4 @@
--- Code in which no guard is needed: it is as it was, and it never comes to what it cannot do.
+-- Code that needs no guard: it stays as it was, and it never reaches an operation without a value.
 use Rattle.std.proofs.Common.{◌≡◌, ℕ, zero, suc, Bool, true, false, List, [], ◌∷◌, ◌++◌, map, Option, Some, None, refl, sym, ap, ◌∙◌, subst}
 use Rattle.std.specs.Prelude.{if◌then◌else◌, ◌||◌}
 use Rattle.cc_words.specs.declared.operators.Binary as two
@@ -31,7 +31,7 @@ pushed : {A : Type 0} (gs : List Guard) (g : Guard) → some_guard (gs ++ g ∷ 
 pushed [] g e = no_true e
 pushed (x ∷ gs) g e = no_true e
 
--- where there is a test, something is asked
+-- an operator that is tested has a guard
 asked_some : (ks : List Limit) (op : two.Binary) (a b c : Expression) → always ks op c ≡ false → some_guard (asked op a b) ≡ true
 asked_some ks Add a b c e = no_true e
 asked_some ks Sub a b c e = no_true e
@@ -65,7 +65,7 @@ module _ (objects : List Size) where
   abbrev after : Guarded → Expression → Guarded
   after g e = guarded objects g.known g.next e
 
-  -- ---- it is as it was
+  -- ---- the code stays as it was
 
   operator_same : (r : Bool) (op : two.Binary) (a b : Expression) (g : Guarded) → always g.known op b ≡ r
       → some_guard (if r then with_binary op g (after g b) else with_test op (waiting_if (reads_left op) g) (waiting (after (waiting_if (reads_left op) g) b))).before ≡ false
@@ -140,7 +140,7 @@ module _ (objects : List Size) where
     same_code b (Exit k) ks none = refl
     same_code b (Return e) ks none = alone b (guarded objects ks n e).before _ none ∙ ap (λ v. Return v) (same_expression e ks n none)
 
-    -- ---- it never comes to what it cannot do
+    -- ---- the code never reaches an operation without a value
 
     module _ (effect : ℕ → Question → Effect) (keeps : (j left : ℕ) (q : Question) (a : Answer) → effect j q ≡ Gives a left → map size_of q.world.globals ≡ objects → map size_of a.world.globals ≡ objects) where
       abbrev CanMove : Move Config → Type 0

@@ -1,4 +1,5 @@
--- A guarded expression: its guards let the run pass exactly if the expression has a value, and then its value after them is that.
+-- A guarded expression: its guards let the run pass exactly if the expression has a value, and then its value after them is that
+-- one.
 use Rattle.std.proofs.Common.{◌≡◌, ℕ, suc, ◌-◌, ◌<◌, ◌≤◌, Bool, true, false, ◌==◌, cond, List, [], ◌∷◌, ◌++◌, map, Option, Some, None, refl, sym, ap, ◌∙◌, subst, append-nil, arith}
 use Rattle.std.specs.Prelude.{if◌then◌else◌}
 use Rattle.std.proofs.lemmas.Bool.Decides.{nat_tests}
@@ -36,7 +37,7 @@ agree_on n k i m l le p q = λ x lt. p x (omega arith) ∙ q x lt
 agree_put : (n t w : ℕ) (m l : Variables) → n ≤ t → Agree n m l → Agree n (put m t w) l
 agree_put n t w m l le p = λ x lt. put_elsewhere m t w x (omega arith) ∙ p x lt
 
--- an expression has one value there
+-- an expression has the same value with both
 pub same_value : (e : Expression) (n : ℕ) (m l : Variables) (h : World) → Under n e → Agree n m l → value e m h ≡ value e l h
 same_value (Constant w) n m l h u p = refl
 same_value (Local x) n m l h u p = ap Some (p x u)
@@ -63,7 +64,7 @@ pub all_under_more : (n k : ℕ) (es : List Expression) → n ≤ k → AllUnder
 all_under_more n k [] le u = tt
 all_under_more n k (e ∷ es) le u = (under_more n k e le u.0, all_under_more n k es le u.1)
 
--- what is known stays known if its variables keep their words
+-- what is known stays known if the variables in it keep their words
 abbrev pub LimitsUnder : ℕ → List Limit → Type 0
 LimitsUnder n [] = Unit {0}
 LimitsUnder n (k ∷ ks) = (k.variable < n) × LimitsUnder n ks
@@ -147,14 +148,14 @@ module _ (objects : List Size) where
   sound (Load w o i) ks n u v = let s = sound_indexed ks w o n i (guarded objects ks n i) (sound i ks n u v) in record { grows = s.grows; under = s.under; limits = s.limits }
 
   module _ (h : World) (sizes : map size_of h.globals ≡ objects) where
-    -- after the guards: the variables below n as before, the value, and what is known
+    -- after the guards: the variables below n are as before, the value is there, and what is known holds
     abbrev pub HasValue : ℕ → Expression → List Limit → Variables → Variables → ℕ → Type 0
     HasValue n e ks l m w = Agree n m l × (value e m h ≡ Some w) × Holds ks m
 
     abbrev pub IsGuarded : ℕ → Guarded → Variables → Option ℕ → Type 0
     IsGuarded n g l o = Meets h g.before l o (λ m w. HasValue n g.value g.known l m w)
 
-    -- a value waits
+    -- a value is put into a variable
     put_waits : (n : ℕ) (g : Guarded) (l : Variables) (o : Option ℕ) → IsSound n g → IsGuarded n g l o
         → Meets h (g.before ++ Put g.next g.value ∷ []) l o (λ m w. HasValue n (Local g.next) g.known l m w)
     put_waits n g l o s p =

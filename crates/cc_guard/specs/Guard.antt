@@ -1,5 +1,5 @@
--- What the pass makes: the same code, in which a test comes before an operation that may have no answer. If a test fails the run leaves all
--- blocks, to a loop at the end of the function that goes on for ever and does nothing.
+-- What the pass makes: the same code with a test before each operation that may have no value. If a test fails the run leaves all
+-- blocks and reaches a loop at the end of the function, which goes on for ever and does nothing.
 use Rattle.std.specs.Prelude.{ℕ, zero, suc, ◌+◌, ◌-◌, ◌*◌, ◌/◌, ◌^◌, ◌==◌, nat_lt, nat_le, min, max, Bool, true, false, not, ◌&&◌, ◌||◌, List, [], ◌∷◌, ◌++◌, Option, Some, None, if◌then◌else◌}
 use Rattle.std.specs.Option.{option_or}
 use Rattle.cc_words.specs.declared.operators.Unary as one
@@ -14,17 +14,18 @@ use Rattle.cc_guard.specs.declared.known.Limit.{Limit}
 
 -- ---- guards
 
--- What comes before a statement: a word is put into a variable; the run stops if a word is not 0; it stops if neither of two words is 0.
+-- What comes before a statement. `Put` puts a word into a variable, `Stop` stops the run if a word is not 0, and `StopBoth` stops
+-- it if neither of two words is 0.
 pub data Guard : Type 0 where
   Put : (variable : ℕ) → Expression → Guard
   Stop : Expression → Guard
   StopBoth : (first second : Expression) → Guard
 
--- the loop that never ends, and does nothing
+-- the loop that never ends and does nothing
 abbrev pub forever : Statement
 forever = Loop Skip
 
--- in so many blocks of the function's own
+-- a guard as code, in so many blocks of the function
 abbrev pub guard_code : (blocks : ℕ) → Guard → Statement
 guard_code b (Put t e) = Set t e
 guard_code b (Stop e) = If e (Exit b) Skip
@@ -35,23 +36,23 @@ abbrev pub guards_then : (blocks : ℕ) → List Guard → Statement → Stateme
 guards_then b [] s = s
 guards_then b (g ∷ gs) s = Sequence (guard_code b g) (guards_then b gs s)
 
--- An expression that has a value after these guards, which set no variable below a given one and none from `next` on; and what is known of
--- variables then.
+-- An expression with the guards that come before its value. The guards set only variables from some number on and below `next`.
+-- `known` holds what is known of variables after them.
 pub record Guarded : Type 0 where
   pub before : List Guard
   pub value : Expression
   pub next : ℕ
   pub known : List Limit
 
--- ---- when an operation has an answer
+-- ---- when an operation has a value
 
--- the less of two words, if there are two
+-- the lesser of two bounds, if there are two
 abbrev pub least : Option ℕ → Option ℕ → Option ℕ
 least None b = b
 least (Some m) None = Some m
 least (Some m) (Some k) = Some (min m k)
 
--- a sum and a product that are words
+-- a sum and a product, if they are words
 abbrev pub if_word : ℕ → Option ℕ
 if_word m = if nat_lt m (2 ^ 32) then Some m else None
 
@@ -65,12 +66,12 @@ most_product None b = None
 most_product (Some m) None = None
 most_product (Some m) (Some k) = if_word (m * k)
 
--- a remainder by a constant
+-- the bound of a remainder by a constant
 abbrev pub below_divisor : Expression → Option ℕ
 below_divisor (Constant (suc w)) = Some w
 below_divisor e = None
 
--- the greatest word that a variable can have, by what was known last
+-- the greatest word that a variable can have: the last bound in the list for it
 abbrev pub most_if : Bool → (most : ℕ) → Option ℕ
 most_if b m = if b then Some m else None
 
@@ -98,14 +99,14 @@ most ks (Binary LeU a b) = Some 1
 most ks (Binary op a b) = None
 most ks (Load w o i) = None
 
--- it is evidently below a number
+-- the bound is evidently below a number
 abbrev pub is_below : Option ℕ → ℕ → Bool
 is_below None n = false
 is_below (Some m) n = nat_lt m n
 
--- ---- what a condition tells of a variable
+-- ---- what a condition shows of a variable
 
--- the greatest word below another
+-- the word before another, if there is one
 abbrev pub less_one : Option ℕ → Option ℕ
 less_one None = None
 less_one (Some zero) = None
@@ -116,7 +117,7 @@ abbrev pub told_of : Expression → Option ℕ → Option Limit
 told_of (Local x) (Some m) = Some (record { variable = x; most = m })
 told_of e m = None
 
--- the first of two values is below the second, or is not; it is at most the second, or is not
+-- the first of two values is below the second, or is not; the first is at most the second, or is not
 abbrev pub told_less : (way : Bool) → (a b : Expression) → (most_a most_b : Option ℕ) → Option Limit
 told_less true a b m k = told_of a (less_one k)
 told_less false a b m k = told_of b m
@@ -125,11 +126,11 @@ abbrev pub told_most : (way : Bool) → (a b : Expression) → (most_a most_b : 
 told_most true a b m k = told_of a k
 told_most false a b m k = told_of b (less_one m)
 
--- signed words compare as words do if both are below 2^31
+-- signed words compare as unsigned ones do if both are below 2^31
 abbrev pub if_small : Option ℕ → Option ℕ → Option Limit → Option Limit
 if_small m k told = if is_below m (2 ^ 31) && is_below k (2 ^ 31) then told else None
 
--- if a condition is not 0, and if it is 0
+-- the bound that is known if a condition is not 0, or if it is 0
 abbrev pub told : List Limit → (way : Bool) → Expression → Option Limit
 told ks way (Binary LtS a b) = if_small (most ks a) (most ks b) (told_less way a b (most ks a) (most ks b))
 told ks way (Binary LtU a b) = told_less way a b (most ks a) (most ks b)
@@ -141,9 +142,9 @@ abbrev pub with_told : List Limit → Option Limit → List Limit
 with_told ks None = ks
 with_told ks (Some k) = ks ++ k ∷ []
 
--- ---- operations that evidently have an answer
+-- ---- operations that evidently have a value
 
--- it is a word but 0, and but -1
+-- the expression is a constant other than 0, and other than -1 too
 abbrev pub is_divisor : Expression → Bool
 is_divisor (Constant w) = not (w == 0)
 is_divisor e = false
@@ -152,7 +153,7 @@ abbrev pub is_signed_divisor : Expression → Bool
 is_signed_divisor (Constant w) = not (w == 0) && not (w == 2 ^ 32 - 1)
 is_signed_divisor e = false
 
--- an operator evidently has an answer with this right operand, whatever the left one is
+-- an operator evidently has a value with this right operand, whatever the left one is
 -- ORDER Binary
 abbrev pub always : List Limit → two.Binary → (right : Expression) → Bool
 always ks Add b = true
@@ -175,9 +176,9 @@ always ks LtU b = true
 always ks LeS b = true
 always ks LeU b = true
 
--- ---- what is asked before an operator: the run stops exactly if there is no answer
+-- ---- the guards of an operator: the run stops exactly if the operator has no value
 
--- a quotient with signs: not by 0, and not -2147483648 by -1
+-- a signed quotient: the divisor is not 0, and it is not -2147483648 by -1
 abbrev pub asked_signed : (a b : Expression) → List Guard
 asked_signed a b = Stop (Unary IsZero b) ∷ StopBoth (Binary Eq b (Constant (2 ^ 32 - 1))) (Binary Eq a (Constant (2 ^ 31))) ∷ []
 
@@ -209,7 +210,7 @@ asked LtU a b = []
 asked LeS a b = []
 asked LeU a b = []
 
--- whether the left operand is asked for too
+-- whether the guards read the left operand too
 abbrev pub reads_left : two.Binary → Bool
 reads_left DivS = true
 reads_left RemS = true
@@ -224,11 +225,11 @@ elements_in objects w o = elements_of (size_in objects o) w
 
 -- ---- an expression
 
--- as it is
+-- an expression without guards
 abbrev pub plain : List Limit → ℕ → Expression → Guarded
 plain ks n e = record { before = []; value = e; next = n; known = ks }
 
--- a value that is read twice waits in a variable, if it is not a word or a variable already
+-- a value that is read twice waits in a variable, unless it is a constant or a variable already
 abbrev pub waits_as : Expression → Guarded → Guarded
 waits_as (Constant w) g = g
 waits_as (Local x) g = g
@@ -247,14 +248,14 @@ with_unary op g = record { before = g.before; value = Unary op g.value; next = g
 abbrev pub with_binary : two.Binary → Guarded → Guarded → Guarded
 with_binary op a b = record { before = a.before ++ b.before; value = Binary op a.value b.value; next = b.next; known = b.known }
 
--- and after it was asked whether there is an answer
+-- the same, after the guards of the operator as well
 abbrev pub with_test : two.Binary → Guarded → Guarded → Guarded
 with_test op a b = record { before = a.before ++ (b.before ++ asked op a.value b.value); value = Binary op a.value b.value; next = b.next; known = b.known }
 
 abbrev pub with_load : Width → (object : ℕ) → Guarded → Guarded
 with_load w o i = record { before = i.before; value = Load w o i.value; next = i.next; known = i.known }
 
--- a value is below a number: if it is that of a variable, that is known from then on
+-- a value is below a number: if the value is a variable's, the bound is known from then on
 abbrev pub learned : Expression → ℕ → List Limit → List Limit
 learned (Local x) n ks = ks ++ record { variable = x; most = n - 1 } ∷ []
 learned e n ks = ks
@@ -262,7 +263,7 @@ learned e n ks = ks
 abbrev pub bounded : ℕ → Guarded → Guarded
 bounded n g = record { before = g.before ++ Stop (Binary LeU (Constant n) g.value) ∷ []; value = g.value; next = g.next; known = learned g.value n g.known }
 
--- an index of an object, after its own guards: it is asked whether it is in the object, if it is not evidently
+-- an index of an object, after its own guards, with a guard that it is in the object unless that is evident
 abbrev pub indexed : List Size → List Limit → Width → (object : ℕ) → Expression → Guarded → Guarded
 indexed objects ks w o i g = if is_below (most ks i) (elements_in objects w o) then g else bounded (elements_in objects w o) (waiting g)
 
@@ -276,7 +277,7 @@ guarded objects ks n (Binary op a b) =
     else with_test op (waiting_if (reads_left op) (guarded objects ks n a)) (waiting (guarded objects (waiting_if (reads_left op) (guarded objects ks n a)).known (waiting_if (reads_left op) (guarded objects ks n a)).next b))
 guarded objects ks n (Load w o i) = with_load w o (indexed objects ks w o i (guarded objects ks n i))
 
--- some expressions
+-- a list of expressions
 pub record GuardedAll : Type 0 where
   pub before : List Guard
   pub values : List Expression
@@ -290,7 +291,7 @@ abbrev pub guarded_all : List Size → List Limit → (n : ℕ) → List Express
 guarded_all objects ks n [] = record { before = []; values = []; next = n; known = ks }
 guarded_all objects ks n (e ∷ es) = with_first (guarded objects ks n e) (guarded_all objects (guarded objects ks n e).known (guarded objects ks n e).next es)
 
--- the index of a store, and its word, after the guards of its index
+-- the index of a store, and then its word, after the guards of the index
 abbrev pub first_index : List Size → List Limit → (n : ℕ) → Width → (object : ℕ) → Expression → Guarded
 first_index objects ks n w o i = indexed objects ks w o i (guarded objects ks n i)
 
@@ -299,7 +300,7 @@ stored_word objects i e = guarded objects i.known i.next e
 
 -- ---- what is known after a statement
 
--- a statement, or a part of it, sets a variable
+-- the statement, or a part of it, sets the variable
 abbrev pub sets_result : Option ℕ → (variable : ℕ) → Bool
 sets_result None x = false
 sets_result (Some y) x = y == x
@@ -318,7 +319,7 @@ sets (Block s) x = sets s x
 sets (Exit k) x = false
 sets (Return e) x = false
 
--- what is known of variables below n that were not changed
+-- the known bounds of variables below n that were not changed
 abbrev pub stays : (n : ℕ) → (changed : ℕ → Bool) → Limit → Bool
 stays n changed k = nat_lt k.variable n && not (changed k.variable)
 
@@ -329,12 +330,12 @@ abbrev pub kept : (n : ℕ) → (changed : ℕ → Bool) → List Limit → List
 kept n changed [] = []
 kept n changed (k ∷ ks) = kept_if (stays n changed k) k (kept n changed ks)
 
--- a variable was set to a word that is not greater than this, if something is known of it
+-- a variable was set to a word of at most `most`, if that is known
 abbrev pub set_to : (variable : ℕ) → Option ℕ → List Limit → List Limit
 set_to x None ks = ks
 set_to x (Some m) ks = ks ++ record { variable = x; most = m } ∷ []
 
--- what both of two ways know of a variable, where one of them knows this
+-- the bounds that hold on both of two ways: for a variable with a bound on both, the greater one
 abbrev pub either : Limit → Option ℕ → List Limit → List Limit
 either k None ks = ks
 either k (Some m) ks = record { variable = k.variable; most = max k.most m } ∷ ks
@@ -347,7 +348,7 @@ joined (k ∷ ks) other = either k (most_in other k.variable) (joined ks other)
 abbrev pub unset : Statement → (variable : ℕ) → Bool
 unset s x = not (sets s x)
 
--- what is after a statement can be done next
+-- control may reach the end of a statement, by its form
 abbrev pub falls : Statement → Bool
 falls Skip = true
 falls (Set x e) = true
@@ -362,7 +363,7 @@ falls (Block s) = true
 falls (Exit k) = false
 falls (Return e) = false
 
--- an exit in a statement leaves the block that it is in, or so many more
+-- an exit in the statement leaves just the block number k around it: 0 is the innermost one
 abbrev pub leaves : (outer : ℕ) → Statement → Bool
 leaves k Skip = false
 leaves k (Set x e) = false
@@ -377,18 +378,19 @@ leaves k (Block s) = leaves (suc k) s
 leaves k (Exit j) = j == k
 leaves k (Return e) = false
 
--- after an `If`, of which each way knows this at its end if it comes there; `before` is what was known before of variables that no part sets
+-- after an `If`: `one` and `other` are known at the ends of its ways that control can reach; `before` was known before, of
+-- variables that no part sets
 abbrev pub met : (first second : Bool) → (n : ℕ) → Statement → (before one other : List Limit) → List Limit
 met true true n s before one other = before ++ joined (kept n (unset s) one) other
 met true false n s before one other = one
 met false true n s before one other = other
 met false false n s before one other = before
 
--- what is known where a way of an `If` begins
+-- what is known at the start of a way of an `If`
 abbrev pub known_within : List Size → (n : ℕ) → (way : Bool) → List Limit → Expression → List Limit
 known_within objects n way ks e = kept n (sets Skip) (with_told (guarded objects ks n e).known (told (guarded objects ks n e).known way e))
 
--- loops are not entered, since the end of a loop is never come to, and a block only if no exit leaves just it
+-- loops are not entered, since control never reaches the end of a loop, and a block only if no exit leaves just that block
 abbrev pub known_after : List Size → (n : ℕ) → List Limit → Statement → List Limit
 known_after objects n ks Skip = ks
 known_after objects n ks (Set x e) = set_to x (most (guarded objects ks n e).known e) (kept n (sets (Set x e)) (guarded objects ks n e).known)
@@ -406,7 +408,7 @@ known_after objects n ks (Return e) = kept n (sets (Return e)) (guarded objects 
 
 -- ---- what is known at a loop's head
 
--- a turn leaves known at most what is known at the head: of one variable, of all, and of which
+-- a turn leaves a bound no greater than the one at the head: of one variable, of all, and the bounds for which it does
 abbrev pub at_most : Option ℕ → ℕ → Bool
 at_most None n = false
 at_most (Some m) n = nat_le m n
@@ -419,7 +421,7 @@ abbrev pub still : (after head : List Limit) → List Limit
 still after [] = []
 still after (k ∷ ks) = kept_if (at_most (most_in after k.variable) k.most) k (still after ks)
 
--- what grows in a turn is tried as far below 2^31 that sums of it are too
+-- a bound that grew in a turn is tried far above, but far enough below 2^31 that sums of it are below that too
 abbrev pub widened_if : (again : Bool) → Limit → Limit
 widened_if again k = if again then k else record { variable = k.variable; most = max k.most (2 ^ 30) }
 
@@ -427,18 +429,18 @@ abbrev pub widened : (after before : List Limit) → List Limit
 widened after [] = []
 widened after (k ∷ ks) = widened_if (at_most (most_in after k.variable) k.most) k ∷ widened after ks
 
--- after a turn with these facts of variables that the loop sets
+-- what is known after a turn that starts with the bounds `more` for variables that the loop sets
 abbrev pub turn : List Size → (n : ℕ) → List Limit → Statement → (more : List Limit) → List Limit
 turn objects n ks s more = known_after objects n (kept n (sets s) ks ++ more) s
 
--- what is known before it, and what a turn from there leaves known
+-- what is known before the loop and again after a turn that starts with the widened bounds
 abbrev pub narrowed : List Size → (n : ℕ) → List Limit → Statement → (before : List Limit) → List Limit
 narrowed objects n ks s before = joined before (turn objects n ks s (widened (turn objects n ks s before) before))
 
 abbrev pub found : List Size → (n : ℕ) → List Limit → Statement → List Limit
 found objects n ks s = still (turn objects n ks s (narrowed objects n ks s (kept n (unset s) ks))) (narrowed objects n ks s (kept n (unset s) ks))
 
--- it is tried: nothing is known of a variable that the loop sets if a turn does not leave all of that known
+-- the bounds found are verified: if a turn does not leave all of them known, nothing is known of the variables that the loop sets
 abbrev pub if_again : (after head : List Limit) → List Limit
 if_again after head = if all_again after head then head else []
 
@@ -450,7 +452,8 @@ head objects n ks s = kept n (sets s) ks ++ if_again (turn objects n ks s (found
 abbrev pub with_store : (blocks : ℕ) → Width → (object : ℕ) → Guarded → Guarded → Statement
 with_store b w o i e = guards_then b (i.before ++ e.before) (Store w o i.value e.value)
 
--- a statement in so many blocks, where this is known; the guards of each set variables from n on
+-- a statement with its guards, in so many blocks, given what is known before it; the guards of each statement set variables from
+-- n on
 abbrev pub code_after : List Size → (n : ℕ) → List Limit → (blocks : ℕ) → Statement → Statement
 code_after objects n ks b Skip = Skip
 code_after objects n ks b (Set x e) = guards_then b (guarded objects ks n e).before (Set x (guarded objects ks n e).value)
@@ -494,7 +497,7 @@ guards_after objects n ks (Return e) = some_guard (guarded objects ks n e).befor
 abbrev pub has_guards : List Size → (n : ℕ) → Statement → Bool
 has_guards objects n s = guards_after objects n [] s
 
--- the least number above each variable that the guards set, if there is one
+-- the least number above every variable that the guards set, if they set one
 abbrev pub variables_after : List Size → (n : ℕ) → List Limit → Statement → ℕ
 variables_after objects n ks Skip = 0
 variables_after objects n ks (Set x e) = (guarded objects ks n e).next
@@ -513,7 +516,8 @@ variables_after objects n ks (Return e) = (guarded objects ks n e).next
 abbrev pub variables_in : List Size → (n : ℕ) → Statement → ℕ
 variables_in objects n s = variables_after objects n [] s
 
--- the code of a function with guards, and the loop at its end; if the function's own code comes to its end, so does this
+-- the code of a function with guards, followed by the loop; if the run reaches the end of the function's own code, it reaches the
+-- end of this code too
 abbrev pub with_loop : Statement → Statement
 with_loop s = Block (Sequence (Block (Sequence s (Exit 1))) forever)
 

@@ -6,8 +6,9 @@ pub mod Held
 pub mod Laws
 -- units in which no function needs a guard
 pub mod Safe
--- the number of a fault
+-- the numbers of the faults
 pub mod Fault
+-- definitions that only private contracts and proofs use
 pub mod internal
 -- worked examples
 pub mod rows

@@ -1,9 +1,9 @@
--- What only private contracts and proofs speak of.
+-- Definitions that only private contracts and proofs use.
 -- code into which guards can be put
 pub mod Fits
--- what is to be done after a statement
+-- what remains to be done after a statement
 pub mod Next
--- that guarded code keeps up
+-- guarded code keeps up
 pub mod Laws
 -- marks for variables
 pub mod Marks

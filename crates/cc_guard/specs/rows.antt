@@ -1,2 +1,2 @@
--- guards, evident cases, what waits
+-- guards, evident cases, values that wait
 pub mod Guard

@@ -1,14 +1,16 @@
-// What is known of variables after a statement. Nothing is written: the guards of its expressions are made once more, for what they leave known.
+// Bounds that are known for variables after a statement. Nothing is written: the guards of its expressions are made again, only
+// for the bounds that they leave known.
 //
-// Loops are not entered, since the end of a loop is never come to. Of a block nothing is known of what it sets, if an exit leaves just it. What is
-// known at a loop's head is found by four turns, of which the last tries it: so a statement is walked four times more for the innermost loop that it
-// is in, and never for the others.
+// Loops are not entered, since control never reaches the end of a loop. After a block from which an exit leaves just that block,
+// nothing is known of the variables that it sets. The bounds known at a loop's head are found by four turns; the last one
+// verifies them. So a statement is walked four more times for the innermost loop that it is in, and not again for the loops
+// around that one.
 
 ghost use Rattle.std.specs.Prelude.{◌≡◌, IfOk};
 ghost use Rattle.cc_cminor.specs.Cminor as cminor;
 ghost use Rattle.cc_cminor.specs.Code.{expression_of, expressions_of, statement_of, in_sequence};
 ghost use Rattle.cc_cminor.specs.internal.Statements.{statements_of};
-ghost use Rattle.cc_guard.specs.Guard.{guarded, guarded_all, first_index, stored_word, told, with_told, kept, sets, met, falls, known_within, known_after, turn, narrowed, found, if_again, head};
+ghost use Rattle.cc_guard.specs.Guard.{guarded, guarded_all, first_index, stored_word, told, with_told, kept, sets, met, falls, known_after, turn, narrowed, found, head};
 ghost use Rattle.cc_guard.specs.internal.Written.{sizes_of};
 
 use crate::changed::{add_told, falls, kept, kept_but, kept_set, leaves, set_to};
@@ -21,7 +23,7 @@ use cc_cminor::{Expression, Statement};
 use cc_words::Width;
 use std::alloc::{AllocError, Global};
 
-// What guards leave known.
+// The bounds that guards leave known.
 fn left_known(guards: Guards) -> Vec<Limit>
     ensures { result.items ≡ guards.known.items }
 {
@@ -100,7 +102,7 @@ fn after_set(
     Ok(limits)
 }
 
-/// What is known where a way of an `If` begins, after the guards of its condition.
+/// The bounds known at the start of one way of an `If`, after the guards of its condition.
 pub fn within(
     alloc: Global,
     first: usize,
@@ -115,7 +117,7 @@ pub fn within(
     kept_but(alloc, first, None, limits.as_slice())
 }
 
-/// What is known where the ways of an `If` meet.
+/// The bounds known after an `If`, given those at the end of each way.
 pub fn meet(
     alloc: Global,
     first: usize,
@@ -149,7 +151,7 @@ pub fn meet(
     }
 }
 
-/// What is known after a statement.
+/// The bounds known after a statement.
 #[cycle(after)]
 pub fn after(
     alloc: Global,
@@ -218,7 +220,7 @@ fn after_all(
     Ok(limits)
 }
 
-// After a turn with these facts of variables that the loop sets.
+// The bounds known after one turn that starts with the bounds `more` for variables that the loop sets.
 fn turn(
     alloc: Global,
     sizes: &[ObjectSize],
@@ -265,7 +267,7 @@ fn found(
     still(alloc, turned.as_slice(), near.as_slice())
 }
 
-/// What is known at a loop's head, where this is known before the loop.
+/// The bounds known at a loop's head, given those known before the loop.
 pub fn head(
     alloc: Global,
     sizes: &[ObjectSize],

@@ -1,4 +1,4 @@
-// Expressions and statements of Cminor, made in boxes.
+// Boxed expressions and statements of Cminor.
 
 ghost use Rattle.std.specs.Prelude.{◌≡◌, IfOk};
 ghost use Rattle.cc_cminor.specs.Cminor as cminor;
@@ -68,7 +68,7 @@ pub fn load(
     boxed_expression(alloc, Expression::Load(width, object, index))
 }
 
-/// An expression once more.
+/// Copies an expression.
 pub fn copied(alloc: Global, e: &Expression) -> Result<Box<Expression>, AllocError>
     ensures { IfOk result (λ copy. expression_of copy.value ≡ expression_of e.now) }
 {
@@ -91,7 +91,7 @@ pub fn copied(alloc: Global, e: &Expression) -> Result<Box<Expression>, AllocErr
     }
 }
 
-/// Some statements, one after the other.
+/// Statements that run one after another.
 pub fn sequence(alloc: Global, all: Vec<Statement>) -> Result<Box<Statement>, AllocError>
     ensures { IfOk result (λ s. statement_of s.value ≡ in_sequence (statements_of all.items)) }
 {

@@ -1,6 +1,6 @@
-// What is known of variables after a statement that sets some of them, and how a statement is left.
+// What is known of variables after a statement that sets some of them, and how control leaves a statement.
 //
-// Which variables a statement sets is found by one walk, which marks them: there are many facts, and loops in loops.
+// One walk finds which variables a statement sets and marks them, since there are many bounds, and loops within loops.
 
 ghost use Rattle.std.specs.Prelude.{◌≡◌, ◌&&◌, ℕ, nat_lt, Bool, false, not, Some, length, get_or, IfOk, OnOk};
 ghost use Rattle.cc_cminor.specs.Code.{statement_of, in_sequence};
@@ -12,7 +12,7 @@ use crate::known::Limit;
 use cc_cminor::Statement;
 use std::alloc::{AllocError, Global};
 
-// A call or a read puts its result into this variable.
+// Whether a call or a read puts its result into this variable.
 fn sets_result(to: Option<usize>, variable: usize) -> bool
     ensures { result ≡ sets_result to variable }
 {
@@ -72,7 +72,7 @@ fn mark_all(marks: &mut Vec<bool>, all: &[Statement])
     }
 }
 
-// No mark yet.
+// Marks that are not set yet.
 fn unmarked(alloc: Global, first: usize) -> Result<Vec<bool>, AllocError>
     ensures long { IfOk result (λ marks. length marks.items ≡ first) }
     ensures none { IfOk result (λ marks. (x : ℕ) → get_or marks.items x false ≡ false) }
@@ -94,21 +94,21 @@ fn marked(alloc: Global, first: usize, s: &Statement) -> Result<Vec<bool>, Alloc
     Ok(marks)
 }
 
-// There is a mark for a variable, which is not set.
+// Whether there is a mark for a variable and it is not set.
 fn stays(marks: &[bool], variable: usize) -> bool
     ensures { (n : ℕ) (changed : ℕ → Bool) → IsMarked n changed marks.now → result ≡ (nat_lt variable n && not (changed variable)) }
 {
     variable < marks.len() && !marks[variable]
 }
 
-// There is a mark for a variable, which is set.
+// Whether there is a mark for a variable and it is set.
 fn changes(marks: &[bool], variable: usize) -> bool
     ensures { (n : ℕ) (changed : ℕ → Bool) → IsMarked n changed marks.now → result ≡ (nat_lt variable n && not (not (changed variable))) }
 {
     variable < marks.len() && marks[variable]
 }
 
-/// What is known of variables below `first` that a statement does not set.
+/// The known bounds of variables below `first` that a statement does not set.
 pub fn kept(
     alloc: Global,
     first: usize,
@@ -127,7 +127,7 @@ pub fn kept(
     Ok(limits)
 }
 
-/// The same if one variable is set, or none.
+/// The known bounds of variables below `first` but `to`, if that is one.
 pub fn kept_but(
     alloc: Global,
     first: usize,
@@ -145,7 +145,7 @@ pub fn kept_but(
     Ok(limits)
 }
 
-/// A variable was set to a word that is at most this, if something is known of it.
+/// Adds the bound of a variable that was set to a word of at most `most`, if a bound is known.
 pub fn set_to(known: &mut Vec<Limit>, variable: usize, most: Option<u32>) -> Result<(), AllocError>
     ensures { OnOk result (known.new.items ≡ set_to variable most known.old.items) }
 {
@@ -155,7 +155,7 @@ pub fn set_to(known: &mut Vec<Limit>, variable: usize, most: Option<u32>) -> Res
     Ok(())
 }
 
-/// What is known of variables below `first` that a statement sets.
+/// The known bounds of variables below `first` that a statement sets.
 pub fn kept_set(
     alloc: Global,
     first: usize,
@@ -174,7 +174,7 @@ pub fn kept_set(
     Ok(limits)
 }
 
-/// A condition told something of a variable, or nothing.
+/// Adds the bound that a condition gives, if it gives one.
 pub fn add_told(known: &mut Vec<Limit>, told: Option<Limit>) -> Result<(), AllocError>
     ensures { OnOk result (known.new.items ≡ with_told known.old.items told) }
 {
@@ -184,7 +184,7 @@ pub fn add_told(known: &mut Vec<Limit>, told: Option<Limit>) -> Result<(), Alloc
     Ok(())
 }
 
-/// Whether what is after a statement can be done next.
+/// Whether control may reach the end of a statement, by its form.
 #[cycle(falling)]
 pub fn falls(s: &Statement) -> bool
     ensures { result ≡ falls (statement_of s.now) }
@@ -214,7 +214,8 @@ fn last_falls(all: &[Statement]) -> bool
     last
 }
 
-/// Whether an exit in a statement leaves the block that it is in, or so many more.
+/// Whether an exit in a statement leaves just the block with this number: 0 is the innermost block around the statement, 1 the
+/// next one.
 #[cycle(leaving)]
 pub fn leaves(outer: usize, s: &Statement) -> Result<bool, AllocError>
     ensures { IfOk result (λ left. left ≡ leaves outer (statement_of s.now)) }

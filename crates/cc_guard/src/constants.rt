@@ -1,6 +1,7 @@
-// The constants of code are words. That is known of each once it is read, so these walks read them all; they change nothing.
+// The constants of code are words. This is known of each constant once it is read, so these walks read all of them; they change
+// nothing.
 //
-// The recursion is as deep as the tree, as that of `statements`.
+// The recursion is as deep as the tree, like that of `statements`.
 
 ghost use Rattle.cc_cminor.specs.Code.{expression_of, expressions_of, statement_of, in_sequence};
 ghost use Rattle.cc_cminor.specs.internal.Statements.{statements_of};

@@ -1,4 +1,4 @@
-// Expressions: inner parts first, left to right.
+// Expressions with their guards: inner parts first, left to right.
 //
 // The recursion is as deep as the expression, which has at most 512 tokens of the source.
 
@@ -39,7 +39,7 @@ fn waiting_if(
     }
 }
 
-// An operator that may have no answer, on a left operand that waits and a right one.
+// An operator that may have no value, on a left operand that waits in a variable and a right one.
 fn tested(
     alloc: Global,
     blocks: usize,
@@ -56,7 +56,7 @@ fn tested(
     binary(alloc, operator, a, b)
 }
 
-/// An index of an object, which is asked to be in it if it is not evidently.
+/// An index of an object, with a guard that it is in the object unless that is evident.
 #[cycle(expressions)]
 pub fn index(
     alloc: Global,
@@ -81,7 +81,7 @@ pub fn index(
     Ok(value)
 }
 
-/// An expression after its guards.
+/// Writes the guards of an expression, and returns the expression that follows them.
 #[cycle(expressions)]
 pub fn expression(
     alloc: Global,
@@ -118,7 +118,7 @@ pub fn expression(
     }
 }
 
-/// The arguments of a call after their guards.
+/// Writes the guards of the arguments of a call, and returns the arguments that follow them.
 pub fn expressions(
     alloc: Global,
     sizes: &[ObjectSize],

@@ -9,7 +9,7 @@ use thiserror::Error;
 /// Why a function has no guarded code.
 #[derive(Debug, Drop, Error)]
 pub enum GuardFault {
-    /// 22: the guards would set more variables than there are.
+    /// 22: the guards would set more variables than code may have.
     #[error("FunctionTooLarge")]
     FunctionTooLarge,
     /// 40: memory ran out.

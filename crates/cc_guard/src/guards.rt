@@ -4,7 +4,6 @@ ghost use Rattle.std.specs.Prelude.{◌≡◌, ◌∷◌, [], ◌+◌, ◌++◌,
 ghost use Rattle.cc_cminor.specs.Cminor as cminor;
 ghost use Rattle.cc_cminor.specs.Code.{expression_of, statement_of, in_sequence};
 ghost use Rattle.cc_cminor.specs.internal.Statements.{statements_of};
-ghost use Rattle.cc_words.specs.declared.operators.Unary.TheVariants as one;
 ghost use Rattle.cc_words.specs.declared.operators.Binary.TheVariants as two;
 ghost use Rattle.cc_guard.specs.Guard as guard;
 ghost use Rattle.cc_guard.specs.Guard.{Stop, StopBoth, guard_code, asked_signed, asked, learned, waiting, bounded, forever, with_loop};
@@ -16,7 +15,8 @@ use cc_cminor::{Expression, Statement};
 use cc_words::{Binary, Unary};
 use std::alloc::{AllocError, Global};
 
-/// The guards of a statement so far, the next variable that one may set, and what is known of variables after them.
+/// The guards written for a statement so far, the next variable that a guard may set, and the bounds known for variables after
+/// the guards.
 #[derive(Drop)]
 pub struct Guards {
     pub before: Vec<Statement>,
@@ -24,7 +24,7 @@ pub struct Guards {
     pub known: Vec<Limit>,
 }
 
-/// Whether a function has a guard so far, and the least number above each variable that its guards set.
+/// Whether a function has a guard so far, and the least number above every variable that its guards set.
 #[derive(Clone, Copy)]
 pub struct Seen {
     pub guards: bool,
@@ -33,7 +33,7 @@ pub struct Seen {
 
 // ---- one guard
 
-// One more.
+// Adds one guard.
 fn add(guards: &mut Guards, code: Box<Statement>) -> Result<(), AllocError>
     ensures before { OnOk result (statements_of guards.new.before.items ≡ statements_of guards.old.before.items ++ (statement_of code.value ∷ [])) }
     ensures next { OnOk result (guards.new.next ≡ guards.old.next) }
@@ -43,7 +43,7 @@ fn add(guards: &mut Guards, code: Box<Statement>) -> Result<(), AllocError>
     Ok(())
 }
 
-// The run stops if a word is not 0.
+// The guard that stops the run if the word is not 0.
 fn stops(alloc: Global, blocks: usize, test: Box<Expression>) -> Result<Box<Statement>, AllocError>
     ensures { IfOk result (λ s. statement_of s.value ≡ guard_code blocks (Stop (expression_of test.value))) }
 {
@@ -52,7 +52,7 @@ fn stops(alloc: Global, blocks: usize, test: Box<Expression>) -> Result<Box<Stat
     boxed_statement(alloc, Statement::If(test, exit, skip))
 }
 
-// The run stops if neither of two words is 0.
+// The guard that stops the run if neither of two words is 0.
 fn stops_both(
     alloc: Global,
     blocks: usize,
@@ -91,7 +91,7 @@ fn add_stop_both(
     add(guards, stop)
 }
 
-// The word is put into the next variable.
+// Adds the guard that puts a word into the next variable.
 fn add_put(
     alloc: Global,
     blocks: usize,
@@ -115,7 +115,7 @@ fn add_put(
 
 // ---- values and operands
 
-/// A value that is read twice waits in a variable, if it is not a word or a variable already.
+/// A value that is read twice: it is put into a variable, unless it is a constant or a variable already.
 pub fn waiting(
     alloc: Global,
     blocks: usize,
@@ -145,7 +145,7 @@ fn add_asked_divisor(
     add_stop(alloc, blocks, guards, test)
 }
 
-// Whether an expression has this word.
+// The test whether an expression has this word.
 fn is_word(alloc: Global, e: &Expression, word: u32) -> Result<Box<Expression>, AllocError>
     ensures { IfOk result (λ test. expression_of test.value ≡ cminor.Binary two.Eq (expression_of e.now) (cminor.Constant word)) }
 {
@@ -169,7 +169,7 @@ fn add_asked_signed(
     add_stop_both(alloc, blocks, guards, first, second)
 }
 
-// The run stops if a word is not below a number.
+// Adds the guard that stops the run unless a word is below a number.
 fn add_asked_below(
     alloc: Global,
     blocks: usize,
@@ -185,7 +185,7 @@ fn add_asked_below(
     add_stop(alloc, blocks, guards, test)
 }
 
-/// What is asked before an operator.
+/// Adds the guards of an operator.
 pub fn add_asked(
     alloc: Global,
     blocks: usize,
@@ -204,7 +204,7 @@ pub fn add_asked(
     }
 }
 
-// A value is below a number: if it is that of a variable, that is known from then on.
+// A value is below a number: if the value is a variable's, the bound is known from then on.
 fn learn(guards: &mut Guards, value: &Expression, number: u32) -> Result<(), AllocError>
     ensures known { OnOk result (guards.new.known.items ≡ learned (expression_of value.now) number guards.old.known.items) }
     ensures before { OnOk result (guards.new.before.items ≡ guards.old.before.items) }
@@ -219,7 +219,7 @@ fn learn(guards: &mut Guards, value: &Expression, number: u32) -> Result<(), All
     Ok(())
 }
 
-/// A value, which is asked to be below a number.
+/// A value with a guard that it is below a number.
 pub fn bounded(
     alloc: Global,
     blocks: usize,
@@ -235,7 +235,7 @@ pub fn bounded(
 
 // ---- the statement
 
-/// No guard yet; the first one may set this variable, and this is known.
+/// No guards yet: `first` is the first variable that a guard may set, and `known` are the bounds known before.
 pub fn begun(alloc: Global, first: usize, known: &[Limit]) -> Result<Guards, AllocError>
     ensures before { IfOk result (λ guards. guards.before.items ≡ []) }
     ensures next { IfOk result (λ guards. guards.next ≡ first) }
@@ -249,7 +249,7 @@ pub fn begun(alloc: Global, first: usize, known: &[Limit]) -> Result<Guards, All
     })
 }
 
-/// Notes the guards of a statement.
+/// Records the guards of a statement in what was seen of the function.
 pub fn note(guards: &Guards, seen: &mut Seen)
     ensures { Sees (some_of guards.now.before.items) guards.now.next seen.old seen.new }
 {
@@ -257,7 +257,7 @@ pub fn note(guards: &Guards, seen: &mut Seen)
     seen.variables = seen.variables.max(guards.next);
 }
 
-/// The guards, then their statement.
+/// The guards, followed by their statement.
 pub fn finished(
     alloc: Global,
     guards: Guards,
@@ -276,7 +276,7 @@ pub fn finished(
     sequence(alloc, all)
 }
 
-/// A function's code with guards, and the loop at its end.
+/// A function's code with guards, followed by the loop at its end.
 pub fn with_loop(alloc: Global, code: Box<Statement>) -> Result<Box<Statement>, AllocError>
     ensures { IfOk result (λ s. statement_of s.value ≡ with_loop (statement_of code.value)) }
 {
@@ -289,7 +289,7 @@ pub fn with_loop(alloc: Global, code: Box<Statement>) -> Result<Box<Statement>, 
     boxed_statement(alloc, Statement::Block(outer))
 }
 
-// Two statements, one after the other.
+// Two statements that run one after another.
 fn both(
     alloc: Global,
     first: Box<Statement>,

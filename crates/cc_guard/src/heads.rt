@@ -1,15 +1,15 @@
-// What two ways know of variables, and what a turn of a loop leaves known of what was known at its head.
+// The bounds that both of two ways agree on, and which of the bounds known at a loop's head a turn of the loop leaves known.
 
 ghost use Rattle.std.specs.Prelude.{◌≡◌, ◌++◌, IfOk};
 ghost use Rattle.cc_cminor.specs.Code.{statement_of};
-ghost use Rattle.cc_guard.specs.Guard.{either, joined, kept, unset, met, at_most, all_again, still, widened};
+ghost use Rattle.cc_guard.specs.Guard.{joined, kept, unset, at_most, all_again, still, widened};
 
 use crate::changed::kept_set;
 use crate::known::{Limit, most_in};
 use cc_cminor::Statement;
 use std::alloc::{AllocError, Global};
 
-/// One list after another.
+/// The bounds `known`, then the bounds `more`.
 pub fn together(alloc: Global, known: &[Limit], more: &[Limit]) -> Result<Vec<Limit>, AllocError>
     ensures { IfOk result (λ limits. limits.items ≡ known.now ++ more.now) }
 {
@@ -18,7 +18,7 @@ pub fn together(alloc: Global, known: &[Limit], more: &[Limit]) -> Result<Vec<Li
     Ok(limits)
 }
 
-/// What both of two ways know of variables.
+/// The bounds that hold on both of two ways: for each variable with a bound on both, the greater one.
 pub fn joined(alloc: Global, one: &[Limit], other: &[Limit]) -> Result<Vec<Limit>, AllocError>
     ensures { IfOk result (λ limits. limits.items ≡ joined one.now other.now) }
 {
@@ -34,7 +34,7 @@ pub fn joined(alloc: Global, one: &[Limit], other: &[Limit]) -> Result<Vec<Limit
     Ok(limits)
 }
 
-/// What is known after an `If` of which both ways come to their ends.
+/// The bounds known after an `If` if control can reach the end of both ways.
 pub fn met_both(
     alloc: Global,
     first: usize,
@@ -50,7 +50,7 @@ pub fn met_both(
     together(alloc, before, both.as_slice())
 }
 
-// What is known is at most this.
+// Whether a bound is known and is at most this word.
 fn at_most(most: Option<u32>, word: u32) -> bool
     ensures { result ≡ at_most most word }
 {
@@ -60,7 +60,7 @@ fn at_most(most: Option<u32>, word: u32) -> bool
     }
 }
 
-/// Whether a turn leaves known all that was known at the head.
+/// Whether all the bounds known at the head are known again after a turn.
 pub fn all_again(after: &[Limit], head: &[Limit]) -> bool
     ensures { result ≡ all_again after.now head.now }
 {
@@ -71,7 +71,7 @@ pub fn all_again(after: &[Limit], head: &[Limit]) -> bool
     again
 }
 
-/// What a turn leaves known of what was known at the head.
+/// The bounds known at the head that are known again after a turn.
 pub fn still(alloc: Global, after: &[Limit], head: &[Limit]) -> Result<Vec<Limit>, AllocError>
     ensures { IfOk result (λ limits. limits.items ≡ still after.now head.now) }
 {
@@ -84,7 +84,8 @@ pub fn still(alloc: Global, after: &[Limit], head: &[Limit]) -> Result<Vec<Limit
     Ok(limits)
 }
 
-/// What is tried at a loop's head, after a turn with what is known before the loop: what grows is tried far above.
+/// The bounds to try at a loop's head after a turn that started with the bounds known before the loop: a bound that grew is tried
+/// far above.
 pub fn widened(alloc: Global, after: &[Limit], before: &[Limit]) -> Result<Vec<Limit>, AllocError>
     ensures { IfOk result (λ limits. limits.items ≡ widened after.now before.now) }
 {

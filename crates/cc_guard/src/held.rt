@@ -1,6 +1,8 @@
-// Words that conditions compare with, in variables: what is chosen is put into variables once, before the code, and conditions read it there.
+// Constants that conditions compare with, held in variables: each of the chosen words is put into a variable once, before the
+// code, and conditions read it there.
 //
-// A branch on two registers is one instruction, and one on a register and a word is two. So a test in a loop costs half.
+// A branch on two registers is one instruction, and a branch on a register and a constant is two. So the test in a loop costs
+// half as much.
 
 ghost use Rattle.std.specs.Prelude.{◌≡◌, IfOk};
 ghost use Rattle.cc_cminor.specs.Code.{expression_of, expressions_of, statement_of, in_sequence};
@@ -13,10 +15,10 @@ use crate::wanted::wanted_words;
 use cc_cminor::{Expression, Statement, variables_above};
 use std::alloc::{AllocError, Global};
 
-/// Code has at most so many variables.
+/// The greatest number of variables that code may have.
 pub const MOST_VARIABLES: usize = 2048;
 
-// A word, or the variable that it is in.
+// A constant, or the variable that holds its word.
 fn held_word(
     alloc: Global,
     words: &[u32],
@@ -87,7 +89,7 @@ fn all_copied(alloc: Global, es: &[Expression]) -> Result<Vec<Expression>, Alloc
     Ok(copies)
 }
 
-// A statement without statements in it, once more.
+// Copies a statement that has no statements in it.
 fn copied_statement(alloc: Global, s: &Statement) -> Result<Box<Statement>, AllocError>
     ensures { IfOk result (λ made. statement_of made.value ≡ statement_of s.now) }
 {
@@ -114,7 +116,7 @@ fn copied_statement(alloc: Global, s: &Statement) -> Result<Box<Statement>, Allo
     boxed_statement(alloc, copy)
 }
 
-// A statement whose conditions read words in the variables from `first` on.
+// A statement whose conditions read the words in the variables from `first` on.
 #[cycle(holding)]
 fn held_in(
     alloc: Global,
@@ -168,7 +170,7 @@ fn held_all(
     sequence(alloc, made)
 }
 
-// Each word is put into its variable, then comes the statement that reads them.
+// Puts each word into its variable, then runs the statement that reads them there.
 fn with_words(
     alloc: Global,
     words: &[u32],
@@ -192,7 +194,8 @@ fn with_words(
     sequence(alloc, all)
 }
 
-/// Code with words that its conditions compare with in variables, if that makes it quicker and there are so many variables.
+/// Code whose conditions read some of their constants from variables, if that makes the code faster and the number of variables
+/// allows it. Otherwise the code as it was.
 pub fn held(alloc: Global, code: Box<Statement>) -> Result<Box<Statement>, AllocError>
     requires { StatementFits (statement_of code.value) }
     ensures { IfOk result (λ made. IsHeld (statement_of code.value) (statement_of made.value)) }

@@ -1,4 +1,4 @@
-// What an expression's form shows of its value, and what is known of variables.
+// Bounds on an expression's value that its form and the known bounds of variables show.
 
 ghost use Rattle.std.specs.Prelude.{◌≡◌};
 ghost use Rattle.cc_cminor.specs.Code.{expression_of};
@@ -7,14 +7,14 @@ ghost use Rattle.cc_guard.specs.Guard.{least, most_sum, most_product, less_one, 
 use cc_cminor::Expression;
 use cc_words::Binary;
 
-/// A variable holds at most this word.
+/// A variable holds at most the word `most`.
 #[derive(Clone, Copy)]
 pub struct Limit {
     pub variable: usize,
     pub most: u32,
 }
 
-// The less of two words, if there are two.
+// The lesser of two bounds. With one bound it is that one.
 fn least(a: Option<u32>, b: Option<u32>) -> Option<u32>
     ensures { result ≡ least a b }
 {
@@ -27,7 +27,7 @@ fn least(a: Option<u32>, b: Option<u32>) -> Option<u32>
     }
 }
 
-// A sum that is a word.
+// The sum of two bounds, if it is a word.
 fn most_sum(a: Option<u32>, b: Option<u32>) -> Option<u32>
     ensures { result ≡ most_sum a b }
 {
@@ -40,7 +40,7 @@ fn most_sum(a: Option<u32>, b: Option<u32>) -> Option<u32>
     }
 }
 
-// A product that is a word.
+// The product of two bounds, if it is a word.
 fn most_product(a: Option<u32>, b: Option<u32>) -> Option<u32>
     ensures { result ≡ most_product a b }
 {
@@ -53,7 +53,7 @@ fn most_product(a: Option<u32>, b: Option<u32>) -> Option<u32>
     }
 }
 
-/// What was known last of a variable.
+/// The last bound in the list for a variable.
 pub fn most_in(known: &[Limit], variable: usize) -> Option<u32>
     ensures { result ≡ most_in known.now variable }
 {
@@ -66,7 +66,7 @@ pub fn most_in(known: &[Limit], variable: usize) -> Option<u32>
     found
 }
 
-// A remainder by a constant.
+// The bound of a remainder by a constant other than 0.
 fn below_divisor(divisor: &Expression) -> Option<u32>
     ensures { result ≡ below_divisor (expression_of divisor.now) }
 {
@@ -98,7 +98,7 @@ pub fn most(known: &[Limit], e: &Expression) -> Option<u32>
     }
 }
 
-/// Whether it is evidently below a number.
+/// Whether a bound is known and is below a number.
 pub fn is_below(most: Option<u32>, number: u32) -> bool
     ensures { result ≡ is_below most number }
 {
@@ -108,7 +108,7 @@ pub fn is_below(most: Option<u32>, number: u32) -> bool
     }
 }
 
-// A word but 0.
+// Whether the expression is a constant other than 0.
 fn is_divisor(e: &Expression) -> bool
     ensures { result ≡ is_divisor (expression_of e.now) }
 {
@@ -118,7 +118,7 @@ fn is_divisor(e: &Expression) -> bool
     }
 }
 
-// A word but 0 and -1.
+// Whether the expression is a constant other than 0 and -1.
 fn is_signed_divisor(e: &Expression) -> bool
     ensures { result ≡ is_signed_divisor (expression_of e.now) }
 {
@@ -128,7 +128,7 @@ fn is_signed_divisor(e: &Expression) -> bool
     }
 }
 
-/// Whether an operator evidently has an answer with this right operand, whatever the left one is.
+/// Whether an operator evidently has a value with this right operand, whatever the left one is.
 pub fn always(known: &[Limit], operator: Binary, right: &Expression) -> bool
     ensures { result ≡ always known.now operator (expression_of right.now) }
 {
@@ -140,7 +140,7 @@ pub fn always(known: &[Limit], operator: Binary, right: &Expression) -> bool
     }
 }
 
-// The greatest word below another.
+// The word before this one, if there is one.
 fn less_one(most: Option<u32>) -> Option<u32>
     ensures { result ≡ less_one most }
 {
@@ -165,7 +165,7 @@ fn told_of(e: &Expression, most: Option<u32>) -> Option<Limit>
     }
 }
 
-// The first of two values is below the second, or is not.
+// The bound that is known if the first of two values is below the second, or is not.
 fn told_less(
     way: bool,
     a: &Expression,
@@ -182,7 +182,7 @@ fn told_less(
     }
 }
 
-// It is at most the second, or is not.
+// The bound that is known if the first value is at most the second, or is not.
 fn told_most(
     way: bool,
     a: &Expression,
@@ -199,7 +199,7 @@ fn told_most(
     }
 }
 
-// Signed words compare as words do if both are below 2^31.
+// Signed words compare as unsigned ones do if both are below 2^31.
 fn if_small(most_a: Option<u32>, most_b: Option<u32>, told: Option<Limit>) -> Option<Limit>
     ensures { result ≡ if_small most_a most_b told }
 {
@@ -210,7 +210,7 @@ fn if_small(most_a: Option<u32>, most_b: Option<u32>, told: Option<Limit>) -> Op
     }
 }
 
-/// What a condition tells of a variable if it is not 0, and if it is 0.
+/// The bound that a condition gives for a variable if it is not 0 (`way`), or if it is 0.
 pub fn told(known: &[Limit], way: bool, e: &Expression) -> Option<Limit>
     ensures { result ≡ told known.now way (expression_of e.now) }
 {

@@ -1,9 +1,10 @@
-//! From Cminor to Cminor: a test comes before each operation that may have no answer, and if one fails the code goes on for ever. So an
-//! image of it is right for every source, but for depth.
+//! From Cminor to Cminor: a test comes before each operation that may have no value, and if it fails the code runs for ever. So
+//! an image of this code is right for every source, except that calls may be nested too deep.
 //!
-//! `pass` has `guard`; `statements` on `expressions` write the code, with `guards` (what comes before one statement), `known` (what is
-//! evident), `sizes` (of the unit's objects) and `boxes` below. What the pass makes is a definition of `specs/Guard.antt`. Then `held` puts
-//! words that conditions compare with into variables, those that `wanted` chooses (`specs/Held.antt`).
+//! `pass` has `guard`. `statements` and, below it, `expressions` write the code. Below them are `guards` (what comes before one
+//! statement), `known` (what is evident), `sizes` (of the unit's objects) and `boxes`. `specs/Guard.antt` defines what the pass
+//! makes. Then `held` puts the constants that `wanted` chooses, among those that conditions compare with, into variables
+//! (`specs/Held.antt`).
 #![tactic(auto)]
 
 mod after;

@@ -1,4 +1,4 @@
-// The pass: Cminor in which a test comes before each operation that may have no answer.
+// The pass: Cminor in which a test comes before each operation that may have no value.
 
 ghost use Rattle.std.specs.Prelude.{◌≡◌, ◌<◌, ◌≤◌, true, false, not, IfOk, OnOk, IfErr};
 ghost use Rattle.cc_c_laws.specs.Numbered.{objects_in};
@@ -25,7 +25,7 @@ use cc_cminor::{CminorPair, Statement, variables_above};
 use cc_types::TypedUnit;
 use std::alloc::{AllocError, Global};
 
-// The code of a function's own body with its guards, and what is seen of them.
+// The code of a function's own body with its guards, and what was seen of them.
 fn guarded_body(
     alloc: Global,
     pair: &CminorPair,
@@ -44,13 +44,13 @@ fn guarded_body(
     Ok(code)
 }
 
-// Nothing is seen yet.
+// What is seen at the start: no guard, and no variable set by one.
 const NOTHING: Seen = Seen {
     guards: false,
     variables: 0,
 };
 
-// The code of a function with its guards, and words that its conditions compare with in variables.
+// The code of a function with its guards, in which conditions may read their constants from variables.
 fn guarded(alloc: Global, pair: &CminorPair) -> Result<Box<Statement>, GuardFault>
     ensures code { IfOk result (λ code. IsHeld (guarded_function (objects_in (tree_of pair.now)) (above_statement 0 (code_of pair.now)) (code_of pair.now)) (statement_of code.value)) }
     ensures unguarded { IfOk result (λ code. has_guards (objects_in (tree_of pair.now)) (above_statement 0 (code_of pair.now)) (code_of pair.now) ≡ false → statement_of code.value ≡ code_of pair.now) }
@@ -72,8 +72,11 @@ fn guarded(alloc: Global, pair: &CminorPair) -> Result<Box<Statement>, GuardFaul
     }
 }
 
-/// Whether a function needs no guard: the pass puts none before any of its operations. Then its code, as it is, keeps up with the checked
-/// function (`needs`). A unit in which no function needs a guard goes wrong only if it is too deep: `only_depth_is_left`.
+/// Whether a function needs no guard: the pass puts none before any of its operations. Then its code, unchanged, keeps up with
+/// the checked function (`needs`). A unit in which no function needs a guard goes wrong only because calls are nested too deep:
+/// `only_depth_is_left`.
+///
+/// `AllocError` if memory runs out.
 pub fn needs_no_guard(alloc: Global, pair: &CminorPair) -> Result<bool, AllocError>
     requires exits { ExitsFit 0 (code_of pair.now) }
     requires fails_alike { FailsAlike (tree_of pair.now) pair.now.function (code_of pair.now) }
@@ -89,13 +92,13 @@ pub fn needs_no_guard(alloc: Global, pair: &CminorPair) -> Result<bool, AllocErr
     Ok(!seen.guards)
 }
 
-/// The Cminor of a function with a test before each operation that may have no answer, but not before one that evidently has. If a test
-/// fails the run goes on for ever, writes nothing more and never ends. So the code keeps up with the checked function, which the pair's
-/// type keeps. Words that conditions in loops compare with may be in variables (`code`). A function without guards has the code that it had
-/// (`unguarded`).
+/// Returns the Cminor of a function with a test before each operation that may have no value, except an operation that evidently
+/// has one. If a test fails the run goes on for ever: it writes nothing more and never ends. So the code keeps up with the
+/// checked function, as the type of the pair guarantees. Constants that conditions in loops compare with may be held in variables
+/// (`code`). A function without guards keeps its code unchanged (`unguarded`).
 ///
-/// `FunctionTooLarge` (22) if the guards would set more variables than code may have, `OutOfMemory` (40) if memory runs out. The pair is
-/// given up with an error.
+/// Fails with `FunctionTooLarge` (22) if the guards would set more variables than code may have, and with `OutOfMemory` (40) if
+/// memory runs out. On an error the pair that was passed is dropped.
 pub fn guard(alloc: Global, pair: CminorPair) -> Result<CminorPair, GuardFault>
     requires exits { ExitsFit 0 (code_of pair) }
     requires fails_alike { FailsAlike (tree_of pair) pair.function (code_of pair) }

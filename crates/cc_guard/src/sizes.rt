@@ -1,4 +1,4 @@
-// How large the objects of a unit are.
+// Sizes of a unit's objects.
 
 ghost use Rattle.std.specs.Prelude.{◌≡◌, ◌++◌, ◌∷◌, List, IfOk, OnOk};
 ghost use Rattle.cc_ast.specs.Erase.{object_tree, object_trees, external_tree, external_trees};
@@ -18,14 +18,14 @@ use cc_types::object_elements;
 use cc_words::Width;
 use std::alloc::{AllocError, Global};
 
-/// How wide an object's elements are, and how many there are.
+/// The width of an object's elements, and how many there are.
 #[derive(Clone, Copy)]
 pub struct ObjectSize {
     pub width: Width,
     pub elements: u32,
 }
 
-// The size of an object. A typed unit has none with 2^32 elements.
+// The size of an object. In a typed unit no object has 2^32 elements or more.
 fn size_of(tree: &Object) -> Result<ObjectSize, AllocError>
     ensures width { IfOk result (λ size. size.width ≡ object_width (object_tree tree.now)) }
     ensures elements { IfOk result (λ size. size.elements ≡ object_elements (object_tree tree.now)) }
@@ -39,7 +39,7 @@ fn size_of(tree: &Object) -> Result<ObjectSize, AllocError>
     }
 }
 
-// The objects that a declaration declares.
+// The objects that an external declaration declares.
 fn objects_of(external: &External) -> &[Object]
     ensures { (rest : List Tree) → objects (external_tree external.now ∷ rest) ≡ object_trees result.now ++ objects rest }
 {
@@ -80,7 +80,7 @@ fn is_byte(width: Width) -> bool
     }
 }
 
-/// How many elements of a width an object has.
+/// How many elements of a width an object has: 0 if its elements have the other width.
 pub fn elements_in(sizes: &[ObjectSize], width: Width, object: usize) -> u32
     ensures { result ≡ elements_in (sizes_of sizes.now) width object }
 {

@@ -1,4 +1,4 @@
-// Statements, each with its guards in front of it, where something is known of variables.
+// Statements, each with its guards in front of it, given the bounds known for variables there.
 //
 // The recursion is as deep as the tree: at most eight levels of Cminor for each of the source's 64.
 
@@ -117,14 +117,14 @@ fn give_back(
     finished(alloc, guards, Statement::Return(value))
 }
 
-/// A statement with its guards, and what is known after it.
+/// A statement with its guards, and the bounds known after it.
 #[derive(Drop)]
 pub struct Done {
     pub code: Box<Statement>,
     pub known: Vec<Limit>,
 }
 
-// What is known after a statement is found once more, so this is for those that have no statement in them.
+// Finds the bounds known after a statement by a separate walk, so this is only for statements that have no statements in them.
 fn alone(
     alloc: Global,
     sizes: &[ObjectSize],
@@ -140,7 +140,8 @@ fn alone(
     Ok(Done { code, known })
 }
 
-/// A statement in so many blocks, with its guards, which set variables from `first` on, where this is known.
+/// A statement with its guards. `blocks` blocks are around it, its guards set variables from `first` on, and `known` are the
+/// bounds known before it.
 #[cycle(statements)]
 pub fn statement(
     alloc: Global,

@@ -1,4 +1,5 @@
-// Which words conditions compare with most often: each loop around a condition counts as eight turns. What is chosen needs no proof.
+// Which constants conditions compare with most often: each loop around a condition counts as eight turns. The choice needs no
+// proof.
 
 ghost use Rattle.std.specs.Prelude.{◌≤◌, length, IfOk};
 ghost use Rattle.cc_guard.specs.Held.{most_held};
@@ -7,16 +8,16 @@ use cc_cminor::{Expression, Statement};
 use cc_words::Binary;
 use std::alloc::{AllocError, Global};
 
-/// At most so many words are in variables.
+/// At most so many words are held in variables.
 const MOST_HELD: usize = 8;
 
-// So many words are weighed: a function with more of them keeps the first ones.
+// At most so many words are counted: in a function with more, the first ones.
 const MOST_WEIGHED: usize = 64;
 
-// So often at least a word is compared with: once in a loop.
+// The least weight of a word that is chosen: that of one comparison in a loop.
 const LEAST: u32 = 8;
 
-// A word, and how often it is compared with.
+// A word, and how often conditions compare with it.
 #[derive(Clone, Copy)]
 struct Want {
     word: u32,
@@ -30,8 +31,8 @@ fn word_of(e: &Expression) -> Option<u32> {
     }
 }
 
-// Whether a branch on the operator takes an instruction more with this word than with a variable. 0 is a register of the machine, and some
-// comparisons with 1 and -1 are comparisons with 0.
+// Whether a branch on the operator takes one more instruction with this word than with a variable. 0 is in a register of the
+// machine, and some comparisons with 1 and -1 are made as comparisons with 0.
 fn gains(operator: Binary, word: u32) -> bool {
     match operator {
         Binary::Eq | Binary::Ne | Binary::Xor => word != 0,
@@ -42,7 +43,7 @@ fn gains(operator: Binary, word: u32) -> bool {
     }
 }
 
-// The word that a condition compares with.
+// The constant that a condition compares with.
 fn compared(e: &Expression) -> Option<u32> {
     match e {
         Expression::Binary(operator, a, b) => {
@@ -60,7 +61,7 @@ fn compared(e: &Expression) -> Option<u32> {
     }
 }
 
-// Where a word is, or how many there are.
+// The position of a word in the list, or the list's length if it is not there.
 fn position(wants: &[Want], word: u32) -> usize {
     for (at, want) in wants.iter().enumerate() {
         if want.word == word {
@@ -70,7 +71,7 @@ fn position(wants: &[Want], word: u32) -> usize {
     wants.len()
 }
 
-// A word is wanted once more.
+// Adds to a word's weight. A new word joins the list if there is room.
 fn add(wants: &mut Vec<Want>, word: u32, weight: u32) -> Result<(), AllocError> {
     let at = position(wants.as_slice(), word);
     if at < wants.len() {
@@ -121,7 +122,7 @@ fn has(words: &[u32], word: u32) -> bool {
     found
 }
 
-// The heaviest of the words that are not chosen yet.
+// The word with the greatest weight among those not chosen yet.
 fn heaviest(wants: &[Want], chosen: &[u32]) -> Option<u32> {
     let mut most = LEAST - 1;
     let mut found = None;
@@ -134,7 +135,7 @@ fn heaviest(wants: &[Want], chosen: &[u32]) -> Option<u32> {
     found
 }
 
-/// The words that are compared with most often in loops.
+/// The words that conditions compare with most often in loops, at most eight.
 pub fn wanted_words(alloc: Global, code: &Statement) -> Result<Vec<u32>, AllocError>
     ensures { IfOk result (λ words. length words.items ≤ most_held) }
 {

@@ -24,14 +24,14 @@ use Rattle.cc_core.specs.Fault.{RefusesPlan}
 use Rattle.cc_headline.specs.Plan.{pieces_of, IsPlan, IsPlanBy}
 use Rattle.cc_headline.specs.internal.Refusals.{refused_by}
 
--- a text's verdict comes to its plan, and to no other
+-- a text's verdict gives its plan, and no other
 planned : (text : List ℕ) (v : Verdict) → IsVerdict text v → IsPlan text (pieces_of v)
 planned text v is = ∣ record { verdict = v; is = is; plan_is = refl } ∣₁
 
 nothing_prop : IsProp ⊥
 nothing_prop = hlevel
 
--- an equation of such results is known where it is known that there is one
+-- an equation of such results holds if it is known that there is one
 known : (a b : Result ℕ ℕ) → ∥ a ≡ b ∥₁ → a ≡ b
 known (Ok m) (Ok n) e = ap Ok (∥∥₁_elim e (ℕ_set m n) (λ (h : ◌≡◌ {A = Result ℕ ℕ} (Ok m) (Ok n)). cc))
 known (Err m) (Err n) e = ap Err (∥∥₁_elim e (ℕ_set m n) (λ (h : ◌≡◌ {A = Result ℕ ℕ} (Err m) (Err n)). cc))
@@ -81,7 +81,7 @@ type_refused text (typing.Undefined p) (inr h) = not_typed text (typing.Undefine
 type_refused text (typing.TooMany p) (inl e) = absurd (cc)
 type_refused text (typing.TooMany p) (inr h) = not_typed text (typing.TooMany p) h
 
--- 40 says nothing
+-- 40 claims nothing
 pub refused : (text : List ℕ) (fault : TextFault) → IsTextRefusal text fault → RefusesPlan (refused_by (text_fault_number fault)) (IsPlan text)
 refused text (link.Syntax fault) h = text_refused text fault h
 refused text (link.Typing fault) h = type_refused text fault h

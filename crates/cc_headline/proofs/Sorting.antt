@@ -1,4 +1,5 @@
--- A compiled unit's pieces, put in the order of definitions, are all of its source's, and link to it as they did in the order they came in.
+-- A compiled unit's pieces, put in the order of definitions, are all pieces of its source, and they link to the same unit as in the order
+-- in which they came.
 use Rattle.std.proofs.Common.{◌≡◌, ℕ, zero, suc, ◌+◌, ◌<◌, ◌≤◌, ◌⊎◌, inl, inr, Bool, true, false, if◌then◌else◌, List, [], ◌∷◌, length, Option, Some, None, Result, Ok, Err, refl, sym, ap, ◌∙◌, subst, arith}
 use Rattle.std.specs.Prelude.{◌==◌, is_some, slice_get}
 use Rattle.std.specs.Coded.{Coded-set}

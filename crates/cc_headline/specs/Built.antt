@@ -1,4 +1,4 @@
--- The pieces of a compiled unit, as the protocol core asks for them: all of its source's, in their order.
+-- The pieces of a compiled unit, in the form that the protocol core asks for: all pieces of its source, in their order.
 use Rattle.std.specs.Prelude.{◌≤◌, length}
 use Rattle.cc_unit.specs.declared.unit.StoredUnit.{StoredUnit}
 use Rattle.cc_core.specs.Rules.{IsBuilt}

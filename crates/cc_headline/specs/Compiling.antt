@@ -16,18 +16,18 @@ use Rattle.cc_headline.specs.Plan.{IsPlan}
 abbrev pub text_of : Piece → List ℕ
 text_of piece = (source piece.unit).text
 
--- a unit, or the number of the fault that refuses its pieces
+-- a unit, or the number of the fault for which its pieces are refused
 abbrev pub numbered : Result StoredUnit LinkFault → Result StoredUnit ℕ
 numbered (Ok unit) = Ok unit
 numbered (Err fault) = Err (link_fault_number fault)
 
--- the unit that pieces give: what they are linked to for the first one's unit in its mode, where that is of the source; else 28, and 26
--- where there is no piece
+-- the unit that pieces give: what they are linked to for the first one's unit and mode, if that unit is of the source; else the refusal 28;
+-- and the refusal 26 if there is no piece
 abbrev pub unit_of : List ℕ → List Piece → Result StoredUnit ℕ
 unit_of text [] = Err 26
 unit_of text (piece ∷ pieces) = if same_bytes (text_of piece) text then numbered (linked_in piece.mode (source piece.unit) (piece ∷ pieces)) else Err 28
 
--- a source has a piece for each function that it defines, by its number in the order of definitions; and they are linked
+-- a source has a piece for each function that it defines, by its number in the order of definitions; and pieces are linked
 abbrev pub compiling : Rules Piece
 compiling = record { plan = IsPlan; source_of = text_of; part_of = λ piece. piece.function; unit = unit_of }
 
@@ -35,7 +35,8 @@ compiling = record { plan = IsPlan; source_of = text_of; part_of = λ piece. pie
 abbrev pub is_right : StoredUnit → Type 0
 is_right unit = Agree unit.source unit.image
 
--- what the types of a piece and of its unit keep, and with it what linking promises of such pieces, for the law of the build, which is a term and can call nothing
+-- what the types of a piece and of its unit keep, together with what linking promises for such pieces; the law of the build needs it, since
+-- a law is a term and can call nothing
 pub record Keeps (piece : Piece) : Type 0 where
   pub compiled : IsCompiled piece
   pub follow : LinkedUnitsFollow

@@ -1,10 +1,10 @@
--- how many pieces a source has, or the number that refuses it
+-- the number of pieces of a source, or the number that refuses it
 pub mod Plan
 -- the rules of the build that compiles, and what a piece keeps
 pub mod Compiling
--- what the headline says of every image of the disk
+-- what the headline says about every image of the disk
 pub mod Recovered
--- the pieces of a compiled unit, as the core asks for them
+-- the pieces of a compiled unit, in the form that the core asks for
 pub mod Built
--- what serves private contracts
+-- for private contracts
 pub mod internal

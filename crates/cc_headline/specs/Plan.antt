@@ -1,4 +1,4 @@
--- How many pieces a source has, or the number that refuses it: as `parse` and then `check` answer.
+-- The number of pieces of a source, or the number that refuses it, as `parse` and then `check` answer.
 use Rattle.std.specs.Prelude.{ℕ, ◌≡◌, List, length, Result, Ok, Err}
 use Rattle.cc_tokens.specs.Fault as syntax
 use Rattle.cc_types.specs.Fault as typing
@@ -11,12 +11,12 @@ pieces_of (NoTree fault) = Err (syntax.fault_number fault)
 pieces_of (NotTyped fault) = Err (typing.fault_number fault)
 pieces_of (Program tree) = Ok (length (function_names tree))
 
--- that is what the text's verdict comes to
+-- this follows from the text's verdict
 pub record IsPlanBy (text : List ℕ) (plan : Result ℕ ℕ) : Type 0 where
   pub verdict : Verdict
   pub is : IsVerdict text verdict
   pub plan_is : plan ≡ pieces_of verdict
 
--- The text's plan. A typed unit keeps that its text spells its tree, and not in which way (∥ ∥₁); so nothing more is kept here.
+-- The text's plan. A typed unit keeps that its text spells its tree, but not in which way (∥ ∥₁), so nothing more is kept here.
 abbrev pub IsPlan : List ℕ → Result ℕ ℕ → Type 0
 IsPlan text plan = ∥ IsPlanBy text plan ∥₁

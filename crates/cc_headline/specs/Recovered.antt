@@ -1,4 +1,5 @@
--- What the headline says of the build that compiles: of every run of the protocol, and of whatever a crash then leaves of the disk.
+-- What the headline says about the build that compiles: about every run of the protocol, and about whatever a crash then leaves of the
+-- disk.
 use Rattle.std.specs.Prelude.{ℕ, List}
 use Rattle.cc_disk.specs.Model.{IsImage}
 use Rattle.cc_library.specs.Apply.{Units}
@@ -11,19 +12,19 @@ use Rattle.cc_emit.specs.Piece.{Piece}
 use Rattle.cc_link.specs.Made.{IsCompiled}
 use Rattle.cc_headline.specs.Compiling.{compiling, is_right}
 
--- it holds after every list of events, from a fresh disk or from an opened one, of the library that the run began with and the core
+-- it holds after every list of events, from a fresh disk or from an opened one, for the library with which the run began and the core
 abbrev pub AfterEveryRun : (Units → Core → Type 0) → Type 0
 AfterEveryRun Holds =
     (first new : Contents Piece) (events : List (Event Piece)) → IsBeginning first → Run compiling IsCompiled first events new → Holds first.core.library new.core
 
--- each unit of whatever an image of the disk recovers to agrees with its stored source
+-- each unit of the library to which an image of the disk recovers agrees with its stored source
 abbrev pub EachUnitAgrees : Core → Type 0
 EachUnitAgrees s = (image : List ℕ) (library : Units) → IsImage s.store.cells image → Recovers image library → EachUnit is_right library
 
--- so they do where the units that were found at the opening do
+-- they do if the units that were found at the opening do
 abbrev pub AgreesWhereFound : Units → Core → Type 0
 AgreesWhereFound found s = EachUnit is_right found → EachUnitAgrees s
 
--- each unit is one of those that were found at the opening, or agrees
+-- each unit is one of those that were found at the opening, or agrees with its source
 abbrev pub IsFoundOrAgrees : Units → Core → Type 0
 IsFoundOrAgrees found s = (image : List ℕ) (library : Units) → IsImage s.store.cells image → Recovers image library → EachUnit (IsRightOr is_right found) library

@@ -16,9 +16,9 @@ use std::sync::Arc;
 
 /// The build that compiles: a piece is the code of one function, and pieces are linked.
 ///
-/// A source is refused with the number of its fault, 1 to 7 or 11 to 21, as `typed_unit` answers. Pieces are refused as linking
-/// refuses them in the first one's mode: with 28 where one is of another source or mode, with 27 where one comes twice, with 26 where one is
-/// missing, with 25 where the image would be too large.
+/// A source is refused with the number of its fault, 1 to 7 or 11 to 21, as `typed_unit` answers. Pieces are refused as linking refuses
+/// them in the mode of the first one: 28 if one is of another source or mode, 27 if one comes twice, 26 if one is missing, 25 if the image
+/// would be too large.
 #[derive(Drop)]
 pub struct CcBuild {}
 
@@ -42,7 +42,7 @@ impl Build for CcBuild {
     }
 
     fn names(&self, piece: &Piece, source: &[u8], part: u32) -> bool {
-        // What the type of a piece and that of its unit keep, and what linking promises, is what a piece keeps.
+        // What a piece keeps is what its type and its unit's type keep, and what linking promises.
         linked_units_follow();
         let _kept = piece.items();
         let _kept = piece.unit().externals();
@@ -72,7 +72,8 @@ impl Build for CcBuild {
     ghost law = { whole_units_agree };
 }
 
-/// How many pieces a source has, or the number that refuses it, is determined: a text has exactly one plan, as it has exactly one verdict.
+/// The number of pieces of a source, or the number that refuses it, is determined: a text has exactly one plan, as it has exactly one
+/// verdict.
 pub fn texts_have_one_plan()
     ensures some { (text : List ℕ) → (plan : Result ℕ ℕ) × IsPlan text plan }
     ensures one { (text : List ℕ) (a b : Result ℕ ℕ) → IsPlan text a → IsPlan text b → a ≡ b }

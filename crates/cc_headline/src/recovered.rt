@@ -1,4 +1,4 @@
-// The headline: what is recovered after any events and any crash, and that each unit of it does what its source says.
+// The headline: what is recovered after any events and any crash, and that each recovered unit does what its source says.
 
 ghost use Rattle.std.specs.Prelude.{◌≡◌, List, IfOk, IfErr};
 ghost use Rattle.cc_core.specs.declared.contents.Contents.{Contents};
@@ -17,19 +17,20 @@ use cc_emit::Piece;
 use cc_link::linked_units_follow;
 use std::alloc::Global;
 
-/// For every interleaving of clients, workers and committer, with crashes and failures of the disk anywhere in it, from a fresh disk on or
-/// from one that was opened with a library on it. Each command that goes into the order has a spelling, as the types of names and units keep.
+/// Holds for every interleaving of clients, workers and committer, with crashes and failures of the disk at any point, starting from a
+/// fresh disk or from one that was opened with a library on it. Each command that goes into the order has a spelling, as the types of names
+/// and units keep.
 pub fn headline<B: Build>()
-    // Whatever a crash leaves of the disk recovers: to the library of a prefix of the commands in the order of their commits, which holds
-    // every acknowledged command and lacks at most the last. This holds of any build, so of the one that compiles, whatever pieces workers
-    // hand in, and whatever units were found at the opening; to read it nothing of C is needed.
+    // Whatever a crash leaves of the disk recovers: to the library of a prefix of the commands in the order of their commits, which has
+    // every acknowledged command and lacks at most the last one. This holds for any build, so also for the one that compiles, whatever
+    // pieces workers hand in, and whatever units were found at the opening. To read it, nothing about C is needed.
     ensures survives { (first new : Contents B.Piece) (events : List (Event B.Piece))
         → IsBeginning first → Run B.rules IsAnyPiece first events new → EachImageSurvives new.core }
-    // With the build that compiles, where the units found at the opening agree with their sources: each unit that is recovered, run, does
-    // what its stored C source says. Nothing is owed on an input on which that source goes wrong: `a[3] = 5` on `int a[3]`, run, may write
-    // what lies next to `a`.
+    // With the build that compiles, if the units found at the opening agree with their sources: each recovered unit, when it runs, does
+    // what its stored C source says. Nothing is owed on an input on which that source goes wrong: `a[3] = 5` on `int a[3]` may write what
+    // lies next to `a`.
     ensures agrees { AfterEveryRun AgreesWhereFound }
-    // Whatever was found at the opening: each unit that is recovered is one of those, or agrees with its source.
+    // Whatever was found at the opening: each recovered unit is one of those, or agrees with its source.
     ensures units { AfterEveryRun IsFoundOrAgrees }
 {
     linked_units_follow();
@@ -37,15 +38,15 @@ pub fn headline<B: Build>()
     crash_law::<CcBuild>();
 }
 
-/// Takes these events in turn, with the build that compiles, and skips each that is not possible when its turn comes.
-/// It refuses with 40 `OutOfMemory` alone, and gives the state up then.
+/// Takes these events in turn, with the build that compiles, and skips each event that is not possible when its turn comes. The only
+/// refusal is 40 `OutOfMemory`; the state is dropped then.
 pub fn run(
     alloc: Global,
     state: State<CcBuild>,
     events: Vec<Event<Piece>>,
 ) -> Result<State<CcBuild>, CoreFault>
     ensures run { IfOk result (λ new. Run compiling Keeps state events.items new) }
-    // Whatever a crash leaves of the disk recovers, to a library that holds every acknowledged command.
+    // Whatever a crash leaves of the disk recovers, to a library that has every acknowledged command.
     ensures survives { IfOk result (λ new. EachImageSurvives new.core) }
     // Each unit of it agrees with its stored source.
     ensures agrees { IfOk result (λ new. EachUnitAgrees new.core) }

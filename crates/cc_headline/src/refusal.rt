@@ -5,7 +5,7 @@ ghost use Rattle.cc_headline.specs.internal.Refusals.{refused_by};
 
 use cc_core::fault::BuildRefusal;
 
-// By its number.
+// The refusal with this number.
 pub(crate) fn refusal(number: u32) -> BuildRefusal
     ensures { result ≡ refused_by number }
 {

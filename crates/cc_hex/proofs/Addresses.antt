@@ -1,4 +1,4 @@
--- The bytes of an image, in order, are those of its addresses.
+-- The bytes of an image in order are the bytes at its addresses.
 use Rattle.std.proofs.Common.{◌≡◌, ℕ, zero, suc, ◌+◌, ◌-◌, ◌*◌, ◌/◌, ◌%◌, ◌^◌, ◌<◌, ◌≤◌, eqb, leb, ltb, ◌&&◌, Bool, cond, true, false, List, [], ◌∷◌, ◌++◌, length, get_or, Option, Some, refl, ap, sym, subst, ◌∙◌, arith, append_assoc, inl, inr}
 use Rattle.std.proofs.lemmas.Bool.{cases_lt}
 use Rattle.std.proofs.lemmas.Bool.Decides.{nat_tests}
@@ -12,7 +12,7 @@ bytes_at-append (x ∷ xs) ys a =
     let here : List ℕ = cond (eqb x.address a) (x.byte ∷ []) [] in
     ap (λ bs. here ++ bs) (bytes_at-append xs ys a) ∙ sym (append_assoc here (bytes_at xs a) (bytes_at ys a))
 
--- the byte at an address, of bytes from another address on
+-- the byte at an address, given bytes that begin at another address
 byte_from : (from : ℕ) (bytes : List ℕ) (a : ℕ) → List ℕ
 byte_from from bytes a = cond (leb from a && ltb a (from + length bytes)) (get_or bytes (a - from) 0 ∷ []) []
 
@@ -37,7 +37,7 @@ not_here x a ne = grind (arith, nat_tests)
 is_here : (x a : ℕ) → x ≡ a → eqb x a ≡ true
 is_here x a e = grind (arith, nat_tests)
 
--- the first byte, where the address is its own, and those behind it
+-- the first byte, if the address is its own, and those after it
 first_or_rest : (from : ℕ) (b : ℕ) (bs : List ℕ) (a : ℕ) → cond (eqb from a) (b ∷ []) [] ++ byte_from (from + 1) bs a ≡ byte_from from (b ∷ bs) a
 first_or_rest from b bs a =
     elim (cases_lt a from) [
@@ -104,7 +104,7 @@ block_at from words a fits =
     let n : length (bytes_of_words words) ≡ 4 * length words = long words in
     cells_at from (bytes_of_words words) a (omega arith) ∙ words_at from words a
 
--- what is said in order holds at each address
+-- what the text gives in order holds at each address
 pub held : (code globals text : List ℕ) → length code ≤ 131072 → length globals ≤ 131072 →
     read text ≡ Some (cells_from 65536 (bytes_of_words code) ++ cells_from 2097152 (bytes_of_words globals)) →
     (a : ℕ) → GivesAt (read text) a (byte_of_words 65536 code a ++ byte_of_words 2097152 globals a)

@@ -1,4 +1,4 @@
--- The line that moves the base address: it is there where 65,536 bytes begin, and nowhere else.
+-- The line that moves the base address is there exactly if a block of 65,536 addresses begins.
 use Rattle.std.proofs.Common.{◌≡◌, ℕ, ◌/◌, ◌%◌, eqb, cond, true, false, [], ap, arith}
 use Rattle.std.proofs.lemmas.Bool.Decides.{nat_tests}
 use Rattle.std.specs.Int.{w16, to_be_bytes}

@@ -1,4 +1,4 @@
--- The digits of bytes, read again: each digit has its value, two of them make their byte, and none ends a line.
+-- Reading the digits of bytes: each digit has its value, two of them make their byte, and none ends a line.
 use Rattle.std.proofs.Common.{◌≡◌, ℕ, zero, suc, ◌+◌, ◌*◌, ◌/◌, ◌%◌, ◌<◌, eqb, false, List, [], ◌∷◌, ◌++◌, get_or, take, drop, Some, refl, ap, arith}
 use Rattle.std.specs.List.{flat_map}
 use Rattle.std.proofs.lemmas.Bool.Decides.{nat_tests}
@@ -45,7 +45,7 @@ digit_again n h = grind (arith, nat_tests)
 digit_no_end : (n : ℕ) → n < 16 → eqb (digit n) 10 ≡ false
 digit_no_end n h = grind (arith, nat_tests)
 
--- the digits of bytes are those bytes
+-- reading the digits of bytes gives those bytes
 pub digits_again : (bytes : List ℕ) → AreBytes bytes → bytes_of (flat_map two_digits bytes) ≡ Some bytes
 digits_again [] h = refl
 digits_again (b ∷ bs) h =
@@ -56,7 +56,7 @@ digits_again (b ∷ bs) h =
     let byte : 16 * (b / 16) + b % 16 ≡ b = omega arith in
     rw (high, low, rest) (ap (λ x. Some (x ∷ bs)) byte)
 
--- no line ends within these characters
+-- none of these characters ends a line
 pub data NoEnd : List ℕ → Type 0 where
   Nothing : NoEnd []
   Before : (c : ℕ) (cs : List ℕ) → eqb c 10 ≡ false → NoEnd cs → NoEnd (c ∷ cs)

@@ -1,14 +1,14 @@
--- The bytes of a record, written one behind the other, are its line.
+-- The bytes of a record, written one after another, are its line.
 pub mod Written
--- The digits of bytes, read again.
+-- Reading the digits of bytes.
 pub mod Digits
--- The line of a record, read again.
+-- Reading the line of a record.
 pub mod Lines
--- Where the base address moves.
+-- When the base address moves.
 pub mod Bases
--- The rows of bytes, read again.
+-- Reading rows of bytes.
 pub mod Rows
--- The text of an image, read again.
+-- Reading the text of an image.
 pub mod Whole
--- The bytes of an image, in order, are those of its addresses.
+-- The bytes of an image in order are the bytes at its addresses.
 pub mod Addresses

@@ -1,4 +1,4 @@
--- The line of a record, read again.
+-- Reading the line of a record.
 use Rattle.std.proofs.Common.{◌≡◌, ℕ, ◌+◌, ◌*◌, ◌/◌, ◌%◌, ◌<◌, eqb, ◌&&◌, cond, true, List, [], ◌∷◌, ◌++◌, length, sum, take, Some, None, refl, ap, sym, ◌∙◌, arith, append_assoc, length-append}
 use Rattle.std.specs.List.{flat_map}
 use Rattle.std.proofs.lemmas.List.{take_at}
@@ -9,7 +9,7 @@ use Rattle.cc_hex.specs.Format.{Record, lines_of, records_of, record_of, record_
 use Rattle.cc_hex.specs.Layout.{two_digits, checksum, unsummed, record_line}
 use Rattle.cc_hex.proofs.Digits.{AreBytes, more_bytes, appended_bytes, no_bytes, digits_again, digits_no_end, NoEnd, Nothing, Before}
 
--- a text is these records, a line each
+-- a text consists of these records, one on each line
 pub record AreRecords (text : List ℕ) (records : List Record) : Type 0 where
   pub lines : List (List ℕ)
   pub split : lines_of text ≡ Some lines
@@ -32,7 +32,7 @@ sum_zero bytes =
     let parts : sum (bytes ++ checksum bytes ∷ []) ≡ sum bytes + (0 + checksum bytes) = sum_by-append (λ x. x) bytes (checksum bytes ∷ []) in
     omega arith
 
--- the bytes of a record, its checksum behind them
+-- the bytes of a record, followed by its checksum
 record_again : (count high low t offset : ℕ) (data_bytes : List ℕ) (r : Record) → count ≡ length data_bytes → 256 * high + low ≡ offset → typed_record t offset data_bytes ≡ Some r →
     record_of ((count ∷ high ∷ low ∷ t ∷ data_bytes) ++ checksum (count ∷ high ∷ low ∷ t ∷ data_bytes) ∷ []) ≡ Some r
 record_again count high low t offset data_bytes r e o typed =

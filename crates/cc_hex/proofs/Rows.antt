@@ -1,4 +1,4 @@
--- The rows of bytes, read again.
+-- Reading rows of bytes.
 use Rattle.std.proofs.Common.{◌≡◌, ℕ, zero, suc, ◌+◌, ◌-◌, ◌*◌, ◌/◌, ◌%◌, ◌^◌, ◌<◌, ◌≤◌, ◌⊎◌, List, [], ◌∷◌, ◌++◌, length, take, drop, Some, refl, ap, sym, subst, ◌∙◌, arith, append_assoc, inl, inr, ⊎_elim}
 use Rattle.std.proofs.lemmas.Bool.{cases_eq}
 use Rattle.std.specs.Int.{w16, to_be_bytes}
@@ -10,7 +10,7 @@ use Rattle.cc_hex.proofs.Digits.{AreBytes, more_bytes, no_bytes, front_bytes, ba
 use Rattle.cc_hex.proofs.Bases.{base_line_is, no_base_line}
 use Rattle.cc_hex.proofs.Lines.{AreRecords, record_first}
 
--- a text says these cells at a base address
+-- a text says these cells from a base address on
 pub record Tells (base : ℕ) (text : List ℕ) (cells : List AddressedByte) : Type 0 where
   pub records : List Record
   pub are : AreRecords text records
@@ -71,7 +71,7 @@ row_first base a bytes text cells h few low set others =
     subst (λ (t : List ℕ). Tells base t (cells_from a bytes ++ cells)) (sym grouped)
     (base_line_first base a (data_line ++ text) (cells_from a bytes ++ cells) low set (subst (λ (n : ℕ). Tells (a - a % 65536) (data_line ++ text) (cells_from n bytes ++ cells)) at told))
 
--- the base address of a row is that of the next one, but where 65,536 bytes begin
+-- a row has the same base address as the next one, unless a block of 65,536 addresses begins there
 next_base : (a : ℕ) → a % 16 ≡ 0 → ((a + 16) % 65536 ≡ 0) ⊎ (a - a % 65536 ≡ a + 16 - (a + 16) % 65536)
 next_base a aligned =
     elim (cases_eq ((a + 16) % 65536) 0) [

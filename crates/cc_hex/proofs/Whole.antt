@@ -1,4 +1,4 @@
--- The text of an image, read again.
+-- Reading the text of an image.
 use Rattle.std.proofs.Common.{◌≡◌, ℕ, ◌+◌, ◌*◌, ◌/◌, ◌%◌, ◌≤◌, List, [], ◌∷◌, ◌++◌, length, Some, refl, ap, subst, ◌∙◌, arith, append_assoc, length-append, inl}
 use Rattle.std.specs.Int.{w32, to_le_bytes}
 use Rattle.std.proofs.lemmas.List.{append-nil}
@@ -39,7 +39,7 @@ block_first base a words text cells few low begins others =
     let count : length bytes ≡ 4 * length words = long words in
     rows_first ((length bytes + 15) / 16) base a bytes text cells (words_bytes words) (omega arith) (omega arith) (omega arith) (inl begins) others
 
--- what a text tells at the first base address is what it says
+-- what a text says from the first base address on is what it says
 told : (text : List ℕ) (cells : List AddressedByte) → Tells 0 text cells → read text ≡ Some cells
 unfolding read
 told text cells h =

@@ -1,21 +1,21 @@
--- The bytes of a record, written one behind the other, are its line.
+-- The bytes of a record, written one after another, are its line.
 use Rattle.std.proofs.Common.{◌≡◌, ℕ, ◌+◌, ◌-◌, ◌/◌, ◌%◌, ◌<◌, List, [], ◌∷◌, ◌++◌, length, sum, sym, ap, ◌∙◌, append_assoc, arith, Result, Ok, Err, is_ok, OnOk, if◌then◌else◌}
 use Rattle.std.specs.List.{flat_map}
 use Rattle.std.proofs.lemmas.List.Concat.{flat_map-append}
 use Rattle.std.proofs.lemmas.List.Sums.{sum_by_from}
 use Rattle.cc_hex.specs.Layout.{two_digits, checksum, unsummed, record_line}
 
--- where the last write succeeded, the text is the whole
+-- if the last write succeeded, the text is the whole
 pub ended : {T E : Type 0} (r : Result T E) (old tail new all : List ℕ) → new ≡ (if is_ok r then old ++ tail else old) → old ++ tail ≡ all → OnOk r (new ≡ all)
 ended (Ok x) old tail new all e f = e ∙ f
 ended (Err x) old tail new all e f = tt
 
--- a checksum byte makes the sum of all bytes 0 in its lowest byte, and no other does
+-- a checksum byte makes the lowest byte of the sum 0, and no other byte does
 summed : (head rest head_total rest_total total c n : ℕ) → head_total ≡ head % 256 → rest_total ≡ rest % 256 →
     total ≡ (head_total + rest_total) % 256 → (c + total) % 256 ≡ 0 → c < 256 → n ≡ head + rest → c ≡ (256 - n % 256) % 256
 summed head rest head_total rest_total total c n e f g z h k = omega arith
 
--- the parts of a line, one behind the other
+-- the parts of a line, one after another
 joined : (old data_bytes : List ℕ) (count high low t c : ℕ) →
     ((((old ++ 58 ∷ []) ++ flat_map two_digits (count ∷ high ∷ low ∷ t ∷ [])) ++ flat_map two_digits data_bytes) ++ flat_map two_digits (c ∷ [])) ++ 10 ∷ []
     ≡ old ++ (58 ∷ flat_map two_digits ((count ∷ high ∷ low ∷ t ∷ data_bytes) ++ c ∷ []) ++ 10 ∷ [])

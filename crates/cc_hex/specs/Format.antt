@@ -1,13 +1,13 @@
--- What an Intel HEX text says (Intel, Hexadecimal Object File Format Specification, revision A, 1988), by a reader that is
--- total on any bytes. It reads the records of data (type 00), end of file (01) and extended linear address (04). A text with
--- anything else in it says nothing: a record of another type, a wrong digit, length or checksum, no end of file, or
--- anything behind that.
+-- What an Intel HEX text says (Intel, Hexadecimal Object File Format Specification, revision A, 1988), defined by a reader that
+-- is total on all bytes. It reads the records of data (type 00), end of file (01) and extended linear address (04). A text with
+-- anything else says nothing: a record of another type, a wrong digit, length or checksum, no end of file, or anything after
+-- that.
 use Rattle.std.specs.Prelude.{ℕ, ◌+◌, ◌-◌, ◌*◌, ◌%◌, ◌^◌, ◌&&◌, ◌==◌, nat_le, if◌then◌else◌, List, [], ◌∷◌, ◌++◌, length, take, sum, Option, Some, None}
 use Rattle.cc_hex.specs.internal.Reading.{◌>>=◌}
 
 -- ---- lines
 
--- a character before the first of these lines; a text whose last line has no end is none
+-- puts a character before the first of these lines; a text whose last line has no end is invalid
 abbrev pub put_first : ℕ → List (List ℕ) → Option (List (List ℕ))
 put_first c [] = None
 put_first c (line ∷ lines) = Some ((c ∷ line) ∷ lines)
@@ -19,7 +19,7 @@ lines_of (c ∷ cs) = lines_of cs >>= λ lines. if c == 10 then Some ([] ∷ lin
 
 -- ---- digits
 
--- the value of a digit of base 16, in upper or lower case
+-- the value of a hexadecimal digit, in upper or lower case
 abbrev pub digit_value : ℕ → Option ℕ
 digit_value c =
     if nat_le 48 c && nat_le c 57 then Some (c - 48)
@@ -27,7 +27,7 @@ digit_value c =
     else if nat_le 97 c && nat_le c 102 then Some (c - 87)
     else None
 
--- the bytes of these characters: two digits for each byte, the higher one first; behind them a carriage return (13) may stand
+-- the bytes of these characters: two digits for each byte, the higher one first; a carriage return (13) may follow
 abbrev pub bytes_of : List ℕ → Option (List ℕ)
 bytes_of [] = Some []
 bytes_of (c ∷ []) = if c == 13 then Some [] else None
@@ -56,7 +56,7 @@ abbrev pub extended_linear_address : (data_bytes : List ℕ) → Option Record
 extended_linear_address (high ∷ low ∷ []) = Some (ExtendedLinearAddress (256 * high + low))
 extended_linear_address bytes = None
 
--- the record of a type with this offset and data; all but data have the offset 0
+-- the record of a type with this offset and data; only data may have an offset other than 0
 abbrev pub typed_record : (record_type offset : ℕ) (data_bytes : List ℕ) → Option Record
 typed_record t offset bytes =
     if t == 0 then Some (Data offset bytes)
@@ -64,8 +64,8 @@ typed_record t offset bytes =
     else if (t == 4) && (offset == 0) then extended_linear_address bytes
     else None
 
--- the record of these bytes: the number of data bytes, the offset (the higher byte first), the type, the data and the
--- checksum, with which the sum of all of them is 0 in its lowest byte
+-- the record of these bytes: the number of data bytes, the offset (higher byte first), the type, the data, and the checksum,
+-- which makes the lowest byte of their sum 0
 abbrev pub record_of : List ℕ → Option Record
 record_of (count ∷ high ∷ low ∷ record_type ∷ rest) =
     if (length rest == count + 1) && (sum (count ∷ high ∷ low ∷ record_type ∷ rest) % 256 == 0)
@@ -91,12 +91,12 @@ pub record AddressedByte : Type 0 where
   pub address : ℕ
   pub byte : ℕ
 
--- bytes from an address on; after the highest address of 32 bits comes 0
+-- bytes from an address on; the highest address of 32 bits is followed by 0
 abbrev pub cells_from : (a : ℕ) (bytes : List ℕ) → List AddressedByte
 cells_from a [] = []
 cells_from a (b ∷ bs) = record { address = a % 2 ^ 32; byte = b } ∷ cells_from (a + 1) bs
 
--- what records say at a base address: the last one is the end of file, and no other is
+-- what records say from a base address on: the last one is the end of file, and no other is
 abbrev pub contents_of : (base : ℕ) → List Record → Option (List AddressedByte)
 contents_of base [] = None
 contents_of base (Data offset bytes ∷ rs) = contents_of base rs >>= λ cells. Some (cells_from (base + offset) bytes ++ cells)
@@ -104,7 +104,7 @@ contents_of base (EndOfFile ∷ []) = Some []
 contents_of base (EndOfFile ∷ r ∷ rs) = None
 contents_of base (ExtendedLinearAddress upper ∷ rs) = contents_of (65536 * upper) rs
 
--- what a text says: each byte that it gives, with its address, in its order; the base address is 0 at first
+-- what a text says: each byte that it gives, with its address, in the order of the text; the base address is 0 at first
 unfoldable pub read : (text : List ℕ) → Option (List AddressedByte)
 read text = do
   lines ← lines_of text

@@ -1,5 +1,5 @@
--- How the text of an image is laid out: its code's bytes, its globals' bytes and the end of file, 16 bytes a record and
--- digits in upper case.
+-- The layout of an image's text: its code's bytes, its globals' bytes and the end of file, with 16 bytes in a record and digits
+-- in upper case.
 use Rattle.std.specs.Prelude.{ℕ, zero, suc, ◌+◌, ◌-◌, ◌/◌, ◌%◌, ◌==◌, nat_lt, if◌then◌else◌, List, [], ◌∷◌, ◌++◌, length, take, drop, sum}
 use Rattle.std.specs.List.{flat_map}
 use Rattle.std.specs.Int.{w16, to_be_bytes}
@@ -7,14 +7,14 @@ use Rattle.cc_rv32.specs.declared.image.Image.{Image}
 use Rattle.cc_rv32.specs.Machine.{code_from, globals_from}
 use Rattle.cc_hex.specs.Contents.{bytes_of_words}
 
--- a digit of base 16, in upper case
+-- a hexadecimal digit, in upper case
 abbrev pub digit : ℕ → ℕ
 digit n = if nat_lt n 10 then 48 + n else 55 + n
 
 abbrev pub two_digits : ℕ → List ℕ
 two_digits b = digit (b / 16) ∷ digit (b % 16) ∷ []
 
--- with these bytes it makes a sum whose lowest byte is 0
+-- the byte that makes the lowest byte of the sum 0
 abbrev pub checksum : List ℕ → ℕ
 checksum bytes = (256 - sum bytes % 256) % 256
 
@@ -28,7 +28,7 @@ record_line t offset bytes =
     let unsummed_bytes = unsummed t offset bytes in
     58 ∷ flat_map two_digits (unsummed_bytes ++ checksum unsummed_bytes ∷ []) ++ 10 ∷ []
 
--- the line that moves the base address, where 65,536 bytes begin at this address
+-- the line that moves the base address, if a block of 65,536 addresses begins at this address
 unfoldable pub base_line : (a : ℕ) → List ℕ
 base_line a = if a % 65536 == 0 then record_line 4 0 (to_be_bytes w16 (a / 65536)) else []
 
@@ -36,7 +36,7 @@ base_line a = if a % 65536 == 0 then record_line 4 0 (to_be_bytes w16 (a / 65536
 unfoldable pub row : (a : ℕ) (bytes : List ℕ) → List ℕ
 row a bytes = base_line a ++ record_line 0 (a % 65536) bytes
 
--- this many rows, of 16 bytes each but for the last
+-- this many rows of 16 bytes; the last one may have fewer
 abbrev pub rows : (count a : ℕ) (bytes : List ℕ) → List ℕ
 rows zero a bytes = []
 rows (suc n) a bytes = row a (take 16 bytes) ++ rows n (a + 16) (drop 16 bytes)

@@ -1,10 +1,10 @@
--- What an Intel HEX text says: a reader, total on any bytes.
+-- What an Intel HEX text says: a reader that is total on all bytes.
 pub mod Format
 -- The bytes of an image, each at its address.
 pub mod Contents
--- How the text of an image is laid out: its records, in order.
+-- The layout of an image's text: its records, in order.
 pub mod Layout
--- Worked texts, each by computation; no contract rests on them.
+-- Worked texts, each by computation. No contract depends on them.
 pub mod rows
--- What only private contracts speak of.
+-- Definitions that only private contracts use.
 pub mod internal

@@ -1,6 +1,6 @@
 // An image's text: rows of 16 bytes, first those of its code and then those of its globals.
 
-ghost use Rattle.std.specs.Prelude.{◌≡◌, ◌+◌, ◌++◌, ◌^◌, ◌≤◌, length, IfOk, OnOk};
+ghost use Rattle.std.specs.Prelude.{◌≡◌, ◌+◌, ◌++◌, ◌≤◌, length, IfOk, OnOk};
 ghost use Rattle.cc_hex.specs.Contents.{bytes_of_words, Holds, Says};
 ghost use Rattle.cc_hex.specs.Layout.{base_line, row, block, image_text};
 
@@ -10,18 +10,18 @@ use cc_rv32::map::{CODE_FROM, GLOBALS_FROM};
 use std::alloc::{AllocError, Global};
 use std::cmp::min;
 
-/// The bytes in a record of data; the last one of the code and of the globals may have fewer.
+/// How many bytes a data record has. The last record of the code and that of the globals may have fewer.
 const ROW: usize = 16;
 
-/// The image as Intel HEX, in ASCII: its code's bytes from 0x00010000 on and then the bytes of its globals' first values
-/// from 0x00200000 on, the lowest byte of each word first, zeros too. A record has 16 bytes of data, digits are in upper
-/// case, and each line ends in a line feed. Where 65,536 bytes begin, an extended linear address record comes first.
+/// Returns the image as Intel HEX, in ASCII: its code's bytes from 0x00010000 on, and then the bytes of its globals' initial
+/// values from 0x00200000 on, zeros included; the lowest byte of each word comes first. A record has 16 bytes of data, digits are
+/// in upper case, and each line ends in a line feed. An extended linear address record precedes each block of 65,536 addresses.
 pub fn write(alloc: Global, image: &Image) -> Result<Vec<u8>, AllocError>
-    // Read by the format's definition, it has at each address the image's byte, once, and nothing where the image has none.
+    // Read by the format's definition, the text has the image's byte once at each address, and nothing at any other address.
     ensures holds { IfOk result (λ text. Holds text.items image.now) }
-    // It gives them in order of address.
+    // The bytes are in order of address.
     ensures says { IfOk result (λ text. Says text.items image.now) }
-    // How it is laid out.
+    // The layout of the text.
     ensures laid_out { IfOk result (λ text. text.items ≡ image_text image.now) }
 {
     let mut text = Vec::new(alloc);
@@ -76,7 +76,7 @@ fn push_row(text: &mut Vec<u8>, address: u32, bytes: &[u8]) -> Result<(), AllocE
     push_record(text, RecordType::Data, (address % 65536) as u16, bytes)
 }
 
-/// The upper half of an address, where a new one begins there.
+/// Writes the upper half of an address, if a new one begins there.
 fn push_base(text: &mut Vec<u8>, address: u32) -> Result<(), AllocError>
     ensures { OnOk result (text.new.items ≡ text.old.items ++ base_line address) }
 {

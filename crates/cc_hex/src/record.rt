@@ -1,4 +1,4 @@
-// One record of an Intel HEX text, written behind the ones before it.
+// One record of an Intel HEX text, written after the ones before it.
 
 ghost use Rattle.std.specs.Prelude.{◌≡◌, ◌++◌, ◌<◌, ◌≤◌, ◌/◌, ◌%◌, length, sum, OnOk};
 ghost use Rattle.std.specs.List.{flat_map};
@@ -7,14 +7,14 @@ ghost use Rattle.cc_hex.specs.internal.Types.{type_number};
 
 use std::alloc::AllocError;
 
-/// What a record is for.
+/// The type of a record.
 #[derive(Clone, Copy)]
 pub enum RecordType {
     /// 00: bytes, from an offset on.
     Data,
-    /// 01: nothing comes behind it.
+    /// 01: nothing follows.
     EndOfFile,
-    /// 04: the upper half of the addresses behind it.
+    /// 04: the upper half of the addresses that follow.
     ExtendedLinearAddress,
 }
 
@@ -30,7 +30,7 @@ impl RecordType {
     }
 }
 
-/// Writes a record of at most 255 bytes of data at the end of the text. An `Err` leaves a part of it there.
+/// Appends a record with at most 255 bytes of data to the text. An `Err` leaves a part of the record there.
 pub fn push_record(
     text: &mut Vec<u8>,
     record_type: RecordType,

@@ -1,4 +1,4 @@
--- The bytes that a history is counted to hold.
+-- The bytes for which a history is counted.
 use Rattle.std.specs.Prelude.{ℕ, ◌+◌, ◌*◌, ◌-◌, ◌^◌, min, List, length, sum_by, Option, Some, None}
 use Rattle.cc_unit.specs.declared.unit.StoredUnit.{StoredUnit}
 use Rattle.cc_history.specs.declared.command.Command.{Command}
@@ -10,16 +10,16 @@ use Rattle.cc_history.specs.declared.reply.Reply.TheVariants as reply
 use Rattle.cc_history.specs.declared.entry.Entry.{Entry}
 use Rattle.cc_history.specs.declared.entry.Receipt.{Receipt}
 
--- the bytes of a certificate, where there is one
+-- the bytes of a certificate, if there is one
 abbrev pub certificate_bytes : Option (List ℕ) → ℕ
 certificate_bytes (Some bytes) = length bytes
 certificate_bytes None = 0
 
--- of a unit: its source's bytes, four for each word of its code and of its globals, and its certificate's bytes
+-- a unit counts its source's bytes, four for each word of its code and of its globals, and its certificate's bytes
 abbrev pub unit_bytes : StoredUnit → ℕ
 unit_bytes unit = length unit.source + 4 * length unit.image.code + 4 * length unit.image.globals + certificate_bytes unit.certificate
 
--- of a call: those of the unit that it hands in, whatever it is answered
+-- a command counts the unit that it hands in, however it is answered
 abbrev pub command_bytes : Command → ℕ
 command_bytes (Add name unit) = unit_bytes unit
 command_bytes (Replace name unit) = unit_bytes unit
@@ -30,7 +30,8 @@ asked_bytes (Change command) = command_bytes command
 asked_bytes (Fetch name) = 0
 asked_bytes Names = 0
 
--- of an answer: 48 for each name of a list, which it takes in memory however short it is; a unit that is answered is the library's
+-- an answer counts 48 for each name of a list, as a name takes in memory however short it is; a unit that is answered belongs to the
+-- library and counts nothing
 abbrev pub reply_bytes : Reply → ℕ
 reply_bytes reply.Done = 0
 reply_bytes reply.Exists = 0
@@ -38,14 +39,14 @@ reply_bytes reply.Absent = 0
 reply_bytes (reply.Unit unit) = 0
 reply_bytes (reply.Names names) = 48 * length names
 
--- of an entry: 256, and those of what was asked and answered
+-- an entry counts 256, and what was asked and answered
 abbrev pub entry_bytes : Entry → ℕ
 entry_bytes entry = 256 + asked_bytes entry.asked + reply_bytes entry.reply
 
--- of the entries of these receipts
+-- the entries of these receipts, together
 abbrev pub receipts_bytes : List Receipt → ℕ
 receipts_bytes receipts = sum_by (λ receipt. entry_bytes receipt.entry) receipts
 
--- so many, or the most that a number of 64 bits can say
+-- this many, or the most that a number of 64 bits can be
 abbrev pub at_most_told : ℕ → ℕ
 at_most_told bytes = min bytes (2 ^ 64 - 1)

@@ -1,20 +1,20 @@
-// How many bytes a history is counted to hold, so that whoever keeps one can tell when it is too long.
+// The bytes for which a history is counted, so that whoever keeps one can see when it is too long.
 //
-// An entry is counted as 256 bytes, with the unit that a change handed in and the names that a list was answered. A unit that `fetch`
-// was answered is shared with the library, or with the entry that put it, and is not counted again.
+// An entry counts 256 bytes, plus the unit that a change handed in or the names that answered a list. A unit that answered a `fetch` is
+// shared with the library, or with the entry that put it there, and is not counted again.
 
-ghost use Rattle.std.specs.Prelude.{◌≡◌, ◌+◌, ◌≤◌};
-ghost use Rattle.cc_history.specs.Held.{asked_bytes, at_most_told, certificate_bytes, command_bytes, entry_bytes, receipts_bytes, reply_bytes, unit_bytes};
+ghost use Rattle.std.specs.Prelude.{◌≡◌, ◌+◌};
+ghost use Rattle.cc_history.specs.Held.{asked_bytes, at_most_told, certificate_bytes, entry_bytes, receipts_bytes, reply_bytes, unit_bytes};
 
 use crate::command::{Asked, Command};
 use crate::entry::{Entry, Receipt};
 use crate::reply::Reply;
 use cc_link::{Certificate, StoredUnit};
 
-// What an entry is counted as, beside its unit or its names.
+// An entry counts this many bytes, without its unit or its names.
 const ENTRY_BYTES: u64 = 256;
 
-// What a name takes in memory.
+// A name counts this many bytes, as it takes in memory.
 const NAME_BYTES: u64 = 48;
 
 fn certificate_held(certificate: &Option<Certificate>) -> u64
@@ -56,9 +56,9 @@ fn reply_held(reply: &Reply) -> u64
 }
 
 impl Entry {
-    /// The bytes that it is counted to hold: 256; of a change that hands in a unit its source's bytes, 4 for each word of its code and
-    /// of its globals, and its certificate's bytes, whatever the change was answered; of a list 48 for each name. `u64::MAX` where they
-    /// are more than that.
+    /// The bytes for which the entry is counted: 256; for a change that hands in a unit also its source's bytes, 4 for each word of its
+    /// code and of its globals, and its certificate's bytes, however the change was answered; for a list also 48 for each name. `u64::MAX`
+    /// if there are more.
     pub fn held(&self) -> u64
         ensures { result ≡ at_most_told (entry_bytes self.now) }
     {
@@ -68,7 +68,7 @@ impl Entry {
     }
 }
 
-/// The bytes that the entries of these receipts are counted to hold, together. `u64::MAX` where they are more than that.
+/// The bytes for which the entries of these receipts are counted, together. `u64::MAX` if there are more.
 pub fn held_by(receipts: &[Receipt]) -> u64
     ensures { result ≡ at_most_told (receipts_bytes receipts.now) }
 {

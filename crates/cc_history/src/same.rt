@@ -1,4 +1,4 @@
-// Whether two calls are the same, by their contents.
+// Whether two calls are the same, by content.
 
 ghost use Rattle.std.specs.Prelude.{◌≡◌, ◌↔◌, IsTrue};
 
@@ -8,7 +8,7 @@ use crate::reply::Reply;
 use cc_library::{Name, SharedUnit};
 use cc_link::CompiledUnit;
 
-// Whether two entries are one. Client and call come first: they tell most entries apart.
+// Whether two entries are the same. Client and call are compared first: they differ in most entries.
 pub(crate) fn same_entry(one: &Entry, other: &Entry) -> bool
     ensures { IsTrue result ↔ (one.now ≡ other.now) }
 {

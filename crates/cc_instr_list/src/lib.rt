@@ -1,10 +1,11 @@
 //! A list of instructions whose labels stay valid through every edit.
 //!
-//! Each item lies in a block of its own, linked to its neighbours by raw pointers, and a table by label says where. So a label is found,
-//! followed to its neighbours, unlinked and replaced in constant time, and an item is added in amortized constant time, wherever it goes.
+//! Each item is in a block of its own, linked to its neighbours by raw pointers, and a table has the address for each label. So a
+//! label is found, followed to its neighbours, unlinked and replaced in constant time, and an item is added at any place in
+//! amortized constant time.
 //!
-//! Three layers: `blocks` takes a block for each node and gives it back once, and is the only code over raw memory; `chain` keeps the
-//! nodes linked both ways; `list` has the labels and their table.
+//! There are three layers. `blocks` allocates a block for each node and frees it once; it is the only code that works on raw
+//! memory. `chain` keeps the nodes linked in both directions. `list` has the labels and their table.
 #![tactic(auto)]
 
 mod blocks;

@@ -123,6 +123,15 @@ impl<D: Disk> Log<D> {
         self.area
     }
 
+    /// How many bytes of the area its records take: of each 5 and its body. The closed gate after the last one takes one more.
+    /// It takes no memory.
+    pub fn used(&self) -> usize
+        ensures used { result ≡ length (records self.now.bodies) }
+        ensures fits { room_of self.now.bodies ≤ self.now.area }
+    {
+        self.used
+    }
+
     /// Whether a record with a body of this many bytes would be taken now: 36 where the log is closed, then 34 where it does
     /// not fit. It takes no memory.
     pub fn takes(&self, count: usize) -> Result<(), JournalFault>

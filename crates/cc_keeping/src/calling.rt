@@ -1,15 +1,21 @@
 // The command `call`: a unit of the library in a file is run. The file is open until the unit was read, and nothing is written to it.
 
-use crate::telling::{refuse, unwritten};
-use cc_answers::Telling;
+ghost use Rattle.std.specs.Prelude.{◌≡◌, false, true};
+ghost use Rattle.std.specs.Io.KnownBytes.{Appends};
+ghost use Rattle.cc_runs.specs.Written.{counted_text};
+
+use crate::telling::{refuse, settled, unwritten};
+use cc_answers::{Persons, Telling};
 use cc_call::{LinesEnd, call, call_lines, unit_on};
 use cc_command_line::Calling;
 use cc_filing::disk_of;
 use cc_runs::{CountedRun, write_counted_run};
-use cc_tasks::PartFault;
+use cc_tasks::{Done, PartFault};
 use cc_unit::StoredUnit;
+use cc_watch::AnswerProgress;
 use std::alloc::{AllocError, Global};
-use std::io::{self, BufRead, BufReader, BufWriter, Input, Print, Write};
+use std::io::{BufRead, BufReader, BufWriter, Input, IsTerminal, Write};
+use std::rt::Clock;
 use std::sync::Arc;
 
 // The one run that is asked for.
@@ -56,13 +62,14 @@ fn unit_of<E: Write>(
     }
 }
 
-// Writes a run; the status.
-fn answer<W: Write, E: Write>(run: &CountedRun, writer: &mut W, told: &mut E) -> u8 {
-    let written = write_counted_run(run, writer);
-    if written.is_err() || writer.flush().is_err() {
-        return unwritten(told);
-    }
-    0
+// Writes a run.
+#[tactic(auto, using(crate::proofs::Settled::settled_text))]
+fn answer<W: Write, E: Write>(run: &CountedRun, writer: &mut W, told: &mut E) -> Done
+    ensures written { result.is_written ≡ true → Appends (W.contents writer.old) (W.contents writer.new) (counted_text run.now) × (result.status ≡ 0) }
+    ensures unwritten { result.is_written ≡ false → result.status ≡ 1 }
+{
+    let write = write_counted_run(run, writer);
+    settled(write, 0, writer, told)
 }
 
 // Runs a unit line by line; the status.
@@ -88,25 +95,50 @@ fn answer_lines<R: BufRead, W: Write, E: Write>(
     }
 }
 
+// The same. A person who sees standard error, and not the answers, is shown how many lines of them there are.
+fn answer_lines_seen<R: AllocGlobal + Clock + Copy + Drop, I: BufRead, W: Write + Drop, E: Write>(
+    rt: &R,
+    files: &HostRuntime,
+    unit: &StoredUnit,
+    asked: &Calling,
+    is_watched: bool,
+    reader: &mut I,
+    writer: W,
+    told: &mut E,
+) -> u8 {
+    let screen = if is_watched && !files.stdout().is_terminal() {
+        Some(files.stderr())
+    } else {
+        None
+    };
+    let mut writer = AnswerProgress::new(writer, *rt, screen, "lines of answers");
+    let status = answer_lines(rt.alloc(), unit, asked, reader, &mut writer, told);
+    writer.clear();
+    drop(writer);
+    status
+}
+
 /// Runs a unit of the library in a file on input words, or on the words of each line of standard input; the status. The error is lack of memory
 /// before it began.
-pub fn call_in_file<R: AllocGlobal + Input + Print, E: Write + Drop>(
+pub fn call_in_file<R: AllocGlobal + Clock + Input + Copy + Drop, A: Write + Drop, E: Write + Drop>(
     rt: &R,
     files: &HostRuntime,
     asked: &Calling,
-    is_quiet: bool,
+    persons: Persons,
+    answers: A,
     errors: E,
 ) -> Result<u8, AllocError> {
     let (Ok(mut writer), Ok(errors)) = (
-        BufWriter::new(rt.alloc(), io::writer(rt)),
+        BufWriter::new(rt.alloc(), answers),
         BufWriter::new(rt.alloc(), errors),
     ) else {
         return Err(AllocError);
     };
+    let is_quiet = persons.is_quiet;
     let mut told = Telling { errors, is_quiet };
     if !asked.is_lines {
         return Ok(match run_of(rt.alloc(), files, asked, &mut told) {
-            Ok(run) => answer(&run, &mut writer, &mut told),
+            Ok(run) => answer(&run, &mut writer, &mut told).status,
             Err(fault) => refuse(fault, &mut writer, &mut told),
         });
     }
@@ -114,14 +146,19 @@ pub fn call_in_file<R: AllocGlobal + Input + Print, E: Write + Drop>(
         return Err(AllocError);
     };
     Ok(match unit_of(rt.alloc(), files, asked, &mut told) {
-        Ok(unit) => answer_lines(
-            rt.alloc(),
-            &unit,
-            asked,
-            &mut reader,
-            &mut writer,
-            &mut told,
-        ),
+        Ok(unit) => {
+            let is_watched = persons.is_watched && !is_quiet;
+            answer_lines_seen(
+                rt,
+                files,
+                &unit,
+                asked,
+                is_watched,
+                &mut reader,
+                writer,
+                &mut told,
+            )
+        }
         Err(fault) => refuse(fault, &mut writer, &mut told),
     })
 }

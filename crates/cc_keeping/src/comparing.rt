@@ -1,11 +1,16 @@
 // The command `diff`: where the libraries in two files differ. Nothing is written to them.
 
-use crate::telling::unwritten;
+ghost use Rattle.std.specs.Prelude.{◌≡◌, ◌≢◌, [], false, true};
+ghost use Rattle.std.specs.Io.KnownBytes.{Appends};
+ghost use Rattle.cc_diff.specs.Written.{diff_text};
+
+use crate::telling::{settled, unwritten};
 use cc_answers::{Stands, Telling, explain_words, write_fault_line};
 use cc_diff::{DiffFault, DiffLine, diff_disks, write_diff};
 use cc_filing::disk_of;
+use cc_tasks::Done;
 use std::alloc::{AllocError, Global};
-use std::io::{self, BufWriter, Print, Write};
+use std::io::{self, BufWriter, Write};
 
 // Where the libraries in the files differ.
 fn lines_of(
@@ -49,33 +54,38 @@ fn explain<E: Write>(fault: DiffFault, left: &str, right: &str, told: &mut E) ->
     told.flush()
 }
 
-// Writes the lines; the status: 0 if there is none, else 1.
-fn answer<W: Write, E: Write>(lines: &[DiffLine], writer: &mut W, told: &mut E) -> u8 {
-    let written = write_diff(lines, writer);
-    if written.is_err() || writer.flush().is_err() {
-        return unwritten(told);
-    }
-    if lines.is_empty() { 0 } else { 1 }
+// Writes the lines: the status is 0 without one, else 1.
+#[tactic(auto, using(crate::proofs::Settled::settled_text))]
+fn answer<W: Write, E: Write>(lines: &[DiffLine], writer: &mut W, told: &mut E) -> Done
+    ensures written { result.is_written ≡ true → Appends (W.contents writer.old) (W.contents writer.new) (diff_text lines.now) }
+    ensures same { result.is_written ≡ true → lines.now ≡ [] → result.status ≡ 0 }
+    ensures different { lines.now ≢ [] → result.status ≡ 1 }
+    ensures unwritten { result.is_written ≡ false → result.status ≡ 1 }
+{
+    let write = write_diff(lines, writer);
+    let status = if lines.is_empty() { 0 } else { 1 };
+    settled(write, status, writer, told)
 }
 
 /// Writes where the libraries in two files differ; the status: 0 if they hold the same. The error is lack of memory before it began.
-pub fn diff_files<R: AllocGlobal + Print, E: Write + Drop>(
+pub fn diff_files<R: AllocGlobal, A: Write + Drop, E: Write + Drop>(
     rt: &R,
     files: &HostRuntime,
     left: &str,
     right: &str,
     is_quiet: bool,
+    answers: A,
     errors: E,
 ) -> Result<u8, AllocError> {
     let (Ok(mut writer), Ok(errors)) = (
-        BufWriter::new(rt.alloc(), io::writer(rt)),
+        BufWriter::new(rt.alloc(), answers),
         BufWriter::new(rt.alloc(), errors),
     ) else {
         return Err(AllocError);
     };
     let mut told = Telling { errors, is_quiet };
     Ok(match lines_of(rt.alloc(), files, left, right) {
-        Ok(lines) => answer(lines.as_slice(), &mut writer, &mut told),
+        Ok(lines) => answer(lines.as_slice(), &mut writer, &mut told).status,
         Err(fault) => {
             let line = write_fault_line(fault.number(), Stands::Nowhere, b"", &mut writer);
             if line.is_err() || writer.flush().is_err() {

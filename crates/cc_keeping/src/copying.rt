@@ -6,184 +6,177 @@
 ghost use Rattle.std.specs.Prelude.{◌≤◌};
 
 use crate::telling::{refuse, refuse_quietly, unwritten};
-use cc_answers::{Telling, tell_audit, tell_ok};
+use cc_answers::{Persons, Telling, tell_audit, tell_ok};
 use cc_command_line::Copying;
-use cc_copy::{ChooseFault, Selection, choose, confirm, copy_units, least_area};
+use cc_copy::{LeftOut, Selection, copy_units, least_area, selection_on};
 use cc_disk::FileDisk;
 use cc_filing::{disk_of, name_disk};
-use cc_library::{Library, LibraryFault, Name, UnitMap};
-use cc_tasks::{PartFault, explain_absent};
+use cc_library::{LibraryFault, Name, UnitMap};
+use cc_tasks::PartFault;
+use cc_watch::AnswerProgress;
 use std::alloc::{AllocError, Global};
-use std::fs;
+use std::fs::{self, OpenOptions, Permissions};
 use std::io::{self, BufWriter, Print, Write};
+use std::os::unix::fs::{OpenOptionsExt, PermissionsExt};
+use std::rt::Clock;
 
-/// What is told where the new file can't be made.
-const NO_NEW: &str =
-    "cclib: the new file could not be made, or something has its name already: nothing is overwritten\n";
+/// The rights of a file that is made: its owner's alone.
+const OWN: u32 = 0o600;
 
-// The library in the file.
-fn opened(alloc: Global, files: &HostRuntime, path: &str) -> Result<Library<FileDisk>, PartFault> {
-    match disk_of(files, path, None) {
-        Ok(disk) => match Library::open(alloc, disk) {
-            Ok(library) => Ok(library),
-            Err((fault, disk)) => {
-                drop(disk);
-                Err(PartFault::Library(fault))
-            }
-        },
+// What is selected of the library in the file, which is closed again.
+fn selection_of<S: Write, E: Write>(
+    alloc: Global,
+    files: &HostRuntime,
+    asked: &Copying,
+    seen: &mut S,
+    told: &mut E,
+) -> Result<Selection, PartFault> {
+    match disk_of(files, asked.old.as_str(), None) {
+        Ok(disk) => {
+            let names = asked.names.as_slice();
+            let (selection, disk) = selection_on(
+                alloc,
+                disk,
+                names,
+                asked.is_confirmed,
+                seen,
+                told,
+            );
+            drop(disk);
+            selection
+        }
         Err(reason) => Err(PartFault::Library(reason.fault())),
     }
 }
 
-// The names that are given.
-fn names_in(alloc: Global, texts: &[String]) -> Result<Vec<Name>, PartFault> {
-    let mut names = Vec::new(alloc);
-    for text in texts {
-        let Ok(name) = Name::new(text.as_bytes()) else {
-            return Err(PartFault::BadName);
-        };
-        if names.push(name).is_err() {
-            return Err(PartFault::OutOfMemory);
+// Makes an empty file, which nothing may be yet.
+fn begin(files: &HostRuntime, path: &str) -> io::Result<()> {
+    let mut how = OpenOptions::new();
+    how.write(true).create_new(true).mode(OWN);
+    let file = how.open(files, path)?;
+    // The umask may have taken some of the rights.
+    match file.set_permissions(Permissions::from_mode(OWN)) {
+        Ok(()) => Ok(()),
+        Err(error) => {
+            let _ = fs::remove_file(files, path);
+            Err(error)
         }
     }
-    Ok(names)
 }
 
-// The units of the names that are given, or all.
-fn chosen<E: Write>(
-    alloc: Global,
-    units: &UnitMap,
-    names: &[Name],
-    told: &mut E,
-) -> Result<UnitMap, PartFault> {
-    if names.is_empty() {
-        return match units.again() {
-            Ok(units) => Ok(units),
-            Err(_) => Err(PartFault::OutOfMemory),
-        };
-    }
-    match choose(alloc, units, names) {
-        Ok(units) => Ok(units),
-        Err(ChooseFault::Absent(i)) => {
-            if let Some(name) = names.get(i) {
-                let _ = explain_absent(alloc, units, name.bytes(), told);
-            }
-            Err(PartFault::Absent)
-        }
-        Err(ChooseFault::OutOfMemory) => Err(PartFault::OutOfMemory),
-    }
-}
-
-// The units that are copied, and those that are left out.
-fn selected<E: Write>(
-    alloc: Global,
-    units: &UnitMap,
-    asked: &Copying,
-    told: &mut E,
-) -> Result<Selection, PartFault> {
-    let names = match names_in(alloc, asked.names.as_slice()) {
-        Ok(names) => names,
-        Err(fault) => return Err(fault),
-    };
-    let units = match chosen(alloc, units, names.as_slice(), told) {
-        Ok(units) => units,
-        Err(fault) => return Err(fault),
-    };
-    if !asked.is_confirmed {
-        return Ok(Selection {
-            units,
-            left_out: Vec::new(alloc),
-        });
-    }
-    match confirm(alloc, &units) {
-        Ok(selection) => Ok(selection),
-        Err(_) => Err(PartFault::OutOfMemory),
-    }
-}
-
-// What is selected of the library in the file, which is closed again.
-fn selection_of<E: Write>(
-    alloc: Global,
-    files: &HostRuntime,
-    asked: &Copying,
-    told: &mut E,
-) -> Result<Selection, PartFault> {
-    let library = match opened(alloc, files, asked.old.as_str()) {
-        Ok(library) => library,
-        Err(fault) => return Err(fault),
-    };
-    let selection = selected(alloc, library.units(), asked, told);
-    drop(library.into_disk());
-    selection
-}
-
-// The new library under a name that it has until it is whole.
+// The new library in a file that is this call's, and goes again if it can't be made.
 fn made(
     alloc: Global,
     files: &HostRuntime,
     units: &UnitMap,
     making: &str,
-    asked: &Copying,
+    area: u32,
 ) -> Result<FileDisk, LibraryFault>
+    requires least { 64 ≤ area }
+    requires most { area ≤ 1073741824 }
+{
+    let answer = match FileDisk::create(files, making, 16 + 2 * area as usize) {
+        Ok(disk) => {
+            let (answer, disk) = copy_units(alloc, units, disk, area);
+            match answer {
+                Ok(()) => return Ok(disk),
+                Err(fault) => {
+                    drop(disk);
+                    fault
+                }
+            }
+        }
+        Err(_) => LibraryFault::DiskFault,
+    };
+    let _ = fs::remove_file(files, making);
+    Err(answer)
+}
+
+// Says that something has a name that the new file was to have.
+fn tell_taken<E: Write>(path: &str, told: &mut E) -> LibraryFault {
+    let _ = writeln!(
+        told,
+        "cclib: {path}: something has this name already, and nothing is overwritten"
+    );
+    LibraryFault::DiskFault
+}
+
+// Makes the new library of these units under a name that it has until it is whole, which nothing may have.
+fn write_beside<E: Write>(
+    alloc: Global,
+    files: &HostRuntime,
+    units: &UnitMap,
+    making: &str,
+    asked: &Copying,
+    told: &mut E,
+) -> Result<(), LibraryFault>
     requires least { 64 ≤ asked.now.area }
     requires most { asked.now.area ≤ 1073741824 }
 {
+    let path = asked.new.as_str();
     if fs::symlink_metadata(files, making).is_ok() {
+        return Err(tell_taken(making, told));
+    }
+    if begin(files, making).is_err() {
+        let _ = writeln!(told, "cclib: {making}: the new file could not be made");
         return Err(LibraryFault::DiskFault);
     }
-    let size = 16 + 2 * asked.area as usize;
-    let disk = match FileDisk::create_new(files, making, size) {
+    let disk = match made(alloc, files, units, making, asked.area) {
         Ok(disk) => disk,
-        Err(_) => {
-            // What was begun of it, as where there was no room.
-            let _ = fs::remove_file(files, making);
-            return Err(LibraryFault::DiskFault);
+        Err(fault) => {
+            if let LibraryFault::DiskFault = fault {
+                let _ = writeln!(told, "cclib: {making}: the new file could not be written");
+            }
+            return Err(fault);
         }
     };
-    let (answer, disk) = copy_units(alloc, units, disk, asked.area);
-    match answer {
-        Ok(()) => Ok(disk),
-        Err(fault) => {
-            drop(disk);
+    let named = name_disk(files, making, path);
+    drop(disk);
+    match named {
+        Ok(()) => Ok(()),
+        Err(_) => {
             let _ = fs::remove_file(files, making);
-            Err(fault)
+            let _ = writeln!(
+                told,
+                "cclib: {path}: the new file could not get this name, or it is not known that the name lasts"
+            );
+            Err(LibraryFault::DiskFault)
         }
     }
 }
 
-// Makes the new library of these units.
-fn write_new(
+// Makes the new library of these units, and says why it could not.
+fn write_new<E: Write>(
     alloc: Global,
     files: &HostRuntime,
     process: u32,
     units: &UnitMap,
     asked: &Copying,
+    told: &mut E,
 ) -> Result<(), LibraryFault>
     requires least { 64 ≤ asked.now.area }
     requires most { asked.now.area ≤ 1073741824 }
 {
     if !units.fits(asked.area as usize) {
+        let _ = match least_area(units) {
+            Some(least) => writeln!(told, "cclib: the units take an AREA of at least {least}"),
+            None => writeln!(
+                told,
+                "cclib: the units take more bytes than an AREA may have"
+            ),
+        };
         return Err(LibraryFault::Full);
     }
     let path = asked.new.as_str();
     if fs::symlink_metadata(files, path).is_ok() {
-        return Err(LibraryFault::DiskFault);
+        return Err(tell_taken(path, told));
     }
     let Ok(making) = format!(in alloc; "{path}.{process}.copy") else {
         return Err(LibraryFault::OutOfMemory);
     };
-    match made(alloc, files, units, making.as_str(), asked) {
-        Ok(disk) => {
-            let named = name_disk(files, making.as_str(), path);
-            drop(disk);
-            if named.is_err() {
-                let _ = fs::remove_file(files, making.as_str());
-                return Err(LibraryFault::DiskFault);
-            }
-            Ok(())
-        }
-        Err(fault) => Err(fault),
-    }
+    let answer = write_beside(alloc, files, units, making.as_str(), asked, told);
+    drop(making);
+    answer
 }
 
 // Writes the names of the units that were copied.
@@ -198,14 +191,11 @@ fn write_names<W: Write>(names: &[Name], writer: &mut W) -> io::Result<()> {
 
 // Writes the names of the units that were copied, what an audit says of those that were left out, and that all is written: whether that could be
 // written.
-fn is_told<W: Write>(alloc: Global, selection: &Selection, writer: &mut W) -> bool {
-    let Ok(names) = selection.units.names(alloc) else {
-        return false;
-    };
-    if write_names(names.as_slice(), writer).is_err() {
+fn is_told<W: Write>(names: &[Name], left_out: &[LeftOut], writer: &mut W) -> bool {
+    if write_names(names, writer).is_err() {
         return false;
     }
-    for left in &selection.left_out {
+    for left in left_out {
         if tell_audit(left.name.bytes(), left.audit, writer).is_err() {
             return false;
         }
@@ -213,36 +203,34 @@ fn is_told<W: Write>(alloc: Global, selection: &Selection, writer: &mut W) -> bo
     tell_ok(writer).is_ok()
 }
 
-// Tells of a library that was not made.
-fn refuse_new<W: Write, E: Write>(
-    fault: LibraryFault,
-    units: &UnitMap,
-    writer: &mut W,
+// The same. A person who sees standard error is shown how many units were audited.
+fn selection_seen<R: AllocGlobal + Clock + Copy + Drop, E: Write>(
+    rt: &R,
+    files: &HostRuntime,
+    asked: &Copying,
+    persons: Persons,
     told: &mut E,
-) -> u8 {
-    match fault {
-        LibraryFault::Full => {
-            if let Some(least) = least_area(units) {
-                let _ = writeln!(told, "cclib: the units take an AREA of at least {least}");
-            }
-        }
-        LibraryFault::DiskFault => {
-            let _ = told.write_all(NO_NEW.as_bytes());
-        }
-        _ => {}
-    }
-    let _ = told.flush();
-    refuse_quietly(fault.number(), writer, told)
+) -> Result<Selection, PartFault> {
+    let screen = if persons.is_watched && !persons.is_quiet {
+        Some(files.stderr())
+    } else {
+        None
+    };
+    let mut seen = AnswerProgress::new(io::sink(), *rt, screen, "units audited");
+    let selection = selection_of(rt.alloc(), files, asked, &mut seen, told);
+    seen.clear();
+    drop(seen);
+    selection
 }
 
 /// Copies units of the library in a file into a new library in a file; the status: 0 if none was left out. The error is lack of memory before it
 /// began.
-pub fn copy_file<R: AllocGlobal + Print, E: Write + Drop>(
+pub fn copy_file<R: AllocGlobal + Clock + Print + Copy + Drop, E: Write + Drop>(
     rt: &R,
     files: &HostRuntime,
     process: u32,
     asked: &Copying,
-    is_quiet: bool,
+    persons: Persons,
     errors: E,
 ) -> Result<u8, AllocError>
     requires least { 64 ≤ asked.now.area }
@@ -254,15 +242,31 @@ pub fn copy_file<R: AllocGlobal + Print, E: Write + Drop>(
     ) else {
         return Err(AllocError);
     };
-    let mut told = Telling { errors, is_quiet };
-    let selection = match selection_of(rt.alloc(), files, asked, &mut told) {
+    let mut told = Telling {
+        errors,
+        is_quiet: persons.is_quiet,
+    };
+    let selection = match selection_seen(rt, files, asked, persons, &mut told) {
         Ok(selection) => selection,
         Err(fault) => return Ok(refuse(fault, &mut writer, &mut told)),
     };
-    if let Err(fault) = write_new(rt.alloc(), files, process, &selection.units, asked) {
-        return Ok(refuse_new(fault, &selection.units, &mut writer, &mut told));
+    // The memory for what is printed comes before the new file.
+    let Ok(names) = selection.units.names(rt.alloc()) else {
+        return Ok(refuse(PartFault::OutOfMemory, &mut writer, &mut told));
+    };
+    let written = write_new(
+        rt.alloc(),
+        files,
+        process,
+        &selection.units,
+        asked,
+        &mut told,
+    );
+    if let Err(fault) = written {
+        let _ = told.flush();
+        return Ok(refuse_quietly(fault.number(), &mut writer, &mut told));
     }
-    if !is_told(rt.alloc(), &selection, &mut writer) {
+    if !is_told(names.as_slice(), selection.left_out.as_slice(), &mut writer) {
         return Ok(unwritten(&mut told));
     }
     Ok(if selection.left_out.is_empty() { 0 } else { 1 })

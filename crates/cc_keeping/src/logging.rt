@@ -1,13 +1,17 @@
 // The command `log`: what was added, replaced and withdrawn in the library in a file. Nothing is written to it.
 
-use crate::telling::{refuse, unwritten};
+ghost use Rattle.std.specs.Prelude.{◌≡◌, false, true, option_map};
+ghost use Rattle.std.specs.Io.KnownBytes.{Appends};
+ghost use Rattle.cc_log.specs.Written.{log_text};
+
+use crate::telling::{refuse, settled};
 use cc_answers::Telling;
 use cc_filing::disk_of;
 use cc_library::{LibraryCommand, Name};
 use cc_log::{commands_on, write_log};
-use cc_tasks::PartFault;
+use cc_tasks::{Done, PartFault};
 use std::alloc::{AllocError, Global};
-use std::io::{self, BufWriter, Print, Write};
+use std::io::{BufWriter, Write};
 
 // The commands of the library in a file.
 fn commands_of(
@@ -39,43 +43,55 @@ fn name_of(name: Option<&str>) -> Result<Option<Name>, PartFault> {
     }
 }
 
-// Writes the lines of the commands that are asked for; the status.
+// Writes the lines of the commands that are asked for: all, or those about a name.
+#[tactic(auto, using(crate::proofs::Settled::settled_text))]
 fn answer<W: Write, E: Write>(
+    commands: &[LibraryCommand],
+    name: Option<&Name>,
+    writer: &mut W,
+    told: &mut E,
+) -> Done
+    ensures written { result.is_written ≡ true → Appends (W.contents writer.old) (W.contents writer.new)
+        (log_text (option_map (λ n. n.now) name.entry) commands.now) × (result.status ≡ 0) }
+    ensures unwritten { result.is_written ≡ false → result.status ≡ 1 }
+{
+    let write = write_log(commands, name, writer);
+    settled(write, 0, writer, told)
+}
+
+// Writes the lines that are asked for, or why not; the status.
+fn tell<W: Write, E: Write>(
     commands: &[LibraryCommand],
     name: Option<&str>,
     writer: &mut W,
     told: &mut E,
 ) -> u8 {
-    let name = match name_of(name) {
-        Ok(name) => name,
-        Err(fault) => return refuse(fault, writer, told),
-    };
-    let written = write_log(commands, name.as_ref(), writer);
-    if written.is_err() || writer.flush().is_err() {
-        return unwritten(told);
+    match name_of(name) {
+        Ok(name) => answer(commands, name.as_ref(), writer, told).status,
+        Err(fault) => refuse(fault, writer, told),
     }
-    0
 }
 
 /// Writes the commands of the library in a file since its last compaction, or those about one name; the status. The error is lack of memory
 /// before it began.
-pub fn log_of_file<R: AllocGlobal + Print, E: Write + Drop>(
+pub fn log_of_file<R: AllocGlobal, A: Write + Drop, E: Write + Drop>(
     rt: &R,
     files: &HostRuntime,
     disk: &str,
     name: Option<&str>,
     is_quiet: bool,
+    answers: A,
     errors: E,
 ) -> Result<u8, AllocError> {
     let (Ok(mut writer), Ok(errors)) = (
-        BufWriter::new(rt.alloc(), io::writer(rt)),
+        BufWriter::new(rt.alloc(), answers),
         BufWriter::new(rt.alloc(), errors),
     ) else {
         return Err(AllocError);
     };
     let mut told = Telling { errors, is_quiet };
     Ok(match commands_of(rt.alloc(), files, disk) {
-        Ok(commands) => answer(commands.as_slice(), name, &mut writer, &mut told),
+        Ok(commands) => tell(commands.as_slice(), name, &mut writer, &mut told),
         Err(fault) => refuse(fault, &mut writer, &mut told),
     })
 }

@@ -8,7 +8,7 @@ use cc_filing::disk_of;
 use cc_findings::write_measure;
 use cc_tasks::{PartFault, mode_of};
 use std::alloc::{AllocError, Global};
-use std::io::{self, BufWriter, Print, Write};
+use std::io::{BufWriter, Write};
 
 // What the image of the unit takes.
 fn size_of<E: Write>(
@@ -49,15 +49,16 @@ fn answer<W: Write, E: Write>(name: &[u8], size: &StoredSize, writer: &mut W, to
 
 /// Writes what the image of a unit of the library in a file takes, or the line of an audit that does not confirm it; the status: 0 if it is
 /// confirmed. The error is lack of memory before it began.
-pub fn size_in_file<R: AllocGlobal + Print, E: Write + Drop>(
+pub fn size_in_file<R: AllocGlobal, A: Write + Drop, E: Write + Drop>(
     rt: &R,
     files: &HostRuntime,
     asked: &Measuring,
     is_quiet: bool,
+    answers: A,
     errors: E,
 ) -> Result<u8, AllocError> {
     let (Ok(mut writer), Ok(errors)) = (
-        BufWriter::new(rt.alloc(), io::writer(rt)),
+        BufWriter::new(rt.alloc(), answers),
         BufWriter::new(rt.alloc(), errors),
     ) else {
         return Err(AllocError);

@@ -1,14 +1,45 @@
 // The line of a fault, and what a person is told of it.
 
+ghost use Rattle.std.specs.Prelude.{◌≡◌, false, true, IsOk};
+ghost use Rattle.std.specs.Io.KnownBytes.{Keeps};
+
 use cc_answers::{Stands, explain_words, write_fault_line};
 use cc_filing::explain_part;
-use cc_tasks::PartFault;
-use std::io::Write;
+use cc_tasks::{Done, PartFault};
+use std::io::{self, Write};
 
 /// Says that an answer could not be written; the status.
-pub(crate) fn unwritten<E: Write>(told: &mut E) -> u8 {
+pub(crate) fn unwritten<E: Write>(told: &mut E) -> u8
+    ensures { result ≡ 1 }
+{
     let _ = explain_words(54, told);
     1
+}
+
+/// Flushes the writer after an answer: this status if it is written, else 1, with a word to a person.
+pub(crate) fn settled<W: Write, E: Write>(
+    write: io::Result<()>,
+    status: u8,
+    writer: &mut W,
+    told: &mut E,
+) -> Done
+    ensures written { result.is_written ≡ true → IsOk write × Keeps (W.contents writer.old) (W.contents writer.new) × (result.status ≡ status) }
+    ensures unwritten { result.is_written ≡ false → result.status ≡ 1 }
+{
+    match write {
+        Ok(()) => match writer.flush() {
+            Ok(()) => return Done {
+                status,
+                is_written: true,
+            },
+            Err(_) => {}
+        },
+        Err(_) => {}
+    }
+    Done {
+        status: unwritten(told),
+        is_written: false,
+    }
 }
 
 /// Writes the line of a fault; the status.

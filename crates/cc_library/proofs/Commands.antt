@@ -90,7 +90,7 @@ has_name (Withdraw name) is = is
 
 -- ---- versions
 
--- there are two
+-- there are two versions
 abbrev is_version : ℕ → Bool
 is_version version = eqb version 1 || eqb version 2
 
@@ -106,7 +106,7 @@ not_two : (version : ℕ) → (version ≡ 1) ⊎ (version ≡ 2) → eqb versio
 not_two version (inl one) e = one
 not_two version (inr two) e = let no = sym (ap (λ (v : ℕ). eqb v 2) two) ∙ e in absurd (cc)
 
--- the version of a unit is the one that its certificate asks for
+-- the version of a unit is the one that its certificate needs
 asked : (version : ℕ) (certificate : Option (List ℕ)) → (version ≡ 1) ⊎ (version ≡ 2) → StandsIn version certificate → version ≡ certificate_version certificate
 asked version None known stands = not_two version known stands
 asked version (Some certificate) known stands = eqb-true _ _ stands
@@ -172,7 +172,7 @@ command_again version command has is =
 pub spelled_is_read : (bytes : List ℕ) (command : LibraryCommand) → Spells bytes command → command_in bytes ≡ Some command
 spelled_is_read bytes command p = ap command_in p.spelled ∙ command_again p.version command p.has_version p.command_is
 
--- no two commands have one spelling
+-- no two commands have the same spelling
 pub one_command : (bytes : List ℕ) (a b : LibraryCommand) → Spells bytes a → Spells bytes b → a ≡ b
 one_command bytes a b p q = same_Some a b (sym (spelled_is_read bytes a p) ∙ spelled_is_read bytes b q)
 
@@ -187,11 +187,11 @@ written (Withdraw name) is = record { version = 2; has_version = inr refl; spell
 pub spells_as_written : (body : List ℕ) (command : LibraryCommand) → body ≡ body_of command → IsCommand command → Spells body command
 spells_as_written body command is command_is = subst (λ (b : List ℕ). Spells b command) (sym is) (written command command_is)
 
--- an Add has no other
+-- an Add has no other spelling
 pub add_is_written : (body name : List ℕ) (unit : StoredUnit) → Spells body (Add name unit) → body ≡ body_of (Add name unit)
 add_is_written body name unit p = p.spelled ∙ ap (λ (v : ℕ). spelling v (Add name unit)) p.has_version
 
--- every spelling of a command is as long
+-- all spellings of a command have the same length
 pub spelling_long : (version : ℕ) (command : LibraryCommand) → length (spelling version command) ≡ length (body_of command)
 spelling_long version (Add name unit) = refl
 spelling_long version (Replace name unit) = refl

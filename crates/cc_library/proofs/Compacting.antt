@@ -1,5 +1,5 @@
--- One Add per name stands for the map. How: from the map of the entries before them, the Adds of the next entries lead to the map
--- of all; each is accepted, since a name of rising entries is not among those before it.
+-- One Add per name represents the map. The reason: from the map of the entries before them, the Adds of the next entries lead to the map of
+-- all. Each is accepted, since in a list with ascending names no name is among those before it.
 use Rattle.std.proofs.Common.{◌≡◌, ℕ, ◌+◌, ◌-◌, ◌<◌, ◌≤◌, length, List, [], ◌∷◌, ◌++◌, Bool, true, false, ◌&&◌, refl, sym, ap, subst, ◌∙◌, append_assoc, length-append, cond, Some, None, arith}
 use Rattle.std.specs.Int.{w32, to_le_bytes}
 use Rattle.std.specs.Prelude.{T, IsOk, Ok, Err, if◌then◌else◌, is_some, Result}
@@ -12,7 +12,6 @@ use Rattle.std.specs.FinMap as map
 use Rattle.std.specs.FinMap.Entries.{find, is_sorted, below_all}
 use Rattle.cc_journal.specs.Format.{record_bytes, records, room_of}
 use Rattle.cc_unit.specs.declared.unit.StoredUnit.{StoredUnit}
-use Rattle.cc_library.specs.declared.command.LibraryCommand.{LibraryCommand}
 use Rattle.cc_library.specs.declared.command.LibraryCommand.TheVariants.{Add}
 use Rattle.cc_library.specs.Apply.{Units, apply, after, after_all, kept, exists, AreAccepted}
 use Rattle.cc_library.specs.Body.{Spells, body_of}
@@ -34,7 +33,7 @@ second : (a b : Bool) → T (a && b) → T b
 second true b p = p
 second false b p = absurd p
 
--- a record takes five bytes beside its body
+-- a record takes five bytes in addition to its body
 pub record_long : (body : List ℕ) → length (record_bytes body) ≡ length body + 5
 record_long body = omega (arith, length-append (to_le_bytes w32 (length body)) body)
 
@@ -47,7 +46,7 @@ below_there : (x : List ℕ) (prefix rest : List Entry) (e : Entry) → T (below
 below_there x [] rest e h = less (R x e.0) (first (is_lt (R x e.0)) (below_all R x rest) h)
 below_there x (f ∷ prefix) rest e h = below_there x prefix rest e (second (is_lt (R x f.0)) (below_all R x (prefix ++ e ∷ rest)) h)
 
--- a name of rising entries is not among those before it
+-- in a list with ascending names no name is among those before it
 not_before : (prefix rest : List Entry) (e : Entry) → T (is_sorted R (prefix ++ e ∷ rest)) → find R e.0 prefix ≡ None
 not_before [] rest e sorted = refl
 not_before (f ∷ prefix) rest e sorted =
@@ -77,12 +76,12 @@ leads prefix (e ∷ es) sorted =
       ap (λ (m : Units). after_all m (adds es)) on ∙ rest.1 ∙ ap (λ (l : List Entry). map.from_entries l) parts,
     )
 
--- a map is that of its entries
+-- a map is the map of its entries
 whole : (units : Units) → units ≡ map.from_entries (map.entries units)
 whole units = map.same_map nat_list_cmp_total (map.slice_cmp-IsAntisymmetric map.nat_cmp-IsAntisymmetric) units (map.from_entries (map.entries units))
     (λ q. map.get-entries units q ∙ sym (map.get-from_entries nat_list_cmp_total (map.entries units) q))
 
--- bodies of one Add per name stand for the map
+-- bodies of one Add per name represent the map
 pub adds_stand : (units : Units) (bodies : List (List ℕ)) → AreSpelled bodies (adds_of units) → StandFor bodies units
 adds_stand units bodies spelled =
     let all = leads [] (map.entries units) (map.entries_sorted units) in
@@ -103,33 +102,33 @@ spelled_compacted bodies units spelled = spelled_bodies bodies (map.entries unit
 
 -- ---- their room
 
--- of some records and one more
+-- the room of some records and one more
 pub room_record : (bodies : List (List ℕ)) (body : List ℕ) → room_of (bodies ++ body ∷ []) ≡ room_of bodies + (length body + 5)
 room_record [] body = omega (arith, length-append (record_bytes body) [], record_long body)
 room_record (b ∷ bodies) body = omega (arith, room_record bodies body, length-append (record_bytes b) (records (bodies ++ body ∷ [])), length-append (record_bytes b) (records bodies))
 
--- what one more needs is not there
+-- there is no room for one more
 pub no_room_left : (bodies : List (List ℕ)) (body : List ℕ) (area n : ℕ) → n ≡ length body → area - 5 ≤ n → room_of (bodies ++ body ∷ []) ≤ area → ⊥
 no_room_left bodies body area n long few fits = omega (arith, room_record bodies body, long, few, fits)
 
--- or is there where the others leave it
+-- or there is room, if the others leave it
 pub room_left : (bodies : List (List ℕ)) (body : List ℕ) (area n left : ℕ) → n ≡ length body → n < area - 5 → left ≡ area - 5 - n
     → (room_of bodies ≤ left → room_of (bodies ++ body ∷ []) ≤ area) × (room_of (bodies ++ body ∷ []) ≤ area → room_of bodies ≤ left)
 room_left bodies body area n left long few is = (λ le. omega (arith, room_record bodies body, long, few, is, le), λ le. omega (arith, room_record bodies body, long, few, is, le))
 
--- of some entries and one more
+-- the room of some entries and one more
 pub room_push : (es : List Entry) (e : Entry) → room_of (bodies_of (adds (es ++ e ∷ []))) ≡ room_of (bodies_of (adds es)) + (length (body_of (Add e.0 e.1)) + 5)
 room_push [] e = omega (arith, length-append (record_bytes (body_of (Add e.0 e.1))) [], record_long (body_of (Add e.0 e.1)))
 room_push (f ∷ es) e =
     omega (arith, room_push es e, length-append (record_bytes (body_of (Add f.0 f.1))) (records (bodies_of (adds (es ++ e ∷ [])))), length-append (record_bytes (body_of (Add f.0 f.1))) (records (bodies_of (adds es))))
 
--- some entries take no more than all
+-- some entries take at most as much room as all
 pub room_prefix : (prefix rest : List Entry) → room_of (bodies_of (adds prefix)) ≤ room_of (bodies_of (adds (prefix ++ rest)))
 room_prefix [] rest = omega arith
 room_prefix (f ∷ prefix) rest =
     omega (arith, room_prefix prefix rest, length-append (record_bytes (body_of (Add f.0 f.1))) (records (bodies_of (adds (prefix ++ rest)))), length-append (record_bytes (body_of (Add f.0 f.1))) (records (bodies_of (adds prefix))))
 
--- nor does one
+-- and so does one
 pub room_one : (prefix rest : List Entry) (e : Entry) → length (body_of (Add e.0 e.1)) < room_of (bodies_of (adds (prefix ++ e ∷ rest)))
 room_one [] rest e = omega (arith, length-append (record_bytes (body_of (Add e.0 e.1))) (records (bodies_of (adds rest))), record_long (body_of (Add e.0 e.1)))
 room_one (f ∷ prefix) rest e = omega (arith, room_one prefix rest e, length-append (record_bytes (body_of (Add f.0 f.1))) (records (bodies_of (adds (prefix ++ e ∷ rest)))))

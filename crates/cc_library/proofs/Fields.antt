@@ -1,5 +1,4 @@
--- A field that is read is the field that was written, and what was written is read again: for each kind of field, from
--- its two halves, up to the unit.
+-- What is read is what was written, and what was written is read again: for each kind of field, up to the unit.
 use Rattle.std.proofs.Common.{◌≡◌, ℕ, zero, suc, ◌^◌, ◌<◌, ◌≤◌, Bool, true, false, ◌&&◌, cond, ltb, eqb, List, [], ◌∷◌, ◌++◌, length, get_or, take, drop, Option, Some, None, refl, sym, ap, subst, ◌∙◌, append_assoc, arith}
 use Rattle.std.specs.Prelude.{IsTrue, nat_le}
 use Rattle.std.specs.List.{flat_map}
@@ -69,7 +68,7 @@ pub record IsField {X : Type 0} (read : List ℕ → Option (X × List ℕ)) (wr
 
 -- ---- numbers
 
--- four bytes that stand for a number, by any spelling
+-- four bytes that spell a number, by any spelling
 record IsWide (spell : ℕ → List ℕ) (value : List ℕ → ℕ) : Type 0 where
   len : (n : ℕ) → length (spell n) ≡ 4
   back : (bytes : List ℕ) (n : ℕ) → length bytes ≡ 4 → AreBelow 256 bytes → n ≡ value bytes → spell n ≡ bytes
@@ -226,12 +225,12 @@ name_fields = record { takes = name_takes; again = name_again }
 
 -- ---- a certificate
 
--- it stands in version 2, and in no other
+-- version 2 has one, and no other version has
 abbrev pub StandsIn : (version : ℕ) → Option (List ℕ) → Type 0
 StandsIn version None = eqb version 2 ≡ false
 StandsIn version (Some certificate) = eqb version 2 ≡ true
 
--- reading it, where the version is known to be 2 or not to be
+-- reading it, if the version is known to be 2 or known not to be
 abbrev certificate_by : (two : Bool) → List ℕ → Option (Option (List ℕ) × List ℕ)
 certificate_by two bytes = cond two (number_in bytes >>= λ n. taken n.0 n.1 >>= λ found. Some (Some found.0, found.1)) (Some (None, bytes))
 
@@ -267,7 +266,7 @@ certificate_again version (Some certificate) rest is stands =
 
 -- ---- a unit
 
--- what a unit of a body of this version is
+-- the units that a body in this version can have
 abbrev pub IsUnitIn : (version : ℕ) → StoredUnit → Type 0
 IsUnitIn version unit = IsUnit unit × StandsIn version unit.certificate
 

@@ -1,4 +1,4 @@
--- What an opened journal's records say of the image that they were read from, and when opening is refused.
+-- What an opened journal's records say about the image from which they were read, and when opening is refused.
 use Rattle.std.proofs.Common.{◌≡◌, ℕ, Bool, IsTrue, List, [], ◌++◌, ◌∷◌, subst}
 use Rattle.std.specs.FinMap.{empty}
 use Rattle.cc_journal.specs.declared.fault.JournalFault.{JournalFault}
@@ -13,11 +13,11 @@ use Rattle.cc_library.specs.Recovered.{StandFor}
 use Rattle.cc_library.specs.Answers.{OpenFaults, ReplayFaults}
 use Rattle.cc_library.proofs.Standing.{one_map, none_left}
 
--- an image that holds records has a right header
+-- an image that has records has a valid header
 pub has_header : (image : List ℕ) (area : ℕ) (bodies : List (List ℕ)) → HoldsRecords image area bodies → HasHeader image area
 has_header image area bodies h = record { area_byte = h.area_byte; rest = h.other ++ (records bodies ++ h.gate ∷ h.behind); bytes = h.bytes; is_area = h.is_area }
 
--- where records stand for no map, the image that holds them alone recovers to none
+-- if records represent no map, the image that has them and no others recovers to no map
 pub replay_refused : (honest : Bool) (seen : List ℕ) (area : ℕ) (bodies : List (List ℕ)) (before behind : ℕ) (fault : LibraryFault) → (IsTrue honest → HoldsAlone seen area bodies) → ReplayFaults bodies fault
     → behind ≡ before → OpenFaults honest seen before behind fault
 replay_refused honest seen area bodies before behind Damaged holds faults same = (
@@ -35,7 +35,7 @@ replay_refused honest seen area bodies before behind Absent holds faults same = 
 replay_refused honest seen area bodies before behind Full holds faults same = absurd faults
 replay_refused honest seen area bodies before behind Closed holds faults same = absurd faults
 
--- a refusal of the journal is the library's
+-- a refusal of the journal becomes the library's
 pub journal_refused : (honest : Bool) (seen : List ℕ) (before behind : ℕ) (fault : JournalFault) → journals.OpenFaults honest seen before behind fault → OpenFaults honest seen before behind (fault_of fault)
 journal_refused honest seen before behind journal.DiskFault faults = faults
 journal_refused honest seen before behind journal.NotALibrary faults = faults
@@ -44,6 +44,6 @@ journal_refused honest seen before behind journal.OutOfMemory faults = faults
 journal_refused honest seen before behind journal.Full faults = absurd faults
 journal_refused honest seen before behind journal.Closed faults = absurd faults
 
--- no records stand for the empty map alone
+-- a list without records represents the empty map and no other
 pub new_map : (bodies : List (List ℕ)) (units : Units) → bodies ≡ [] → StandFor bodies units → units ≡ empty
 new_map bodies units none stand = one_map empty [] units empty (subst (λ (bs : List (List ℕ)). StandFor bs units) none stand) (none_left empty)

@@ -1,4 +1,4 @@
--- Names compare as the numbers of their prefixes do, where these differ.
+-- Names compare as the numbers of their prefixes do, if these differ.
 use Rattle.std.proofs.Common.{◌≡◌, ℕ, zero, suc, ◌+◌, ◌*◌, ◌<◌, ◌≤◌, List, [], ◌∷◌, get_or, drop, length, Bool, true, false, ◌&&◌, Ordering, Less, Equal, Greater, inl, inr, refl, ap, ◌∙◌, subst, arith}
 use Rattle.std.proofs.lemmas.Bool.{leb-true, eqb-true}
 use Rattle.std.specs.Prelude.{◌⊎◌, ◌||◌, ◌==◌, nat_le, nat_lt}
@@ -11,7 +11,7 @@ use Rattle.cc_library.specs.Body.{AreBelow}
 use Rattle.cc_library.specs.internal.Prefix.{prefix_number}
 use Rattle.cc_library.proofs.Fields.{both_true}
 
--- ---- which number a prefix is
+-- ---- the number of a prefix
 
 -- one byte further
 at_byte : (a n k : ℕ) (bytes : List ℕ) → prefix_number a (suc n) (drop k bytes) ≡ prefix_number (a * 256 + get_or bytes k 0) n (drop (suc k) bytes)
@@ -27,7 +27,7 @@ ended a bytes = refl
 
 -- ---- how two prefixes compare
 
--- a larger number so far stays larger, whatever stands behind it
+-- if the number so far is larger, it stays larger, whatever comes after it
 stays : (a b n : ℕ) (xs ys : List ℕ) → a < b → AreBelow 256 xs → prefix_number a n xs < prefix_number b n ys
 unfolding prefix_number
 stays a b zero xs ys lt below = lt
@@ -36,7 +36,7 @@ stays a b (suc n) [] (y ∷ ys) lt below = stays (a * 256) (b * 256 + y) n [] ys
 stays a b (suc n) (x ∷ xs) [] lt below = stays (a * 256 + x) (b * 256) n xs [] (omega (arith, lt, below.0)) below.1
 stays a b (suc n) (x ∷ xs) (y ∷ ys) lt below = stays (a * 256 + x) (b * 256 + y) n xs ys (omega (arith, lt, below.0)) below.1
 
--- no bytes are the least
+-- the number without further bytes is the least
 least : (a n : ℕ) (xs : List ℕ) → prefix_number a n [] ≤ prefix_number a n xs
 unfolding prefix_number
 least a zero xs = omega arith
@@ -66,7 +66,7 @@ fits a (suc n) (x ∷ xs) (y ∷ ys) below below2 differ = by_first a n x y xs y
     → MatchOrdering (slice_cmp nat_cmp xs ys) (prefix_number (a * 256 + x) n xs < prefix_number (a * 256 + z) n ys) (prefix_number (a * 256 + x) n xs ≡ prefix_number (a * 256 + z) n ys)
     (prefix_number (a * 256 + z) n ys < prefix_number (a * 256 + x) n xs)) e (fits (a * 256 + x) n xs ys below.1 below2.1) differ)
 
--- they compare as the numbers of their prefixes
+-- bytes compare as the numbers of their prefixes do
 pub by_prefixes : (xs ys : List ℕ) → AreBelow 256 xs → AreBelow 256 ys → (prefix_number 0 8 xs ≡ prefix_number 0 8 ys → ⊥) → slice_cmp nat_cmp xs ys ≡ nat_cmp (prefix_number 0 8 xs) (prefix_number 0 8 ys)
 by_prefixes xs ys below below2 differ = nat_cmp_is (prefix_number 0 8 xs) (prefix_number 0 8 ys) (slice_cmp nat_cmp xs ys) (fits 0 8 xs ys below below2 differ)
 

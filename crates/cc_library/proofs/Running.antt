@@ -1,4 +1,4 @@
--- Runs of edits: one edit more at the end, what a run folds to, and what opening a disk again shows after a failure.
+-- Runs of edits: one more edit at the end, the map that a run leads to, and what opening a disk again shows after a failure.
 use Rattle.std.proofs.Common.{◌≡◌, ◌≢◌, ◌⊎◌, inl, inr, ℕ, ◌≤◌, Bool, false, IsTrue, List, [], ◌∷◌, ◌++◌, refl, sym, ap, subst, ◌∙◌, arith, append_assoc}
 use Rattle.std.specs.Prelude.{Result, Ok, Err}
 use Rattle.cc_disk.specs.Images.{LeavesOnly}
@@ -50,7 +50,7 @@ cause_of honest image area bodies old made new before behind Absent refused h p 
 cause_of honest image area bodies old made new before behind Full refused h p = absurd refused
 cause_of honest image area bodies old made new before behind Closed refused h p = absurd refused
 
--- what is known of each moment is known of now
+-- what holds at each moment holds now
 pub of_now : {D : Type 0} (may_leave : D → List ℕ → Type 0) (moment : D → ℕ) (left_since : D → ℕ → List ℕ → Type 0) (old new : D) (P : List ℕ → Type 0) → LeavesOnly moment left_since old new P
     → ((t : ℕ) (image : List ℕ) → t ≤ moment new → may_leave new image → left_since new t image) → (image : List ℕ) → may_leave new image → P image
 of_now may_leave moment left_since old new P run counts image now = run.each image (counts (moment old) image run.later now)
@@ -58,7 +58,7 @@ of_now may_leave moment left_since old new P run counts image now = run.each ima
 -- ---- edits
 
 module _ {D : Type 0} where
-  -- the device failed in it: the library was not closed
+  -- the device failed in it, so the library was not closed
   pub was_open : (old : View D) (edit : Edit) (before behind : ℕ) → EditAnswers {T = Unit {0}} old edit before behind (Err DiskFault) → old.closed ≡ false
   was_open old (Change command) before behind answers = answers.0.0
   was_open old Compact before behind answers = answers.0
@@ -157,7 +157,7 @@ module _ {D : Type 0} (honest : Bool) (failures : D → ℕ) where
   pub stays_open : (old mid : View D) (edit : Edit) (number : ℕ) → IsEdited honest failures old edit number mid → old.closed ≡ false → mid.closed ≡ false
   stays_open old mid edit number one was = stays old mid one.left one.answer edit one.leaves one.goes_on was
 
-  -- the map is the fold of the changes that were done
+  -- the map is the result of the changes that were made, in order
   pub folds : (old new : View D) (edits : List Edit) (numbers : List ℕ) → AreEdited honest failures old edits numbers new → IsTrue honest
       → (done : List LibraryCommand) × AreDone edits numbers done × (new.units ≡ after_all old.units done)
   folds old new [] [] run h = ([], refl, ap (λ (v : View D). v.units) run)
@@ -185,7 +185,7 @@ pub mid_edit : (area : ℕ) (bodies : List (List ℕ)) (units : Units) (made : L
 mid_edit area bodies units made edit number image was (inl p) = inl p.1
 mid_edit area bodies units made edit number image was (inr p) = inr (was, p.1)
 
--- one edit more that was done
+-- one more edit that was done
 done_push : (edits : List Edit) (numbers : List ℕ) (done : List LibraryCommand) (command : LibraryCommand) (number : ℕ) → AreDone edits numbers done → (number ≡ 0) ⊎ (number ≡ 35)
     → AreDone (edits ++ Change command ∷ []) (numbers ++ number ∷ []) (done ++ command ∷ [])
 done_push [] [] done command number are was = inl ([], was, ap (λ (l : List LibraryCommand). l ++ command ∷ []) are, refl)
@@ -243,7 +243,7 @@ among_all units edits more all numbers shown image edits_are same p = record {
   recovers = p.recovers;
 }
 
--- in the middle of one edit more
+-- in the middle of one more edit
 pub among_next : (units now : Units) (edits : List Edit) (numbers : List ℕ) (edit : Edit) (number : ℕ) (image : List ℕ) → (done : List LibraryCommand) × AreDone edits numbers done × (now ≡ after_all units done) → IsMidEdit now edit number image
     → RecoversAmong units (edits ++ edit ∷ []) (numbers ++ number ∷ []) image
 among_next units now edits numbers edit number image (done, are, is) (inl recovers) = record {

@@ -1,4 +1,4 @@
--- How many bytes the fields of a unit take.
+-- The number of bytes that the fields of a unit take.
 use Rattle.std.proofs.Common.{◌≡◌, ℕ, ◌+◌, ◌*◌, ◌^◌, ◌<◌, List, [], ◌∷◌, ◌++◌, length, Option, Some, None, refl, arith, length-append}
 use Rattle.std.specs.Int.{w32, to_le_bytes}
 use Rattle.std.specs.List.{flat_map}
@@ -13,7 +13,7 @@ words_long : (words : List ℕ) → length (flat_map (to_le_bytes w32) words) �
 words_long [] = refl
 words_long (word ∷ words) = omega (arith, four word, words_long words, length-append (to_le_bytes w32 word) (flat_map (to_le_bytes w32) words))
 
--- a certificate without a byte takes four
+-- a certificate without bytes takes four bytes
 pub certificate_long : (certificate : List ℕ) → length (certificate_part (Some certificate)) ≡ 4 + length certificate
 certificate_long certificate = omega (arith, four (length certificate), length-append (to_le_bytes w32 (length certificate)) certificate)
 
@@ -51,7 +51,7 @@ pub short_certificate : (certificate : Option (List ℕ)) → length (certificat
 short_certificate None few = tt
 short_certificate (Some certificate) few = omega (arith, few, certificate_long certificate)
 
--- where a body does, so does its certificate
+-- if a body does, so does its certificate
 pub short_part : (unit : Option StoredUnit) → length (unit_part unit) < 2 ^ 32 → HasShort unit
 short_part None few = tt
 short_part (Some unit) few = short_certificate unit.certificate (omega (arith, few, unit_long unit))

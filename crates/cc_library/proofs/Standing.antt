@@ -1,5 +1,5 @@
--- What records stand for: one record more at the start or at the back, and that records stand for one map at most. From
--- this, what images that hold records recover to.
+-- The map that records represent: one more record at the start or at the end, and that records represent at most one map. From this follows
+-- to what images with these records recover.
 use Rattle.std.proofs.Common.{◌≡◌, ◌⊎◌, inl, inr, ⊎_elim, ℕ, List, [], ◌∷◌, ◌++◌, refl, sym, ap, subst, ◌∙◌, arith}
 use Rattle.std.specs.Prelude.{IsOk, Err}
 use Rattle.std.specs.FinMap.{empty}
@@ -49,15 +49,15 @@ no_step : (from : Units) (body : List ℕ) (bodies : List (List ℕ)) (commands 
 no_step from body bodies [] none spelled accepted = spelled
 no_step from body bodies (command ∷ commands) none spelled accepted = none command spelled.0 accepted.0
 
--- where the first record leads nowhere, all of them lead nowhere
+-- if the first record leads nowhere, all of them lead nowhere
 pub leads_nowhere : (from : Units) (body : List ℕ) (bodies : List (List ℕ)) (to : Units) → ((command : LibraryCommand) → Spells body command → IsOk (apply from command) → ⊥) → LeadTo from (body ∷ bodies) to → ⊥
 leads_nowhere from body bodies to none l = no_step from body bodies l.commands none l.spelled l.accepted
 
--- no records lead nowhere else
+-- no records lead from a map to itself only
 pub none_left : (units : Units) → LeadTo units [] units
 none_left units = record { commands = []; spelled = tt; accepted = tt; map_is = refl }
 
--- where the next record cannot be replayed, all of them stand for no map
+-- if the next record cannot be replayed, the records together represent no map
 pub fails_here : (bodies : List (List ℕ)) (units : Units) (body : List ℕ) (behind : List (List ℕ)) (fault : LibraryFault) → ReplaysBody units body (Err fault)
     → ((made : Units) → StandFor bodies made → LeadTo units (body ∷ behind) made) → ReplayFaults bodies fault
 fails_here bodies units body behind Damaged answer onward = λ made l. leads_nowhere units body behind made answer (onward made l)
@@ -80,7 +80,7 @@ same_commands (body ∷ bodies) (x ∷ xs) (y ∷ ys) p q =
     let others : xs ≡ ys = same_commands bodies xs ys p.1 q.1 in
     ap (λ (z : LibraryCommand). z ∷ xs) first ∙ ap (λ (zs : List LibraryCommand). y ∷ zs) others
 
--- records lead to one map at most
+-- records lead to at most one map
 pub one_map : (from : Units) (bodies : List (List ℕ)) (a b : Units) → LeadTo from bodies a → LeadTo from bodies b → a ≡ b
 one_map from bodies a b p q = p.map_is ∙ ap (after_all from) (same_commands bodies p.commands q.commands p.spelled q.spelled) ∙ sym q.map_is
 
@@ -92,7 +92,7 @@ pushed from (b ∷ bs) [] body command spelled accepted s ok = absurd spelled
 pushed from (b ∷ bs) (x ∷ xs) body command spelled accepted s ok =
     step_before from (after from x) b (bs ++ body ∷ []) (after (after_all (after from x) xs) command) (x, spelled.0, accepted.0, refl) (pushed (after from x) bs xs body command spelled.1 accepted.1 s ok)
 
--- one record more at the end
+-- one more record at the end
 pub one_more : (bodies : List (List ℕ)) (units : Units) (body : List ℕ) (command : LibraryCommand) → StandFor bodies units → Spells body command → IsOk (apply units command) → StandFor (bodies ++ body ∷ []) (after units command)
 one_more bodies units body command l s ok =
     subst (λ (m : Units). LeadTo empty (bodies ++ body ∷ []) (after m command)) (sym l.map_is)
@@ -106,7 +106,7 @@ stands_after bodies units body command more new stand spelled ok added is =
 pub stands_still : (bodies : List (List ℕ)) (units : Units) (same : List (List ℕ)) (new : Units) → StandFor bodies units → same ≡ bodies → new ≡ units → StandFor same new
 stands_still bodies units same new stand bodies_are is = subst (λ (m : Units). StandFor same m) (sym is) (subst (λ (bs : List (List ℕ)). StandFor bs units) (sym bodies_are) stand)
 
--- an image that holds records alone recovers to what they stand for alone
+-- an image that has only these records recovers to the map that they represent, and to no other
 pub holds_recovers : (image : List ℕ) (area : ℕ) (bodies : List (List ℕ)) (units : Units) → HoldsAlone image area bodies → StandFor bodies units → RecoversAlone image units
 holds_recovers image area bodies units h stand = record {
   recovers = record { area = area; bodies = bodies; holds = h.holds; stand = stand };
@@ -117,7 +117,7 @@ pub one_of : (image : List ℕ) (area : ℕ) (bodies : List (List ℕ)) (body : 
 one_of image area bodies body old new before behind (inl h) = inl (h, holds_recovers image area bodies old h before)
 one_of image area bodies body old new before behind (inr h) = inr (h, holds_recovers image area (bodies ++ body ∷ []) new h behind)
 
--- of the maps alone
+-- for the maps alone
 pub either : (image : List ℕ) (area : ℕ) (bodies : List (List ℕ)) (old : Units) (made : List (List ℕ)) (new : Units) → IsOldOrNew area bodies old made new image → RecoversOneOf old new image
 either image area bodies old made new (inl p) = inl p.1
 either image area bodies old made new (inr p) = inr p.1
@@ -140,7 +140,7 @@ module _ {D : Type 0} (moment : D → ℕ) (left_since : D → ℕ → List ℕ 
   pub no_call : (Q : List ℕ → Type 0) (disk : D) → ((image : List ℕ) → left_since disk (moment disk) image → Q image) → LeavesOnly moment left_since disk disk Q
   no_call Q disk now = record { later = omega arith; each = now; before = λ t image earlier left. inl left }
 
-  -- between two calls, of a library whose every image holds its records alone
+  -- between two calls, for a library whose every image has its records and no others
   pub quiet : (may_leave : D → List ℕ → Type 0) (disk : D) (area : ℕ) (bodies : List (List ℕ)) (units : Units) (made : List (List ℕ)) (new : Units)
       → ((image : List ℕ) → may_leave disk image → HoldsAlone image area bodies) → ((image : List ℕ) → left_since disk (moment disk) image → may_leave disk image) → StandFor bodies units
       → LeavesOnly moment left_since disk disk (IsOldOrNew area bodies units made new)
@@ -156,7 +156,7 @@ module _ {D : Type 0} (moment : D → ℕ) (left_since : D → ℕ → List ℕ 
       (weaker (HoldsOldOrNew area bodies body) (IsOldOrNew area bodies units (bodies ++ body ∷ []) (after units command)) old new
       (λ image holds. one_of image area bodies body units (after units command) stand (one_more bodies units body command stand spelled ok) holds) run)
 
-  -- during a `rewrite` by records that stand for the same map
+  -- during a `rewrite` with records that represent the same map
   pub rewritten : (old new : D) (area : ℕ) (bodies more : List (List ℕ)) (units : Units) → StandFor bodies units → StandFor more units → LeavesOnly moment left_since old new (HoldsOneOf area bodies more)
       → LeavesOnly moment left_since old new (IsOldOrNew area bodies units more units)
   rewritten old new area bodies more units before behind run =
@@ -166,12 +166,12 @@ module _ {D : Type 0} (moment : D → ℕ) (left_since : D → ℕ → List ℕ 
       by image (inl h) = inl (h, holds_recovers image area bodies units h before)
       by image (inr h) = inr (h, holds_recovers image area more units h behind)
 
-  -- of the maps alone
+  -- for the maps alone
   pub maps_alone : (old new : D) (area : ℕ) (bodies : List (List ℕ)) (units : Units) (more : List (List ℕ)) (made : Units) → LeavesOnly moment left_since old new (IsOldOrNew area bodies units more made)
       → LeavesOnly moment left_since old new (RecoversOneOf units made)
   maps_alone old new area bodies units more made run = weaker (IsOldOrNew area bodies units more made) (RecoversOneOf units made) old new (λ image p. either image area bodies units more made p) run
 
-  -- of one map
+  -- for one map
   pub map_stays : (old new : D) (area : ℕ) (bodies : List (List ℕ)) (units : Units) (more : List (List ℕ)) → LeavesOnly moment left_since old new (IsOldOrNew area bodies units more units)
       → LeavesOnly moment left_since old new (λ image. RecoversAlone image units)
   map_stays old new area bodies units more run = weaker (IsOldOrNew area bodies units more units) (λ image. RecoversAlone image units) old new (λ image p. the_one image p) run
@@ -189,7 +189,7 @@ module _ {D : Type 0} (moment : D → ℕ) (left_since : D → ℕ → List ℕ 
     before = λ t image le left. ⊎_elim (λ earlier. weaker_at {P = P} {Q = R} old mid f t image (first.before t image le earlier)) (λ q. inr (g image q)) (second.before t image (omega (arith, le, first.later)) left);
   }
 
-  -- reads alone after it
+  -- after it only reads
   pub read_on : (seen : D → List ℕ) (may_leave : D → List ℕ → Type 0) (old mid new : D) (P : List ℕ → Type 0) → LeavesOnly moment left_since old mid P → OnlyReads seen may_leave moment left_since mid new → LeavesOnly moment left_since old new P
   read_on seen may_leave old mid new P first reads = record {
     later = omega (arith, first.later, reads.later);

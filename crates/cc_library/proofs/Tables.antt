@@ -1,5 +1,5 @@
--- A `BTreeMap` seen as a finite map: what its look-up, its insertion and its removal are there.
--- Two finite maps that answer alike are equal, and the `BTreeMap`'s clauses say what it answers.
+-- A `BTreeMap` seen as a finite map, with its look-up, its insertion and its removal. Two finite maps that answer alike are equal, and the
+-- `BTreeMap`'s clauses say what it answers.
 use Rattle.std.proofs.Common.{◌≡◌, List, [], ◌∷◌, refl, sym, ap, ◌∙◌, cond, Option, Some, None, false, map}
 use Rattle.std.specs.Prelude.{is_some}
 use Rattle.std.specs.declared.cmp.Ordering.{Ordering}
@@ -33,10 +33,10 @@ module _ {K X : Type 0} {R : K → K → Ordering} (o : IsTotalOrder R) where
         get-map n q ∙ u q ∙ ap (λ b. cond b None (tree.get R m q)) ((eq_by_cmp_equiv o).symm k q)
         ∙ ap (cond (eq_by_cmp R q k) None) (sym (get-map m q)) ∙ sym (get-remove o (from_entries m.entries) k q))
 
-  no_entries : entries (empty {K = K} {X = X} {R = R}) ≡ []
+  pub no_entries : entries (empty {K = K} {X = X} {R = R}) ≡ []
   no_entries = nil_from_length (entries empty) (sym (len-entries empty) ∙ len-empty R X)
 
-  -- the entries of a list whose keys rise are the list
+  -- the entries of a list with ascending keys are the list
   pub entries-map : (es : List (K × X)) → IsStrictlySortedBy R (keys_of es) → entries (from_entries {R = R} es) ≡ es
   unfolding IsStrictlySortedBy
   entries-map [] rises = no_entries

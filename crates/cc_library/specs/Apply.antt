@@ -1,4 +1,4 @@
--- The library as a map from names to units, what a command does to it, and what many do.
+-- The library as a map from names to units, what one command does to it, and what many commands do.
 use Rattle.std.specs.Prelude.{ℕ, List, [], ◌∷◌, Option, Some, None, Result, Ok, Err, IsOk, if◌then◌else◌}
 use Rattle.std.specs.Ordering.{nat_cmp}
 use Rattle.std.specs.Cmp.Lexicographic.{slice_cmp}
@@ -25,7 +25,7 @@ apply units (Add name unit) = if contains_key units name then Err exists else Ok
 apply units (Replace name unit) = if contains_key units name then Ok (insert units name unit) else Err absent
 apply units (Withdraw name) = if contains_key units name then Ok (remove units name) else Err absent
 
--- the map that was made, or the old one where the command was refused
+-- the map that was made, or the old one if the command was refused
 abbrev pub kept : Units → Result Units ℕ → Units
 kept units (Ok made) = made
 kept units (Err number) = units
@@ -34,7 +34,7 @@ kept units (Err number) = units
 abbrev pub after : Units → LibraryCommand → Units
 after units command = kept units (apply units command)
 
--- the map after these commands, one after the other, from a map on
+-- the map after these commands, one after the other, starting from a given map
 abbrev pub after_all : Units → List LibraryCommand → Units
 after_all units [] = units
 after_all units (command ∷ commands) = after_all (after units command) commands
@@ -43,7 +43,7 @@ after_all units (command ∷ commands) = after_all (after units command) command
 abbrev pub library_of : List LibraryCommand → Units
 library_of commands = after_all empty commands
 
--- the number of a refusal, where there is one
+-- the number of a refusal, if there is one
 abbrev pub refusal : Result Units ℕ → Option ℕ
 refusal (Ok units) = None
 refusal (Err number) = Some number

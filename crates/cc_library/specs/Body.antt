@@ -1,5 +1,5 @@
--- A command as the body of a record, in two versions. Numbers are little-endian. Version 1 knows no certificate. In version 2 a
--- unit ends with one. What is written has the version that its certificate asks for; of a Withdraw both versions are read.
+-- A command as the body of a record, in two versions. Numbers are little-endian. Version 1 has no certificate. In version 2 a unit ends
+-- with one. A command is written in the version that its certificate needs; a Withdraw is read in both versions.
 use Rattle.std.specs.Prelude.{ℕ, ◌≤◌, ◌<◌, ◌≡◌, ◌^◌, ◌⊎◌, List, [], ◌∷◌, ◌++◌, length, Option, Some, None, IsTrue}
 use Rattle.std.specs.List.{flat_map, AllByRecursion}
 use Rattle.std.specs.Int.{w32, to_le_bytes}
@@ -16,11 +16,11 @@ kind_number kind.Add = 1
 kind_number kind.Replace = 2
 kind_number kind.Withdraw = 3
 
--- how many bytes, as four bytes, and the bytes
+-- the number of bytes, as four bytes, and the bytes
 abbrev pub bytes_field : List ℕ → List ℕ
 bytes_field bytes = to_le_bytes w32 (length bytes) ++ bytes
 
--- how many words, as four bytes, and each word as four bytes
+-- the number of words, as four bytes, and each word as four bytes
 abbrev pub words_field : List ℕ → List ℕ
 words_field words = to_le_bytes w32 (length words) ++ flat_map (to_le_bytes w32) words
 
@@ -28,31 +28,31 @@ words_field words = to_le_bytes w32 (length words) ++ flat_map (to_le_bytes w32)
 abbrev pub name_field : List ℕ → List ℕ
 name_field name = length name ∷ name
 
--- the certificate where there is one; one without a byte is still its length
+-- the certificate, if there is one; one without bytes is still its length
 abbrev pub certificate_part : Option (List ℕ) → List ℕ
 certificate_part None = []
 certificate_part (Some certificate) = bytes_field certificate
 
--- the source, the code, the globals, and the certificate where there is one
+-- the source, the code, the globals, and the certificate if there is one
 abbrev pub unit_fields : StoredUnit → List ℕ
 unit_fields unit = bytes_field unit.source ++ (words_field unit.image.code ++ (words_field unit.image.globals ++ certificate_part unit.certificate))
 
--- the unit where there is one
+-- the unit, if there is one
 abbrev pub unit_part : Option StoredUnit → List ℕ
 unit_part None = []
 unit_part (Some unit) = unit_fields unit
 
--- the version that a certificate asks for
+-- the version that a certificate needs
 abbrev pub certificate_version : Option (List ℕ) → ℕ
 certificate_version None = 1
 certificate_version (Some certificate) = 2
 
--- the version of a body with this unit, or without one, as it is written
+-- the version in which a body with this unit, or with none, is written
 abbrev pub part_version : Option StoredUnit → ℕ
 part_version None = 2
 part_version (Some unit) = certificate_version unit.certificate
 
--- the version, the kind, the name, and the unit where there is one; nothing stands after
+-- the version, the kind, the name, and the unit if there is one; nothing comes after them
 abbrev pub body_in : (version : ℕ) → Kind → List ℕ → Option StoredUnit → List ℕ
 body_in version kind name unit = version ∷ (kind_number kind ∷ (name_field name ++ unit_part unit))
 
@@ -76,13 +76,13 @@ written_version (Withdraw name) = 2
 abbrev pub body_of : LibraryCommand → List ℕ
 body_of command = spelling (written_version command) command
 
--- a command can be spelled in this version: a unit in the one that its certificate asks for, a Withdraw in both
+-- a command can be spelled in this version: a unit in the one that its certificate needs, a Withdraw in both
 abbrev pub HasVersion : (version : ℕ) → LibraryCommand → Type 0
 HasVersion version (Add name unit) = version ≡ certificate_version unit.certificate
 HasVersion version (Replace name unit) = version ≡ certificate_version unit.certificate
 HasVersion version (Withdraw name) = (version ≡ 1) ⊎ (version ≡ 2)
 
--- a unit stands exactly with Add and Replace
+-- Add and Replace have a unit, Withdraw has none
 abbrev pub HasUnit : Kind → Option StoredUnit → Type 0
 HasUnit kind.Add None = ⊥
 HasUnit kind.Add (Some unit) = Unit {0}
@@ -95,23 +95,23 @@ HasUnit kind.Withdraw (Some unit) = ⊥
 abbrev pub AreBelow : ℕ → List ℕ → Type 0
 AreBelow limit numbers = AllByRecursion (λ n. n < limit) numbers
 
--- the length of the certificate, where there is one, has room in four bytes
+-- the length of the certificate, if there is one, fits four bytes
 abbrev pub IsShort : Option (List ℕ) → Type 0
 IsShort None = Unit {0}
 IsShort (Some certificate) = length certificate < 2 ^ 32
 
--- that of the unit's has, where there is a unit
+-- so does that of the unit's certificate, if there is a unit
 abbrev pub HasShort : Option StoredUnit → Type 0
 HasShort None = Unit {0}
 HasShort (Some unit) = IsShort unit.certificate
 
--- what a certificate can be, where there is one: bytes, as many as a length of four bytes can tell
+-- a possible certificate, if there is one: bytes, as many as a length of four bytes can count
 abbrev pub IsCertificate : Option (List ℕ) → Type 0
 IsCertificate None = Unit {0}
 IsCertificate (Some certificate) = (length certificate < 2 ^ 32) × AreBelow (2 ^ 8) certificate
 
--- what a stored unit can be: a source of at most 65,536 bytes, 1 to 131,072 code words, at most 65,536 global words, and a
--- certificate, or none
+-- a possible stored unit: a source of at most 65,536 bytes, 1 to 131,072 code words, at most 65,536 global words, and a certificate, or
+-- none
 pub record IsUnit (unit : StoredUnit) : Type 0 where
   pub source : length unit.source ≤ 65536
   pub bytes : AreBelow (2 ^ 8) unit.source
@@ -122,12 +122,12 @@ pub record IsUnit (unit : StoredUnit) : Type 0 where
   pub global_words : AreBelow (2 ^ 32) unit.image.globals
   pub certificate : IsCertificate unit.certificate
 
--- the unit is one that can be, where there is one
+-- the unit is a possible one, if there is one
 abbrev pub HoldsUnit : Option StoredUnit → Type 0
 HoldsUnit None = Unit {0}
 HoldsUnit (Some unit) = IsUnit unit
 
--- what a command can be
+-- a possible command
 abbrev pub IsCommand : LibraryCommand → Type 0
 IsCommand (Add name unit) = IsTrue (is_name name) × IsUnit unit
 IsCommand (Replace name unit) = IsTrue (is_name name) × IsUnit unit

@@ -1,4 +1,4 @@
--- The numbers of the faults, and what a journal's fault is to the library.
+-- The numbers of the faults, and the library's fault for a journal's fault.
 use Rattle.std.specs.Prelude.{ℕ}
 use Rattle.cc_journal.specs.declared.fault.JournalFault.{JournalFault}
 use Rattle.cc_journal.specs.declared.fault.JournalFault.TheVariants as journal
@@ -22,7 +22,7 @@ fault_number Damaged = 37
 fault_number NotALibrary = 38
 fault_number OutOfMemory = 40
 
--- a journal's fault is the library's of the same number
+-- a journal's fault becomes the library's with the same number
 abbrev pub fault_of : JournalFault → LibraryFault
 fault_of journal.Full = Full
 fault_of journal.DiskFault = DiskFault

@@ -1,22 +1,24 @@
--- the numbers of the faults, and what a journal's fault is to the library
+-- the numbers of the faults, and the library's fault for a journal's fault
 pub mod Fault
--- which bytes are a name
+-- the bytes that are a name
 pub mod Name
--- the map from names to units, and what a command makes of it
+-- the map from names to units, and what a command does to it
 pub mod Apply
 -- a command as the body of a record
 pub mod Body
--- the map that records stand for, and what an image recovers to; what contracts see of a library, and what its type keeps
+-- the map that records represent, and what an image recovers to; what contracts see of a library, and what its type keeps
 pub mod Recovered
 -- the shortest journal of a map: one Add per name
 pub mod Compact
+-- how much of its area a library takes
+pub mod Space
 -- which answer a call gives, when, and what it leaves
 pub mod Answers
 -- a run of edits
 pub mod Runs
--- what only proofs and private contracts use
+-- for proofs and private contracts only
 pub mod internal
--- Pages of crates below that clauses here cite, handed on.
+-- Pages of lower crates that clauses here cite, handed on.
 pub use Rattle.cc_journal.specs.Format
 pub use Rattle.cc_rv32.specs.contracts.image as image_contract
 pub use Rattle.cc_unit.specs.contracts.unit as unit_contract

@@ -1,4 +1,4 @@
--- What an image of a disk recovers to: the map that its records stand for.
+-- What an image of a disk recovers to: the map that its records represent.
 use Rattle.std.specs.Prelude.{◌≡◌, ◌⊎◌, ℕ, Bool, List, [], ◌∷◌, refl}
 use Rattle.std.specs.FinMap.{empty}
 use Rattle.std.specs.Coded.{Coded, code_by, coded×, coded_ℕ, coded_list, coded_bool}
@@ -14,18 +14,18 @@ AreSpelled [] (command ∷ commands) = ⊥
 AreSpelled (body ∷ bodies) [] = ⊥
 AreSpelled (body ∷ bodies) (command ∷ commands) = Spells body command × AreSpelled bodies commands
 
--- the bodies are those of commands, each of which is accepted in turn, from this map on, and they lead to that one
+-- the bodies are those of commands, each accepted in its turn, and they lead from the one map to the other
 pub record LeadTo (from : Units) (bodies : List (List ℕ)) (to : Units) : Type 0 where
   pub commands : List LibraryCommand
   pub spelled : AreSpelled bodies commands
   pub accepted : AreAccepted from commands
   pub map_is : to ≡ after_all from commands
 
--- the bodies stand for this map: `library_of` their commands
+-- the bodies represent this map: `library_of` of their commands
 abbrev pub StandFor : List (List ℕ) → Units → Type 0
 StandFor bodies units = LeadTo empty bodies units
 
--- the image has a right header, and the records of the area in use stand for this map
+-- the image has a valid header, and the records of the area in use represent this map
 pub record Recovers (image : List ℕ) (units : Units) : Type 0 where
   pub area : ℕ
   pub bodies : List (List ℕ)
@@ -37,7 +37,7 @@ pub record RecoversAlone (image : List ℕ) (units : Units) : Type 0 where
   pub recovers : Recovers image units
   pub alone : (others : Units) → Recovers image others → others ≡ units
 
--- it recovers to the one or to the other alone
+-- it recovers to the one or to the other, and to no other
 abbrev pub RecoversOneOf : Units → Units → List ℕ → Type 0
 RecoversOneOf old new image = RecoversAlone image old ⊎ RecoversAlone image new
 
@@ -55,7 +55,7 @@ view_code {D} disk units =
     code_by (D × (ℕ × (List (List ℕ) × (Units × Bool)))) (coded× disk (coded× coded_ℕ (coded× (coded_list (coded_list coded_ℕ)) (coded× units coded_bool))))
     (λ v. (v.disk, (v.area, (v.bodies, (v.units, v.closed))))) (λ p. record { disk = p.0; area = p.1.0; bodies = p.1.1.0; units = p.1.1.1.0; closed = p.1.1.1.1 }) (λ _. refl)
 
--- what the type of a library keeps: the records stand for the map
+-- what the type of a library keeps: the records represent the map
 pub record IsKept (bodies : List (List ℕ)) (units : Units) (known_closed closed : Bool) : Type 0 where
   pub stand : StandFor bodies units
   pub same : known_closed ≡ closed

@@ -17,8 +17,7 @@ abbrev pub answer_number : {T : Type 0} → Result T LibraryFault → ℕ
 answer_number (Ok done) = 0
 answer_number (Err fault) = fault_number fault
 
--- the changes that a run did: each with number 0, of those with 35 the ones that the reopening showed, and no others; Compact
--- changes nothing
+-- the changes that a run made: each with number 0, those with 35 that the reopening showed, and no others; Compact changes nothing
 abbrev pub AreDone : List Edit → List ℕ → List LibraryCommand → Type 0
 AreDone [] [] done = done ≡ []
 AreDone [] (number ∷ numbers) done = ⊥
@@ -33,8 +32,8 @@ abbrev pub after_edit : Units → Edit → Units
 after_edit units (Change command) = after units command
 after_edit units Compact = units
 
--- The image recovers, alone, to the map after the changes done by the first of the edits, those that the first of the numbers
--- belong to: by as many as are told here.
+-- The image recovers to one map alone: the map after the changes made by the first edits. The first numbers say which of them were made,
+-- for as many edits as there are such numbers.
 pub record RecoversAmong (units : Units) (edits : List Edit) (numbers : List ℕ) (image : List ℕ) : Type 0 where
   pub prefix : List Edit
   pub behind : List Edit
@@ -61,8 +60,8 @@ module _ {D : Type 0} where
   records_after old (Change command) = old.bodies ++ body_of command ∷ []
   records_after old Compact = compacted old.units
 
-  -- the library that an edit left is as before, or, where the device failed, it was opened again: of an honest disk it
-  -- has the records and the map from before the edit or from after it
+  -- the library that an edit left is unchanged, or, if the device failed, it was opened again: on an honest disk it has the records and the
+  -- map from before the edit or from after it
   abbrev pub GoesOn : {T : Type 0} → Bool → (D → ℕ) → View D → Edit → Result T LibraryFault → (left new : View D) → Type 0
   GoesOn honest failures old edit (Ok done) left new = new ≡ left
   GoesOn honest failures old edit (Err DiskFault) left new =
@@ -94,8 +93,8 @@ module _ {D : Type 0} where
   AreEdited honest failures old (edit ∷ edits) (number ∷ numbers) new =
       (mid : View D) × IsEdited honest failures old edit number mid × AreEdited honest failures mid edits numbers new
 
-  -- an edit in which the device failed, and whose disk could not be opened again: of an honest disk because the device
-  -- failed once more or memory ran out, and then the disk still has the map from before the edit or from after it
+  -- an edit in which the device failed, and whose disk could not be opened again: on an honest disk because the device failed again or
+  -- memory ran out, and then the disk still has the map from before the edit or from after it
   pub record IsRefused (honest : Bool) (failures : D → ℕ) (seen : D → List ℕ) (may_leave : D → List ℕ → Type 0) (old : View D) (edit : Edit) (fault : LibraryFault) (disk : D) : Type 0 where
     pub left : View D
     pub answers : EditAnswers {T = Unit {0}} old edit (failures old.disk) (failures left.disk) (Err DiskFault)
@@ -104,7 +103,7 @@ module _ {D : Type 0} where
     pub cause : IsTrue honest → (fault ≡ DiskFault) ⊎ (fault ≡ OutOfMemory)
     pub images : IsTrue honest → (image : List ℕ) → may_leave disk image → RecoversOneOf old.units (after_edit old.units edit) image
 
-  -- a run that stopped: the edits up to one whose disk could not be opened again, with their numbers, the last of them 35
+  -- a run that stopped: the edits up to one whose disk could not be opened again, with their numbers, the last of which is 35
   pub record Stopped (honest : Bool) (failures : D → ℕ) (seen : D → List ℕ) (may_leave : D → List ℕ → Type 0) (old : View D) (edits : List Edit) (numbers : List ℕ) (fault : LibraryFault) (disk : D) : Type 0 where
     pub prefix : List Edit
     pub edit : Edit
@@ -116,6 +115,6 @@ module _ {D : Type 0} where
     pub edited : AreEdited honest failures old prefix earlier mid
     pub refused : IsRefused honest failures seen may_leave mid edit fault disk
 
-  -- there was no room for the numbers, and nothing was done
+  -- there was no memory for the numbers, and nothing was done
   abbrev pub HadNoRoom : View D → List ℕ → LibraryFault → D → Type 0
   HadNoRoom old numbers fault disk = (numbers ≡ []) × (fault ≡ OutOfMemory) × (disk ≡ old.disk)

@@ -13,10 +13,10 @@ use cc_journal::{Body, CLOSED};
 use cc_unit::{Certificate, StoredUnit};
 use std::alloc::{AllocError, Global};
 
-/// The body of the record of a command of this kind: the version, 1 for a unit without a certificate and else 2; the
-/// kind's byte; the name's length as one byte, and the name; for Add and Replace the source's length, the source, the
-/// number of code words, these, the number of global words, and these; and of a unit with a certificate its length, and
-/// the certificate. Each number and word is four bytes, the lowest first. A certificate has at most 4,294,967,295 bytes.
+/// The body of the record of a command of this kind: the version, 1 for a unit without a certificate and else 2; the kind's byte; the
+/// name's length as one byte, and the name; for Add and Replace the source's length, the source, the number of code words, the code words,
+/// the number of global words, and the global words; and for a unit with a certificate its length, and the certificate. Each number and
+/// word is four bytes, the lowest first. A certificate has at most 4,294,967,295 bytes. Err: memory ran out.
 pub fn command_body(
     alloc: Global,
     kind: Kind,
@@ -26,7 +26,7 @@ pub fn command_body(
     requires unit { HasUnit kind (option_map (λ u. u.now) unit) }
     requires short { HasShort (option_map (λ u. u.now) unit) }
     ensures spelled { IfOk result (λ body. body.items ≡ body_bytes kind name.now (option_map (λ u. u.now) unit.entry)) }
-    // What is spelled keeps the limits of names and units.
+    // A unit and a name for which there is a body keep their limits.
     ensures name { OnOk result (IsTrue (is_name name.now)) }
     ensures unit { OnOk result (HoldsUnit (option_map (λ u. u.now) unit.entry)) }
 {
@@ -35,10 +35,10 @@ pub fn command_body(
     Ok(body)
 }
 
-/// How many bytes the body of the record of a command takes. It takes no memory.
+/// The number of bytes that the body of a command's record takes. It takes no memory.
 pub fn body_length(command: &LibraryCommand) -> usize
     ensures length { result ≡ length (body_of command.now) }
-    // Only a certificate can be longer than a body can tell.
+    // Only a certificate can be too long for a body.
     ensures command { result < 2 ^ 32 → IsCommand command.now }
 {
     match command {
@@ -49,7 +49,7 @@ pub fn body_length(command: &LibraryCommand) -> usize
     }
 }
 
-/// The body of the record of a command, where its length has room in four bytes.
+/// The body of a command's record, which must be short enough for a length of four bytes. Err: memory ran out.
 pub fn body_of_command(alloc: Global, command: &LibraryCommand) -> Result<Vec<u8>, AllocError>
     requires { length (body_of command.now) < 2 ^ 32 }
     ensures written { IfOk result (λ body. body.items ≡ body_of command.now) }
@@ -58,7 +58,7 @@ pub fn body_of_command(alloc: Global, command: &LibraryCommand) -> Result<Vec<u8
     Ok(framed_body_of_command(alloc, command)?.into_vec())
 }
 
-// The same as `body_of_command`, with what stands around the body in its record: it is written and kept without a copy.
+// The same as `body_of_command`, together with the bytes around the body in its record, so that it is written and kept without a copy.
 pub(crate) fn framed_body_of_command(
     alloc: Global,
     command: &LibraryCommand,
@@ -79,7 +79,7 @@ pub(crate) fn framed_body_of_command(
     }
 }
 
-// The same as `command_body`, with what stands around the body in its record.
+// The same as `command_body`, together with the bytes around the body in its record.
 pub(crate) fn framed_body(
     alloc: Global,
     kind: Kind,
@@ -93,7 +93,7 @@ pub(crate) fn framed_body(
     ensures unit { OnOk result (HoldsUnit (option_map (λ u. u.now) unit.entry)) }
 {
     let length = length_with(name.bytes(), unit);
-    // All the room is taken at once: for the body, its length in front of it, and the gate behind it.
+    // All memory is taken at once: for the body, for its length in front of it, and for the gate after it.
     let mut bytes = Vec::with_capacity(alloc, length + 5)?;
     bytes.extend_from_slice(&(length as u32).to_le_bytes())?;
     put_command(&mut bytes, kind, name, unit)?;
@@ -123,7 +123,7 @@ fn put_command(
     Ok(())
 }
 
-// The version in which a command with this unit, or without one, is written.
+// The version in which a command with this unit, or with none, is written.
 fn version_with(unit: Option<&StoredUnit>) -> u8
     ensures { result ≡ part_version (option_map (λ u. u.now) unit.entry) }
 {
@@ -136,7 +136,7 @@ fn version_with(unit: Option<&StoredUnit>) -> u8
     }
 }
 
-// How many bytes the body of a command with this name takes.
+// The number of bytes that the body of a command with this name and unit takes.
 pub(crate) fn length_with(name: &[u8], unit: Option<&StoredUnit>) -> usize
     requires { length name.now < 256 }
     ensures length { result ≡ 3 + length name.now + length (unit_part (option_map (λ u. u.now) unit.entry)) }
@@ -149,7 +149,7 @@ pub(crate) fn length_with(name: &[u8], unit: Option<&StoredUnit>) -> usize
     }
 }
 
-// How many bytes the fields of a unit take.
+// The number of bytes that the fields of a unit take.
 #[tactic(auto, using(crate::proofs::Sizes::unit_parts))]
 fn unit_length(unit: &StoredUnit) -> usize
     ensures length { result ≡ length (unit_fields unit.now) }
@@ -166,7 +166,7 @@ fn unit_length(unit: &StoredUnit) -> usize
     of_source + of_code + of_globals + of_certificate
 }
 
-// How many bytes a certificate takes, where there is one.
+// The number of bytes that a certificate takes, if there is one.
 fn certificate_length(certificate: &Option<Certificate>) -> usize
     ensures length { result ≡ length (certificate_part certificate.now) }
     ensures small { result < 2 ^ 63 + 4 }
@@ -178,7 +178,7 @@ fn certificate_length(certificate: &Option<Certificate>) -> usize
     }
 }
 
-// How many bytes a list of bytes takes with its length.
+// The number of bytes that a list of bytes takes with its length.
 fn field_length(bytes: &[u8]) -> usize
     ensures length { result ≡ 4 + length bytes.now }
     ensures small { result < 2 ^ 63 + 4 }
@@ -187,7 +187,7 @@ fn field_length(bytes: &[u8]) -> usize
     4 + bytes.len()
 }
 
-// How many bytes a list of words takes with their count.
+// The number of bytes that a list of words takes with their count.
 fn words_length(words: &[u32]) -> usize
     requires { length words.now ≤ 131072 }
     ensures length { result ≡ 4 + 4 * length words.now }
@@ -212,7 +212,7 @@ fn put_unit(body: &mut Vec<u8>, unit: &StoredUnit) -> Result<(), AllocError>
     put_certificate(body, &unit.certificate)
 }
 
-// Adds how many bytes a certificate has, and the certificate, where there is one.
+// Adds the length of a certificate, and the certificate, if there is one.
 fn put_certificate(body: &mut Vec<u8>, certificate: &Option<Certificate>) -> Result<(), AllocError>
     requires { IsShort certificate.now }
     ensures put { OnOk result (body.new.items ≡ body.old.items ++ certificate_part certificate.now) }
@@ -226,14 +226,14 @@ fn put_certificate(body: &mut Vec<u8>, certificate: &Option<Certificate>) -> Res
     Ok(())
 }
 
-// Adds how many words there are, and the words.
+// Adds the number of words, and the words.
 fn put_words(body: &mut Vec<u8>, words: &[u32]) -> Result<(), AllocError>
     requires { length words.now < 2 ^ 32 }
     ensures { OnOk result (body.new.items ≡ body.old.items ++ words_field words.now) }
 {
     body.extend_from_slice(&(words.len() as u32).to_le_bytes())?;
     let start = body.len();
-    // The words are written into their room: a call of the vector for each would take longer than its bytes.
+    // The words are written in place: a call of the vector for each word would take longer than writing its bytes.
     body.resize(start + 4 * words.len(), 0)?;
     fill_words(&mut body[start..], words);
     Ok(())

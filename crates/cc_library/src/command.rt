@@ -28,8 +28,7 @@ impl Kind {
     }
 }
 
-/// What changes a library: Add sets the unit of an absent name, Replace that of a present one, Withdraw removes a
-/// present one.
+/// A change of a library: Add sets the unit of an absent name, Replace that of a present one, Withdraw removes a present name.
 #[derive(Drop)]
 pub enum LibraryCommand {
     Add(Name, SharedUnit),
@@ -37,7 +36,7 @@ pub enum LibraryCommand {
     Withdraw(Name),
 }
 
-/// What `Library::run` does, one after the other: a change of the map, or `Library::compact`.
+/// A step of `Library::run`: a change of the map, or `Library::compact`.
 #[derive(Drop)]
 pub enum Edit {
     Change(LibraryCommand),
@@ -45,7 +44,7 @@ pub enum Edit {
 }
 
 impl LibraryCommand {
-    /// The command once more. A unit is shared.
+    /// A copy of the command; the unit is shared. Err: memory ran out, or the unit has the most owners already.
     pub fn again(&self) -> Result<LibraryCommand, AllocError>
         ensures { IfOk result (λ command. command ≡ self.now) }
     {

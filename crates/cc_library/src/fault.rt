@@ -1,4 +1,4 @@
-// Why bytes are no name, and why a library refuses.
+// Why bytes are not a name, and why a library refuses.
 
 ghost use Rattle.std.specs.Prelude.{◌≡◌};
 
@@ -6,7 +6,7 @@ use cc_journal::JournalFault;
 use std::alloc::{AllocError, AllocFailed};
 use thiserror::Error;
 
-/// Why bytes are no name.
+/// Why bytes are not a name.
 #[derive(Clone, Copy, Debug, Error)]
 pub enum NameFault {
     /// 33: the bytes break the rule of names.
@@ -36,7 +36,7 @@ pub enum LibraryFault {
     /// 32: the name to be replaced or withdrawn has no unit.
     #[error("Absent")]
     Absent,
-    /// 34: the record does not fit its area.
+    /// 34: the record does not fit the area.
     #[error("Full")]
     Full,
     /// 35: the device failed in the call.
@@ -45,10 +45,10 @@ pub enum LibraryFault {
     /// 36: an earlier call failed on the device, so the disk has to be opened again.
     #[error("Closed")]
     Closed,
-    /// 37: a record does not fit its area, or the records are no list of accepted commands.
+    /// 37: a record does not fit its area, or the records are not a list of accepted commands.
     #[error("Damaged")]
     Damaged,
-    /// 38: there is no right header.
+    /// 38: there is no valid header.
     #[error("NotALibrary")]
     NotALibrary,
     /// 40: memory ran out.

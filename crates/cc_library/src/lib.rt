@@ -1,8 +1,9 @@
 //! The library: a map from names to stored units that survives any crash, over any disk.
 //!
 //! `name` is a name, `unit` and `units` are what is kept, `command` what changes it, `body` and `reading` a command as
-//! the body of a record, `replaying` what records stand for, `library` the library and its calls.
-//! It hands out `Library`, `Name`, `UnitMap`, `LibraryCommand`, `Edit`, `Kind`, `SharedUnit`, `command_body`,
+//! the body of a record, `replaying` what records stand for, `library` the library and its calls, `space` how much of
+//! its area it takes.
+//! It hands out `Library`, `Name`, `UnitMap`, `LibraryCommand`, `Edit`, `Kind`, `SharedUnit`, `SpaceUse`, `command_body`,
 //! `body_length`, `body_of_command`, `read_command`, `replay` and the faults.
 #![tactic(auto)]
 
@@ -13,6 +14,7 @@ mod library;
 mod name;
 mod reading;
 mod replaying;
+mod space;
 mod unit;
 mod units;
 
@@ -23,5 +25,6 @@ pub use library::Library;
 pub use name::{NAME_BYTES, Name};
 pub use reading::{ReadFault, read_command};
 pub use replaying::replay;
+pub use space::SpaceUse;
 pub use unit::SharedUnit;
 pub use units::UnitMap;

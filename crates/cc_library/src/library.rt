@@ -5,13 +5,14 @@ ghost use Rattle.std.specs.Option.{option_map};
 ghost use Rattle.std.specs.Arc.{arc_value};
 ghost use Rattle.std.specs.FinMap as map;
 ghost use Rattle.cc_disk.specs.Images.{LeavesAlone, LeavesOnly, OnlyReads};
-ghost use Rattle.cc_journal.specs.Format.{HoldsRecords};
+ghost use Rattle.cc_journal.specs.Format.{AllHold, HoldsRecords};
 ghost use Rattle.cc_library.specs.declared.command.LibraryCommand.{LibraryCommand};
 ghost use Rattle.cc_library.specs.declared.command.LibraryCommand.TheVariants as command;
 ghost use Rattle.cc_library.specs.Apply.{after, after_all, library_of};
 ghost use Rattle.cc_library.specs.Body.{body_of};
 ghost use Rattle.cc_library.specs.Recovered.{Recovers, RecoversAlone, StandFor, View};
 ghost use Rattle.cc_library.specs.Compact.{compacted, room_compacted};
+ghost use Rattle.cc_library.specs.Space.{IsSpace};
 ghost use Rattle.cc_library.specs.Answers.{OpenFaults, CompactLeaves, IsChanged, IsChangedAs, IsCompacted, IsCompactedAs, IsMended, room_with};
 ghost use Rattle.cc_library.specs.Runs.{AreDone, AreEdited, EditAnswers, EditLeaves, HadNoRoom, IsEdited, IsRefused, RecoversAmong, Stopped, after_edit, records_after};
 ghost use Rattle.cc_library.specs.internal.Steps.{IsOldOrNew, IsMidEdit};
@@ -21,6 +22,7 @@ use crate::command::{Edit, LibraryCommand};
 use crate::fault::LibraryFault;
 use crate::name::Name;
 use crate::replaying::replay;
+use crate::space::SpaceUse;
 use crate::unit::SharedUnit;
 use crate::units::UnitMap;
 use cc_disk::Disk;
@@ -30,10 +32,10 @@ use std::alloc::{AllocError, Global};
 use std::marker::Model;
 use std::sync::Arc;
 
-/// A map from names to stored units on a disk. A change is kept through a power cut once its call has answered Ok.
+/// A map from names to stored units on a disk. A change survives a power cut once its call has answered Ok.
 ///
-/// A clause sees the disk, the size of an area in bytes, the bodies of the records (the oldest first), the map that they
-/// stand for, and whether the library is closed.
+/// Contracts see the disk, the size of an area in bytes, the bodies of the records (the oldest first), the map that they represent, and
+/// whether the library is closed.
 pub struct Library<D: Disk> {
     log: Log<D>,
     units: UnitMap,
@@ -41,7 +43,7 @@ pub struct Library<D: Disk> {
     closed: bool,
 }
 
-// By hand, so that crates above call it and do not prove anew how each part is dropped.
+// Written by hand, so that crates above call it and need not prove again how each part is dropped.
 impl<D: Disk + Drop> Drop for Library<D> {
     fn drop(self) {
         let Library { log, units, closed } = self;
@@ -64,13 +66,12 @@ impl<D: Disk> Model for Library<D> {
 }
 
 impl<D: Disk> Library<D> {
-    /// Opens the library on a disk: syncs it, reads its records, and does their commands one after the other.
+    /// Opens the library on a disk: syncs it, reads its records, and carries out their commands one after the other.
     ///
-    /// Refusals, in this order, with the disk handed back: 35 where the device failed in the call, 38 where there is no
-    /// right header, 37 where an open record does not fit its area or the records are no list of accepted commands.
-    /// 40 where memory ran out.
+    /// Refusals, in this order, with the disk handed back: 35 if the device failed in the call, 38 if there is no valid header, 37 if an
+    /// open record does not fit its area or the records are not a list of accepted commands. 40 if memory ran out.
     pub fn open(alloc: Global, disk: D) -> Result<Library<D>, (LibraryFault, D)>
-        // What was recovered, of an honest disk, to which every image then recovers.
+        // On an honest disk: the map that was recovered, and to which every image then recovers.
         ensures recovered { IfOk result (λ l. IsTrue D.honest → Recovers (D.seen disk) l.units) }
         ensures kept { IfOk result (λ l. IsTrue D.honest → (image : List ℕ) → D.may_leave l.disk image → RecoversAlone image l.units) }
         ensures records { IfOk result (λ l. IsTrue D.honest → HoldsRecords (D.seen disk) l.area l.bodies) }
@@ -108,18 +109,18 @@ impl<D: Disk> Library<D> {
         }
     }
 
-    /// Makes a change: `add`, `replace` or `withdraw`, with its refusals and what each leaves.
+    /// Makes a change, as `add`, `replace` and `withdraw` do, with the same refusals; each leaves what it leaves there.
     pub fn change(&mut self, alloc: Global, command: LibraryCommand) -> Result<(), LibraryFault>
         ensures changed { IsChanged D.Disk command self.old self.new result }
     {
         self.append_change(alloc, command)
     }
 
-    /// Sets the unit of an absent name. At Ok it is kept: every crash from then on leaves it.
+    /// Sets the unit of an absent name. After Ok it is kept: every crash leaves it.
     ///
-    /// Refusals, in this order: 36 where the library is closed, 31 where the name has a unit, 34 where the record does
-    /// not fit, 35 where the device failed. 40 where memory ran out, before the first device call. Each leaves the map as
-    /// it was; after 35 the library is closed, and its disk has the map with or without the unit.
+    /// Refusals, in this order: 36 if the library is closed, 31 if the name has a unit, 34 if the record does not fit, 35 if the device
+    /// failed. 40 if memory ran out, before the first device call. Each leaves the map as it was; after 35 the library is closed, and its
+    /// disk has the map with or without the unit.
     pub fn add(
         &mut self,
         alloc: Global,
@@ -131,11 +132,11 @@ impl<D: Disk> Library<D> {
         self.change(alloc, LibraryCommand::Add(name, SharedUnit::new(unit)))
     }
 
-    /// Sets the unit of a present name. At Ok it is kept: every crash from then on leaves it.
+    /// Sets the unit of a present name. After Ok it is kept: every crash leaves it.
     ///
-    /// Refusals, in this order: 36 where the library is closed, 32 where the name has no unit, 34 where the record does
-    /// not fit, 35 where the device failed. 40 where memory ran out, before the first device call. Each leaves the map as
-    /// it was; after 35 the library is closed, and its disk has the map with the old unit or with the new one.
+    /// Refusals, in this order: 36 if the library is closed, 32 if the name has no unit, 34 if the record does not fit, 35 if the device
+    /// failed. 40 if memory ran out, before the first device call. Each leaves the map as it was; after 35 the library is closed, and its
+    /// disk has the map with the old unit or with the new one.
     pub fn replace(
         &mut self,
         alloc: Global,
@@ -147,37 +148,37 @@ impl<D: Disk> Library<D> {
         self.change(alloc, LibraryCommand::Replace(name, SharedUnit::new(unit)))
     }
 
-    /// Takes a present name out. At Ok it is out for good: every crash from then on leaves the map without it.
+    /// Removes a present name. After Ok it is gone for good: every crash leaves the map without it.
     ///
-    /// Refusals, in this order: 36 where the library is closed, 32 where the name has no unit, 34 where the record does
-    /// not fit, 35 where the device failed. 40 where memory ran out, before the first device call. Each leaves the map as
-    /// it was; after 35 the library is closed, and its disk has the map with or without the name.
+    /// Refusals, in this order: 36 if the library is closed, 32 if the name has no unit, 34 if the record does not fit, 35 if the device
+    /// failed. 40 if memory ran out, before the first device call. Each leaves the map as it was; after 35 the library is closed, and its
+    /// disk has the map with or without the name.
     pub fn withdraw(&mut self, alloc: Global, name: Name) -> Result<(), LibraryFault>
         ensures changed { IsChanged D.Disk (command.Withdraw name) self.old self.new result }
     {
         self.change(alloc, LibraryCommand::Withdraw(name))
     }
 
-    /// Writes the records anew, one Add per name in the order of the names' bytes, into the area that is not in use. So
-    /// the room of records that no longer count is free again. The map stays, at every moment.
+    /// Writes the records again, one Add per name in the order of the names' bytes, to the area that is not in use. This frees the room of
+    /// records that no longer count. The map stays the same, at every moment.
     ///
-    /// Refusals, in this order: 36 where the library is closed, 34 where the new records do not fit, 35 where the device
-    /// failed. 40 where memory ran out, before the first device call. After 35 the library is closed, and its disk has
-    /// the old records or the new ones; every other refusal leaves all as it was.
+    /// Refusals, in this order: 36 if the library is closed, 34 if the new records do not fit, 35 if the device failed. 40 if memory ran
+    /// out, before the first device call. After 35 the library is closed, and its disk has the old records or the new ones; every other
+    /// refusal leaves everything as it was.
     pub fn compact(&mut self, alloc: Global) -> Result<(), LibraryFault>
         ensures compacted { IsCompacted D.Disk self.old self.new result }
     {
         self.write_anew(alloc)
     }
 
-    /// Whether the record of this command would have room behind compacted records: after a `compact` a change that the map
-    /// accepts is refused by 34 exactly where this is false. It takes no memory and makes no device call; it looks at each unit.
+    /// Whether the record of this command would have room after compacted records. After a `compact`, a change that the map accepts is
+    /// refused by 34 exactly if this is false. It takes no memory and makes no device call; it looks at each unit.
     pub fn has_room_compacted(&self, command: &LibraryCommand) -> bool
         ensures room { IsTrue result ↔ (room_compacted self.now.units command.now ≤ self.now.area) }
-        // So it says of the library that a `compact` leaves whether the record fits there.
+        // So it says whether the record fits the library that a `compact` leaves.
         ensures compacted { (new : View D) → CompactLeaves {T = Unit {0}} self.now new (Ok tt) → IsTrue result ↔ (room_with new command.now ≤ new.area) }
     {
-        // A record takes five bytes beside its body.
+        // A record takes five bytes in addition to its body.
         let room = self.log.area() - 5;
         let body = body_length(command);
         if room <= body {
@@ -186,8 +187,8 @@ impl<D: Disk> Library<D> {
         self.units.fits(room - body)
     }
 
-    /// Whether 34 would refuse this change now, and would not behind a `compact`. It takes no memory and makes no device call;
-    /// it looks at each unit only where 34 would come.
+    /// Whether 34 would refuse this change now, but not after a `compact`. It takes no memory and makes no device call; it looks at each
+    /// unit only if 34 would come.
     pub fn is_mended_by_compact(&self, command: &LibraryCommand) -> bool
         ensures { IsTrue result ↔ IsMended self.now command.now }
     {
@@ -204,11 +205,30 @@ impl<D: Disk> Library<D> {
         }
     }
 
-    /// Whether a call has failed on the device: then every change and `compact` answer 36. It takes no memory.
+    /// Whether a call has failed on the device: every change and `compact` then answer 36. It takes no memory.
     pub fn is_closed(&self) -> bool
         ensures { result ≡ self.now.closed }
     {
         self.closed
+    }
+
+    /// How much of its area the library takes. It takes no memory and makes no device call; it looks at each unit.
+    pub fn space(&self) -> SpaceUse
+        ensures space { IsSpace self.now.area self.now.bodies self.now.units result }
+        // While the library is not closed, every crash leaves these records alone.
+        ensures kept { IsTrue D.honest → self.now.closed ≡ false → AllHold (D.may_leave self.now.disk) self.now.area self.now.bodies }
+    {
+        // What the log promises of its images.
+        let _kept = self.log.is_closed();
+        let size = self.log.area();
+        let taken = self.log.used();
+        let measured = self.units.measure();
+        SpaceUse {
+            area: size,
+            used: taken,
+            compacted: measured.0,
+            units: measured.1,
+        }
     }
 
     /// The map. It takes no memory.
@@ -218,21 +238,21 @@ impl<D: Disk> Library<D> {
         &self.units
     }
 
-    /// The unit of a name, where it has one. It takes no memory.
+    /// The unit of a name, if it has one. It takes no memory.
     pub fn get(&self, name: &Name) -> Option<&Arc<StoredUnit>>
         ensures { option_map (λ unit. arc_value unit.now) result ≡ map.get self.now.units name.now }
     {
         self.units.get(name)
     }
 
-    /// The names, in the order of their bytes.
+    /// The names, in the order of their bytes. Err: memory ran out.
     pub fn list(&self, alloc: Global) -> Result<Vec<Name>, AllocError>
         ensures { IfOk result (λ names. names.items ≡ map.keys self.now.units) }
     {
         self.units.names(alloc)
     }
 
-    /// The disk, as the calls so far left it. It takes no memory.
+    /// The disk, as the calls so far have left it. It takes no memory.
     pub fn into_disk(self) -> D
         ensures { result ≡ self.disk }
     {
@@ -244,11 +264,11 @@ impl<D: Disk> Library<D> {
         log.into_disk()
     }
 
-    /// Does each edit in turn, opens the disk again after each 35, and stops where that opening is refused. It gives the
-    /// numbers of the edits done, in order, 0 for Ok, and the library as it is then, or why it stopped and the disk.
+    /// Carries out each edit in turn, opens the disk again after each 35, and stops if that opening is refused. It answers the numbers of
+    /// the edits that were carried out, in order (0 for Ok), and the library as it is then, or why it stopped and the disk.
     ///
-    /// 40 and no number where there is no room for all the numbers, which is taken first: then nothing was done. After that
-    /// only the refusals of `open`; of an honest disk these are 35 and 40.
+    /// 40 and no number if there is no memory for all the numbers, which is taken first: nothing was done then. After that only the
+    /// refusals of `open` are possible; on an honest disk these are 35 and 40.
     pub fn run(
         self,
         alloc: Global,
@@ -257,28 +277,28 @@ impl<D: Disk> Library<D> {
         // Each number is the reply at that point.
         ensures numbers { IfOk result.0 (λ l. AreEdited D.honest D.failures self edits.items result.1.items l) }
 
-        // The map is the one before, folded over the changes with 0 and those with 35 that the reopening showed.
+        // The map is the earlier one after the changes with number 0, and those with 35 that the reopening showed.
         ensures folded { IfOk result.0 (λ l. IsTrue D.honest
             → (done : List LibraryCommand) × AreDone edits.items result.1.items done × (l.units ≡ after_all self.units done)) }
 
-        // On a new journal it is the fold of these from the empty map.
+        // On a new journal it is the map of these changes from the empty one.
         ensures from_new { IfOk result.0 (λ l. IsTrue D.honest → self.units ≡ map.empty
             → (done : List LibraryCommand) × AreDone edits.items result.1.items done × (l.units ≡ library_of done)) }
 
         // While it is not closed, every image recovers to its map.
         ensures kept { IfOk result.0 (λ l. IsTrue D.honest → l.closed ≡ false → (image : List ℕ) → D.may_leave l.disk image → RecoversAlone image l.units) }
 
-        // A crash at any moment of the run leaves the map after the changes done by the edits up to some one.
+        // A crash at any moment of the run leaves the map after the changes of the edits up to some edit.
         ensures moments { IsTrue D.honest → self.closed ≡ false → MatchResult result.0
             (λ l. LeavesOnly D.moment D.left_since self.disk l.disk (RecoversAmong self.units edits.items result.1.items))
             (λ e. LeavesOnly D.moment D.left_since self.disk e.1 (RecoversAmong self.units edits.items result.1.items)) }
 
-        // Where it stopped.
+        // Why it stopped, and after which edit.
         ensures refused { IfErr result.0 (λ e. HadNoRoom self result.1.items e.0 e.1
             ⊎ Stopped D.honest D.failures D.seen D.may_leave self edits.items result.1.items e.0 e.1) }
         ensures size { MatchResult result.0 (λ l. D.size l.disk ≡ D.size self.disk) (λ e. D.size e.1 ≡ D.size self.disk) }
     {
-        // What the log promises of its images, before the first edit.
+        // What the log promises about its images, before the first edit.
         let _kept = self.log.is_closed();
         let Ok(mut numbers) = Vec::with_capacity(alloc, edits.len()) else {
             return (
@@ -295,12 +315,12 @@ impl<D: Disk> Library<D> {
                 Err(refused) => return (Err(refused), numbers),
             }
         }
-        // What the log promises of its images.
+        // What the log promises about its images.
         let _kept = library.log.is_closed();
         (Ok(library), numbers)
     }
 
-    // One edit of a run: its number, and the library after it, opened again where the device failed.
+    // Carries out one edit of a run: its number, and the library after it, opened again if the device failed.
     fn edited(mut self, alloc: Global, edit: Edit) -> (u32, Result<Library<D>, (LibraryFault, D)>)
         ensures edited { IfOk result.1 (λ l. IsEdited D.honest D.failures self edit result.0 l) }
         ensures refused { IfErr result.1 (λ e. (result.0 ≡ 35) × IsRefused D.honest D.failures D.seen D.may_leave self edit e.0 e.1) }
@@ -309,7 +329,7 @@ impl<D: Disk> Library<D> {
             (λ l. LeavesOnly D.moment D.left_since self.disk l.disk (IsMidEdit self.units edit result.0))
             (λ e. LeavesOnly D.moment D.left_since self.disk e.1 (IsMidEdit self.units edit result.0)) }
     {
-        // What the log promises of its images, for the edits that end before a device call.
+        // What the log promises about its images, for the edits that end before a device call.
         let _kept = self.log.is_closed();
         match self.perform(alloc, edit) {
             Ok(()) => (0, Ok(self)),
@@ -323,7 +343,7 @@ impl<D: Disk> Library<D> {
         }
     }
 
-    // One edit.
+    // Carries out one edit.
     fn perform(&mut self, alloc: Global, edit: Edit) -> Result<(), LibraryFault>
         ensures answers { EditAnswers self.old edit (D.failures self.old.disk) (D.failures self.new.disk) result }
         ensures leaves { EditLeaves edit self.old self.new result }
@@ -338,17 +358,17 @@ impl<D: Disk> Library<D> {
         }
     }
 
-    // The records once more, one Add per name: all growths are made, then the log decides.
+    // Writes the records again, one Add per name: first all memory is taken, then the log decides.
     fn write_anew(&mut self, alloc: Global) -> Result<(), LibraryFault>
         ensures compacted { IsCompactedAs D.Disk self.old self.new result
             (IsOldOrNew self.old.area self.old.bodies self.old.units (compacted self.old.units) self.old.units) }
     {
-        // What the log promises of its images, for the calls that end before a device call.
+        // What the log promises about its images, for the calls that end before a device call.
         let _kept = self.log.is_closed();
         if self.closed {
             return Err(LibraryFault::Closed);
         }
-        // No body is made before all of them have room: a length stands in four bytes of its record.
+        // No body is made unless all of them fit: a body's length takes four bytes of its record.
         if !self.units.fits(self.log.area()) {
             return Err(LibraryFault::Full);
         }
@@ -365,12 +385,12 @@ impl<D: Disk> Library<D> {
         }
     }
 
-    // One change: the map is asked, all growths are made, then the log decides.
+    // Makes one change: the map is asked, all memory is taken, then the log decides.
     fn append_change(&mut self, alloc: Global, command: LibraryCommand) -> Result<(), LibraryFault>
         ensures changed { IsChangedAs D.Disk command self.old self.new result
             (IsOldOrNew self.old.area self.old.bodies self.old.units (self.old.bodies ++ body_of command ∷ []) (after self.old.units command)) }
     {
-        // What the log promises of its images, for the calls that end before a device call.
+        // What the log promises about its images, for the calls that end before a device call.
         let _kept = self.log.is_closed();
         if self.closed {
             drop(command);
@@ -387,7 +407,7 @@ impl<D: Disk> Library<D> {
                 return Err(LibraryFault::Absent);
             }
         }
-        // No body is made before it has room: its length stands in four bytes of its record.
+        // The body is made only if it fits: its length takes four bytes of its record.
         if let Err(fault) = self.log.takes(body_length(&command)) {
             drop(command);
             return Err(LibraryFault::from(fault));

@@ -1,6 +1,6 @@
-// The names of units, and the order of their bytes, by which the map keeps them.
+// The names of units, and the order of their bytes, in which the map keeps them.
 
-ghost use Rattle.std.specs.Prelude.{◌≡◌, ◌↔◌, IsOk, IfOk, IsTrue, length, get_or, ◌≤◌};
+ghost use Rattle.std.specs.Prelude.{◌≡◌, ◌↔◌, IsOk, IfOk, IsTrue, get_or, ◌≤◌};
 ghost use Rattle.std.specs.Ordering.{nat_cmp, as_partial_cmp, eq_by_cmp};
 ghost use Rattle.std.specs.Cmp.Lexicographic.{slice_cmp};
 ghost use Rattle.std.specs.Cmp.{partial_order_from_own_ties};
@@ -14,20 +14,20 @@ use crate::fault::NameFault;
 use std::cmp::Ordering;
 use std::marker::Model;
 
-/// The most bytes of a name.
+/// A name has at most this many bytes.
 pub const NAME_BYTES: usize = 32;
 
-/// The name of a unit: 1 to 32 bytes, a small letter, then small letters, digits and `_`.
-/// Contracts see its bytes. They lie in the value, so a name takes no memory.
+/// The name of a unit: 1 to 32 bytes, a small letter, then small letters, digits and `_`. Contracts see its bytes. They are part of the
+/// value, so a name takes no memory.
 #[derive(Clone)]
 pub struct Name {
     bytes: [u8; 32],
     len: usize,
-    // Its first eight bytes as one number, the first the highest, and zeros where it is shorter: most names differ there.
+    // Its first eight bytes as one number, the first byte highest, with zeros if it is shorter: most names differ in it.
     prefix: u64,
 }
 
-// By hand, so that crates above call it and do not prove anew how each part is dropped.
+// Written by hand, so that crates above call it and need not prove again how each part is dropped.
 impl Drop for Name {
     fn drop(self) {
         let Name { bytes, len, prefix } = self;
@@ -74,14 +74,14 @@ fn are_name(bytes: &[u8]) -> bool
     }
 }
 
-// The byte at that index, 0 behind the last.
+// The byte at an index; 0 after the last byte.
 fn byte_or_zero(bytes: &[u8], i: usize) -> u8
     ensures { result ≡ get_or bytes.now i 0 }
 {
     if i < bytes.len() { bytes[i] } else { 0 }
 }
 
-// The first eight bytes as one number, the first the highest, and zeros where there are fewer.
+// The first eight bytes as one number, the first byte highest, with zeros if there are fewer.
 fn prefix_of(bytes: &[u8]) -> u64
     ensures { result ≡ prefix_number 0 8 bytes.now }
 {
@@ -98,7 +98,7 @@ fn prefix_of(bytes: &[u8]) -> u64
 }
 
 impl Name {
-    /// The name with these bytes, or 33 `BadName` where they are none. It takes no memory.
+    /// The name with these bytes, or 33 `BadName` if they are not a name. It takes no memory.
     pub fn new(bytes: &[u8]) -> Result<Name, NameFault>
         ensures answers { IsOk result ↔ IsTrue (is_name bytes.now) }
         ensures answer { IfOk result (λ name. name ≡ bytes.now) }
@@ -150,7 +150,7 @@ impl PartialOrd for Name {
     }
 }
 
-// By bytes, from the first.
+// By bytes, from the first one on.
 impl Ord for Name {
     ghost cmp = { slice_cmp nat_cmp };
 

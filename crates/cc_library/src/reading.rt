@@ -1,6 +1,6 @@
 // Reading a command from the body of a record.
 
-ghost use Rattle.std.specs.Prelude.{◌≡◌, ◌≤◌, ◌*◌, List, ℕ, length, drop, IfOk};
+ghost use Rattle.std.specs.Prelude.{◌≡◌, ◌≤◌, ◌*◌, length, drop, IfOk};
 ghost use Rattle.cc_library.specs.declared.command.LibraryCommand.{LibraryCommand};
 ghost use Rattle.cc_library.specs.Body.{Spells};
 ghost use Rattle.cc_library.specs.internal.Reading.{byte_in, taken, number_in, words_in, words_field_in, source_in, name_in, certificate_in, unit_in, kind_in, command_in};
@@ -43,11 +43,11 @@ impl<T: Drop> From<AllocFailed<T>> for ReadFault {
     }
 }
 
-/// The command that the bytes are, all of them.
+/// The command that all these bytes together spell. Err: they spell no command, or memory ran out.
 pub fn read_command(alloc: Global, bytes: &[u8]) -> Result<LibraryCommand, ReadFault>
-    // What is read is spelled so.
+    // The bytes spell the command that is read.
     ensures answer { IfOk result (λ command. Spells bytes.now command) }
-    // What is spelled so is read; nothing is refused as no command that is one.
+    // What spells a command is read as it; no command is refused as `NoCommand`.
     ensures only { (command : LibraryCommand) → Spells bytes.now command → Gives (λ c. c) result (Some command) }
 {
     command_at(alloc, bytes)
@@ -109,7 +109,7 @@ fn unit_at(alloc: Global, version: u8, bytes: &[u8]) -> Result<(SharedUnit, &[u8
     Ok((SharedUnit::new(Arc::new(alloc, unit)?), rest))
 }
 
-// The certificate of a unit, which stands in version 2 alone. Its bytes are not looked at.
+// The certificate of a unit, which only version 2 has. Its bytes are not looked at.
 #[tactic(auto, unfolding(crate::specs::internal::Reading::certificate_in))]
 fn certificate_at(
     alloc: Global,
@@ -174,7 +174,7 @@ fn name_at(bytes: &[u8]) -> Result<(Name, &[u8]), ReadFault>
     }
 }
 
-// How many words there are, from `least` to `most`, and the words.
+// The number of words, from `least` to `most`, and the words.
 #[tactic(auto, unfolding(crate::specs::internal::Reading::words_field_in))]
 fn words_field_at(
     alloc: Global,
@@ -199,14 +199,14 @@ fn words_at(alloc: Global, count: u32, bytes: &[u8]) -> Result<(Vec<u32>, &[u8])
 {
     let count = count as usize;
     let (_, rest) = bytes_at(4 * count, bytes)?;
-    // The words are read into their room: a call of the vector for each would take longer than its bytes.
+    // The words are read in place: a call of the vector for each word would take longer than reading its bytes.
     let mut words = Vec::with_capacity(alloc, count)?;
     words.resize(count, 0)?;
     fill_from(&mut words, bytes);
     Ok((words, rest))
 }
 
-// Reads the words at the start of these bytes, as many as there is room for, each from four bytes, the lowest first.
+// Reads the words at the start of these bytes, as many as `words` has room for, each from four bytes, the lowest first.
 fn fill_from(words: &mut [u32], bytes: &[u8])
     requires { 4 * length words.old ≤ length bytes.now }
     ensures read { words_in (length words.old) bytes.now ≡ Some (words.new, drop (4 * length words.old) bytes.now) }

@@ -1,4 +1,4 @@
-// What the records of a journal stand for.
+// The map that the records of a journal represent.
 
 ghost use Rattle.std.specs.Prelude.{IfOk, IfErr};
 ghost use Rattle.cc_library.specs.Recovered.{StandFor};
@@ -11,10 +11,10 @@ use crate::units::UnitMap;
 use cc_journal::Body;
 use std::alloc::Global;
 
-/// The map that records with these bodies stand for, the oldest first.
+/// The map that records with these bodies represent, the oldest first.
 ///
-/// 37 exactly where they stand for none: a body is that of no command, or of one that the map so far refuses. 40 where
-/// memory ran out.
+/// 37 exactly if they represent no map: some body is not that of a command, or its command is refused by the map so far. 40 if memory ran
+/// out.
 pub fn replay(alloc: Global, bodies: &[Body]) -> Result<UnitMap, LibraryFault>
     ensures answer { IfOk result (λ units. StandFor bodies.now units) }
     ensures refused { IfErr result (λ fault. ReplayFaults bodies.now fault) }
@@ -26,7 +26,7 @@ pub fn replay(alloc: Global, bodies: &[Body]) -> Result<UnitMap, LibraryFault>
     Ok(units)
 }
 
-// The map after the command of one record more.
+// The map after the command of one more record.
 fn replay_body(alloc: Global, mut units: UnitMap, body: &Body) -> Result<UnitMap, LibraryFault>
     ensures { ReplaysBody units body.now result }
 {
@@ -35,7 +35,7 @@ fn replay_body(alloc: Global, mut units: UnitMap, body: &Body) -> Result<UnitMap
         Err(ReadFault::NoCommand) => return Err(LibraryFault::Damaged),
         Err(ReadFault::OutOfMemory) => return Err(LibraryFault::OutOfMemory),
     };
-    // The map is asked and changed by one search.
+    // One search both asks the map and changes it.
     match units.accept(command) {
         Ok(true) => Ok(units),
         Ok(false) => Err(LibraryFault::Damaged),

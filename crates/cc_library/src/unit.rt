@@ -8,12 +8,12 @@ use std::alloc::AllocError;
 use std::marker::Model;
 use std::sync::Arc;
 
-/// A stored unit with several owners. A clause sees the unit.
+/// A stored unit with several owners. Contracts see the unit.
 pub struct SharedUnit {
     stored: Arc<StoredUnit>,
 }
 
-// By hand, so that crates above call it and do not prove anew how each part is dropped.
+// Written by hand, so that crates above call it and need not prove again how each part is dropped.
 impl Drop for SharedUnit {
     fn drop(self) {
         let SharedUnit { stored } = self;
@@ -44,7 +44,7 @@ impl SharedUnit {
         &self.stored
     }
 
-    /// One more owner of the unit. It takes no memory; it answers an error only past the most owners.
+    /// One more owner of the unit. It takes no memory. Err: the unit has the most owners already.
     pub fn again(&self) -> Result<SharedUnit, AllocError>
         ensures { IfOk result (λ s. s ≡ self.now) }
     {

@@ -1,12 +1,12 @@
 // The units by name.
 
-ghost use Rattle.std.specs.Prelude.{◌≡◌, ◌↔◌, ◌≤◌, ◌^◌, false, OnOk, OnErr, IfOk, IsOk, IsTrue};
+ghost use Rattle.std.specs.Prelude.{◌≡◌, ◌↔◌, ◌≤◌, ◌^◌, length, false, OnOk, OnErr, IfOk, IsOk, IsTrue};
 ghost use Rattle.std.specs.Option.{option_map};
 ghost use Rattle.std.specs.Arc.{arc_value};
 ghost use Rattle.std.specs.Ordering.{nat_cmp};
 ghost use Rattle.std.specs.Cmp.Lexicographic.{slice_cmp};
 ghost use Rattle.std.specs.FinMap as map;
-ghost use Rattle.cc_journal.specs.Format.{room_of};
+ghost use Rattle.cc_journal.specs.Format.{records, room_of};
 ghost use Rattle.cc_library.specs.Apply.{apply, after, refusal};
 ghost use Rattle.cc_library.specs.Compact.{adds_of, compacted};
 ghost use Rattle.cc_library.specs.Recovered.{AreSpelled};
@@ -23,12 +23,12 @@ use std::collections::BTreeMap;
 use std::marker::Model;
 use std::sync::Arc;
 
-/// The units by name, in the order of the names' bytes. A clause sees a finite map.
+/// The units by name, in the order of the names' bytes. Contracts see a finite map.
 pub struct UnitMap {
     units: BTreeMap<Name, SharedUnit>,
 }
 
-// By hand, so that crates above call it and do not prove anew how each part is dropped.
+// Written by hand, so that crates above call it and need not prove again how each part is dropped.
 impl Drop for UnitMap {
     fn drop(self) {
         let UnitMap { units } = self;
@@ -51,7 +51,7 @@ impl Model for UnitMap {
 }
 
 impl UnitMap {
-    /// The map without a unit. It takes no memory.
+    /// The empty map. It takes no memory.
     pub fn new(alloc: Global) -> UnitMap
         ensures { result ≡ map.empty }
     {
@@ -60,7 +60,7 @@ impl UnitMap {
         }
     }
 
-    /// The unit of this name, where there is one. It takes no memory.
+    /// The unit with this name, if there is one. It takes no memory.
     pub fn get(&self, name: &Name) -> Option<&Arc<StoredUnit>>
         ensures { option_map (λ unit. arc_value unit.now) result ≡ map.get self.now name.now }
     {
@@ -70,7 +70,7 @@ impl UnitMap {
         }
     }
 
-    /// The same map once more. Its units are shared; its names take memory.
+    /// A copy of the map. Its units are shared; its names take memory. Err: memory ran out, or a unit has the most owners already.
     pub fn again(&self) -> Result<UnitMap, AllocError>
         ensures { IfOk result (λ units. units ≡ self.now) }
     {
@@ -86,7 +86,7 @@ impl UnitMap {
         self.units.contains_key(name)
     }
 
-    /// The names, in the order of their bytes.
+    /// The names, in the order of their bytes. Err: memory ran out.
     pub fn names(&self, alloc: Global) -> Result<Vec<Name>, AllocError>
         ensures { IfOk result (λ names. names.items ≡ map.keys self.now) }
     {
@@ -97,7 +97,7 @@ impl UnitMap {
         Ok(names)
     }
 
-    /// Whether the records of one Add per name and their closed gate fit an area of that many bytes. It takes no memory.
+    /// Whether the records of one Add per name, and their closed gate, fit an area of that many bytes. It takes no memory.
     pub fn fits(&self, area: usize) -> bool
         requires some { 1 ≤ area }
         requires few { area ≤ 2 ^ 30 }
@@ -113,6 +113,21 @@ impl UnitMap {
         true
     }
 
+    /// How many bytes the records of one Add per name take, and how many names there are. It takes no memory.
+    pub fn measure(&self) -> (usize, usize)
+        requires { room_of (compacted self.now) ≤ 2 ^ 30 }
+        ensures bytes { result.0 ≡ length (records (compacted self.now)) }
+        ensures names { result.1 ≡ map.len self.now }
+    {
+        let mut bytes = 0;
+        let mut names = 0;
+        for (name, unit) in self.units.iter() {
+            bytes += length_with(name.bytes(), Some(unit.stored())) + 5;
+            names += 1;
+        }
+        (bytes, names)
+    }
+
     /// The bodies of one Add per name, in the order of the names' bytes, where an area can hold them.
     pub fn bodies(&self, alloc: Global) -> Result<Vec<Body>, AllocError>
         requires { room_of (compacted self.now) ≤ 2 ^ 30 }
@@ -126,7 +141,7 @@ impl UnitMap {
         Ok(bodies)
     }
 
-    /// Which number refuses the command now, 31 or 32, where one does. It takes no memory.
+    /// The number that refuses the command now, 31 or 32, if one does. It takes no memory.
     pub fn refusal(&self, command: &LibraryCommand) -> Option<u32>
         ensures { result ≡ refusal (apply self.now command.now) }
     {
@@ -138,7 +153,7 @@ impl UnitMap {
         }
     }
 
-    /// Does the command, where the map does not refuse it. Without memory the map stays as it was.
+    /// Carries out the command, unless the map refuses it. If memory runs out, the map stays as it was.
     pub fn apply(&mut self, command: &LibraryCommand) -> Result<(), AllocError>
         ensures ok { OnOk result (self.new ≡ after self.old command.now) }
         ensures leaves { OnErr result (self.new ≡ self.old) }
@@ -157,8 +172,8 @@ impl UnitMap {
         }
     }
 
-    // Takes the room that an accepted command needs, so that it can be finished or undone without memory. Without
-    // memory the map stays as it was.
+    // Takes the memory that an accepted command needs, so that it can be finished or undone without memory. If memory runs out, the map
+    // stays as it was.
     pub(crate) fn begin(&mut self, command: &LibraryCommand) -> Result<(), AllocError>
         ensures ok { OnOk result (self.new ≡ begun self.old command.now) }
         ensures err { OnErr result (self.new ≡ self.old) }
@@ -169,7 +184,7 @@ impl UnitMap {
         }
     }
 
-    // Does the rest of a command that has begun. It takes no memory.
+    // Does the rest of a command that was begun. It takes no memory.
     pub(crate) fn finish(&mut self, command: LibraryCommand)
         ensures { self.new ≡ finished self.old command }
     {
@@ -194,7 +209,7 @@ impl UnitMap {
         }
     }
 
-    // Sets the unit of a name. Without memory the map stays as it was; a present name takes none.
+    // Sets the unit of a name. If memory runs out, the map stays as it was; for a present name no memory is needed.
     pub(crate) fn put(&mut self, name: Name, unit: SharedUnit) -> Result<(), AllocError>
         ensures ok { OnOk result (self.new ≡ map.insert self.old name unit) }
         ensures err { OnErr result (self.new ≡ self.old) }
@@ -204,7 +219,7 @@ impl UnitMap {
         Ok(())
     }
 
-    // Does the command, where the map accepts it, and says whether it does. What a refused one leaves is not said.
+    // Carries out the command if the map accepts it, and answers whether it does. What a refused command leaves is not promised.
     pub(crate) fn accept(&mut self, command: LibraryCommand) -> Result<bool, AllocError>
         ensures done { IfOk result (λ done. IsTrue done → IsOk (apply self.old command) × (self.new ≡ after self.old command)) }
         ensures refused { IfOk result (λ done. done ≡ false → IsOk (apply self.old command) → ⊥) }
@@ -216,7 +231,7 @@ impl UnitMap {
         }
     }
 
-    // Sets the unit of a name, and says whether it had one.
+    // Sets the unit of a name, and answers whether the name had one.
     fn set(&mut self, name: Name, unit: SharedUnit) -> Result<bool, AllocError>
         ensures set { OnOk result (self.new ≡ map.insert self.old name unit) }
         ensures had { IfOk result (λ had. had ≡ map.contains_key self.old name) }
@@ -225,7 +240,7 @@ impl UnitMap {
         Ok(old.is_some())
     }
 
-    // Takes a name out, and says whether it had a unit.
+    // Removes a name, and answers whether it had a unit.
     fn take(&mut self, name: &Name) -> bool
         ensures taken { self.new ≡ map.remove self.old name.now }
         ensures had { result ≡ map.contains_key self.old name.now }
@@ -234,7 +249,7 @@ impl UnitMap {
         old.is_some()
     }
 
-    // Takes a name out, where it is there.
+    // Removes a name, if it is there.
     pub(crate) fn remove(&mut self, name: &Name)
         ensures { self.new ≡ map.remove self.old name.now }
     {

@@ -1,4 +1,4 @@
--- From tables by places to what the layout asks of labels: where chains end, and an order that holds all that is reached.
+-- From tables by places to what the layout asks of labels: where chains end, and an order that has all that is reached.
 use Rattle.std.proofs.Common.{◌≡◌, ℕ, zero, suc, ◌+◌, ◌<◌, ◌≤◌, Bool, true, false, cond, ◌&&◌, List, [], ◌∷◌, length, get_or, refl, sym, ap, ◌∙◌, subst, ◌⊎◌, inl, inr, arith, Some, None, ◌==◌, All}
 use Rattle.std.specs.List.{AllPairs, Contains}
 use Rattle.std.proofs.lemmas.Bool.Decides.{nat_tests, eqb_tells}
@@ -50,7 +50,7 @@ first_place (b ∷ bs) (first, up) (suc i) lt =
     let h = above_all b.label bs first up i (omega arith) in
     place_there b.label (get_or (labels_of bs) i 0) (labels_of bs) (λ e. omega arith) ∙ ap suc (first_place bs up i (omega arith))
 
--- the block of a label stands at the label's place
+-- the block of a label is at the label's place
 pub record Stands (blocks : List Block) (label : ℕ) (block : Block) : Type 0 where
   pub inside : place_in (labels_of blocks) label < length blocks
   pub block_is : (d : Block) → get_or blocks (place_in (labels_of blocks) label) d ≡ block
@@ -80,7 +80,7 @@ stands (b ∷ bs) label block e = elim (cases_eq b.label label) [
       })
 ]
 
--- a label that is there has a place, and it stands there
+-- a label in the list has a place, and is found there
 pub place_inside : (ls : List ℕ) (label : ℕ) → Contains ls label → place_in ls label < length ls
 place_inside [] label (k, lt, e) = absurd (omega arith)
 place_inside (l ∷ ls) label (zero, lt, e) =

@@ -1,5 +1,5 @@
--- A list that lays out a function's blocks does what the blocks do. The list lags: the moves behind an operation are still to be done
--- where the blocks have come to the next label, and so may a jump be.
+-- A list that lays out a function's blocks does what the blocks do. The list lags: when the blocks have come to the next label, the list
+-- may still have to do the moves after an operation, and a jump.
 use Rattle.std.proofs.Common.{◌≡◌, ℕ, suc, ◌+◌, ◌<◌, ◌≤◌, List, [], ◌∷◌, length, refl, sym, ap, ◌∙◌, subst, ◌⊎◌, inl, inr, arith}
 use Rattle.std.specs.Prelude.{Bool, true, false, cond, ◌==◌, Option, Some, None}
 use Rattle.cc_words.specs.Operators.{apply_unary, apply_binary}
@@ -66,7 +66,7 @@ module _ (arity : ℕ → ℕ) (function : Ltl) (code : List LinearItem) (end fa
   abbrev pub wide : ℕ
   wide = size + size + 1
 
-  -- The list is behind by the moves that follow an operation.
+  -- The list lags by the moves that follow an operation.
   pub record Related (c : ltl.Configuration) (d : linear.Configuration) : Type 0 where
     pub copies : List Move
     pub tail : List LinearItem
@@ -104,12 +104,12 @@ module _ (arity : ℕ → ℕ) (function : Ltl) (code : List LinearItem) (end fa
   then_way : (d e f : linear.Configuration) (a b n : ℕ) → Arrives d a b e → Way e n f → Arrives d (a + n) (b + n) f
   then_way d e f a b n x w = record { moves = x.moves + n; enough = let g = x.enough in omega arith; few = let g = x.few in omega arith; way = path_then d e f x.moves n x.way w }
 
-  -- to where the list goes on, by a jump at most
+  -- to the place at which the list goes on, by at most one jump
   goes_on : (tail : List LinearItem) (l : ℕ) (at : Locations) (world : World) (words : List ℕ) → GoesOnAt code tail l → Arrives (at_items tail at world words) 0 1 (at_items (place code l) at world words)
   goes_on tail l at world words (inl e) = record { moves = 0; enough = omega arith; few = omega arith; way = subst (λ x. Way (at_items x at world words) 0 (at_items (place code l) at world words)) e (path_refl (at_items (place code l) at world words)) }
   goes_on tail l at world words (inr (behind, e)) = record { moves = 1; enough = omega arith; few = omega arith; way = one_move (at_items tail at world words) (at_items (place code l) at world words) (ap (λ x. new (at_items x at world words)) e) }
 
-  -- the moves that were left, and to the label
+  -- the remaining moves, and then on to the label
   settles : (c : ltl.Configuration) (d : linear.Configuration) → Related c d → Arrives d 0 (size + 1) (at_items (place code (end c.label)) c.locations c.world c.words)
   settles c d r =
       let first_way = copies_way r.copies r.tail d.locations d.world d.words in
@@ -121,7 +121,7 @@ module _ (arity : ℕ → ℕ) (function : Ltl) (code : List LinearItem) (end fa
       let all = path_then d (at_items r.tail (moved r.copies d.locations) d.world d.words) e (length r.copies) g.moves begin g.way in
       record { moves = length r.copies + g.moves; enough = omega arith; few = let x = r.few in let y = g.few in omega arith; way = subst (λ x. Way d (length r.copies + g.moves) x) same all }
 
-  -- behind the moves that stand before the block's operation
+  -- after the moves before the block's operation
   arrives : (c : ltl.Configuration) (d : linear.Configuration) (before : List Move) (body : List LinearItem) → Related c d → end c.label ≡ c.label → place code c.label ≡ Label c.label ∷ moves_then before body
       → Arrives d (length before) (size + 1 + length before) (at_items body (moved before c.locations) c.world c.words)
   arrives c d before body r own is =
@@ -134,7 +134,7 @@ module _ (arity : ℕ → ℕ) (function : Ltl) (code : List LinearItem) (end fa
       let u = then_way d b (at_items body (moved before c.locations) c.world c.words) (0 + 0) (size + 1 + 0) (length before) t (copies_way before body c.locations c.world c.words) in
       record { moves = u.moves; enough = let x = u.enough in omega arith; few = let x = u.few in omega arith; way = u.way }
 
-  -- what the list's move does is what the block does, but for the moves behind
+  -- what the list's move does is what the block does, except the moves after
   abbrev Fits : Moving ltl.Configuration → Moving linear.Configuration → Type 0
   Fits (Goes c) (Goes d) = Related c d
   Fits (Calls q f) (Calls p g) = (p ≡ q) × ((a : Answer) → Related (f a) (g a))
@@ -181,7 +181,7 @@ module _ (arity : ℕ → ℕ) (function : Ltl) (code : List LinearItem) (end fa
   abbrev Proceeds : ltl.Configuration → ltl.Configuration → linear.Configuration → Type 0
   Proceeds c c' d = Advances old ltl_output new linear_output Related wide c' d ⊎ (Related c' d × (far c'.label < far c.label))
 
-  -- no operation: the block has moves or none
+  -- no operation: the block has moves, or nothing
   pub record Silent (c : ltl.Configuration) (d : linear.Configuration) : Type 0 where
     pub to : ltl.Configuration
     pub move : old c ≡ Goes to
@@ -268,7 +268,7 @@ module _ (arity : ℕ → ℕ) (function : Ltl) (code : List LinearItem) (end fa
       let f = zero_fits (at (Register from) == 0) taken other at c.world c.words tail o st so in
       record { moves = a.moves; to = to; few = let x = a.few in omega arith; way = a.way; output = refl; fits = subst (λ m. Fits m (new to)) (sym (branch_move c b from taken other e is no_after)) f }
 
-  -- an empty nop that stands is a jump; any other has moves
+  -- an empty nop that was not passed over is a jump; any other nop has moves
   nop_way : (d : linear.Configuration) (n count : ℕ) (before after : List Move) (tail : List LinearItem) (at : Locations) (world : World) (words : List ℕ) → GoesOnAt code tail (end n) → StandsIn code (end n)
       → (before ≡ [] → after ≡ [] → (behind : List LinearItem) × (tail ≡ Jump (end n) ∷ behind)) → length before + length after ≤ size → Arrives d (length before + length after) count (at_items tail at world words) → suc count ≤ suc wide
       → Advances old ltl_output new linear_output Related wide (to_block n [] at world words) d
@@ -309,7 +309,7 @@ module _ (arity : ℕ → ℕ) (function : Ltl) (code : List LinearItem) (end fa
   kept c d b (Read n) r e is own s = inl (straight c d b r e own (subst IsStraight (sym is) tt) s)
   kept c d b (Write n) r e is own s = inl (straight c d b r e own (subst IsStraight (sym is) tt) s)
 
-  -- where there is no block, nothing is owed
+  -- if there is no block, nothing is owed
   nothing : (c : ltl.Configuration) (d : linear.Configuration) → Related c d → block_at function.blocks c.label ≡ None → Matches c d
   nothing c d r e =
       let m : Fails ≡ old c = sym (ap (λ o. tried o (λ (x : Block). operate arity x.operation x.after (moved x.before c.locations) c.world c.words)) e) in
@@ -350,7 +350,7 @@ module _ (arity : ℕ → ℕ) (function : Ltl) (code : List LinearItem) (end fa
   ends c a d e (inl m) = matched_ends c a d m (new m.to) refl (subst (λ x. Fits x (new m.to)) e m.fits)
   ends c a d e (inr s) = absurd (let x : Goes s.to ≡ Returns a = sym s.move ∙ e in cc)
 
-  -- moves that are left change no output
+  -- the remaining moves change no output
   pub laid : Simulation old ltl_output new linear_output Related (λ c. far c.label) most wide
   laid = record {
     low = λ c d r. lays.low c.label;
@@ -360,7 +360,7 @@ module _ (arity : ℕ → ℕ) (function : Ltl) (code : List LinearItem) (end fa
     ends = λ c a d r e. ends c a d e (at_a_block c d (block_at function.blocks c.label) r refl);
   }
 
--- what the blocks keep of the source, a list that lays them out keeps, slower by the longest chain that it passes over
+-- what the blocks keep of the source, a list that lays them out keeps too, slower by the longest chain that it passes over
 pub linear_tracks : (meaning : Meaning) (f rate : ℕ) (function : Ltl) (code : List LinearItem) (end far : ℕ → ℕ) (most : ℕ) → Lays function code end far most
     → TracksForAll meaning f rate (ltl_move meaning.arity function) ltl_output (ltl_start function)
     → TracksForAll meaning f (coarser rate most) (linear_move meaning.arity code) linear_output (linear_start function.slots code)

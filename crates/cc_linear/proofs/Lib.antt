@@ -1,8 +1,9 @@
 -- How a list of items is shown to keep up with blocks. The run of the list may be late: when the blocks have come to the next label, the
--- list may still have to do the moves after an operation, and at most one jump. A block is passed over only where it is empty and its
+-- list may still have to do the moves after an operation, and at most one jump. A block is passed over only if it is empty and its
 -- successor is nearer to the end of its chain, so a cycle of empty blocks keeps one jump. So each move of the list pays for at most as
 -- many blocks as the longest chain has, and one more (linear_tracks of Laid). Every order that has each label once, and all that is
 -- reached, is right (laid_out of Ordering).
+--
 -- a list that lays blocks out does what they do
 pub mod Laid
 -- blocks in any order are laid out
@@ -17,9 +18,9 @@ pub mod Arranging
 pub mod Finding
 -- the items of blocks one after the other
 pub mod Rows
--- from tables by places to what is asked of labels
+-- from tables by places to what the layout asks of labels
 pub mod ByPlace
--- labels that nothing leads to
+-- labels to which nothing leads
 pub mod WithoutLabels
 -- from a function's blocks to its list
 pub mod Whole

@@ -23,7 +23,7 @@ abbrev from : List ℕ → ℕ → List ℕ
 from [] l = []
 from (x ∷ xs) l = cond (x == l) (x ∷ xs) (from xs l)
 
--- the label stands in the order, before these
+-- the label is in the order, directly before these
 abbrev Before : List ℕ → ℕ → List ℕ → Type 0
 Before order l ls = from order l ≡ l ∷ ls
 
@@ -36,7 +36,7 @@ from_here x l xs e = ap (λ t. cond t (x ∷ xs) (from xs l)) e
 from_there : (x l : ℕ) (xs : List ℕ) → (x == l) ≡ false → from (x ∷ xs) l ≡ from xs l
 from_there x l xs e = ap (λ t. cond t (x ∷ xs) (from xs l)) e
 
--- where the order from l on is something, it begins with l
+-- if the order from l on is not empty, it begins with l
 from_head : (order : List ℕ) (l x : ℕ) (ls : List ℕ) → from order l ≡ x ∷ ls → x ≡ l
 from_head [] l x ls e = absurd (cc)
 from_head (y ∷ ys) l x ls e =
@@ -57,7 +57,7 @@ contains_from (y ∷ ys) l (suc k) lt e =
 from_contains : (order : List ℕ) (l : ℕ) (ls : List ℕ) → Before order l ls → Contains order l
 from_contains order l ls e = let i = from_place order l l ls e in (i.0, i.1, i.2 l)
 
--- what follows a label in the order is where the next label stands
+-- what follows a label in the order begins at the next label
 next_from : (order : List ℕ) → Distinct order → (l e : ℕ) (ls : List ℕ) → Before order l (e ∷ ls) → Before order e ls
 next_from [] d l e ls h = absurd (cc)
 next_from (y ∷ ys) d l e ls h = elim (eqb_tells y l) [
@@ -73,7 +73,7 @@ next_from (y ∷ ys) d l e ls h = elim (eqb_tells y l) [
     itself : (a : ℕ) → (a == a) ≡ true
     itself a = elim (eqb_tells a a) [ inl t ↦ t.0 | inr t ↦ absurd (t.1 refl) ]
 
--- the place of a label passes by a block's items
+-- looking for a label passes over a block's items
 place_moves : (ms : List Move) (items : List LinearItem) (l : ℕ) → place (moves_then ms items) l ≡ place items l
 place_moves [] items l = refl
 place_moves (m ∷ ms) items l = place_moves ms items l
@@ -140,7 +140,7 @@ module _ (ltl : Ltl) (end far : ℕ → ℕ) (most : ℕ) (order : List ℕ) (en
   stands : (l : ℕ) → Contains order l → StandsIn code l
   stands l c = let i = contains_from order l c.0 c.1 c.2 in (laid_at end (block_at ltl.blocks l) i.0 (items_of i.0), place_code l ∙ ap items_of i.1)
 
-  -- a label that stands in the list stands in the order
+  -- a label that is in the list is in the order
   stands_before : (l : ℕ) → StandsIn code l → (ls : List ℕ) × Before order l ls
   stands_before l s = at (from order l) refl (sym (place_code l) ∙ s.1)
     where
@@ -165,7 +165,7 @@ module _ (ltl : Ltl) (end far : ℕ → ℕ) (most : ℕ) (order : List ℕ) (en
         inr (items_of order, ap (λ t. cond t (items_of order) (Jump (end ltl.entry) ∷ items_of order)) not_first))
   ]
 
-  -- what stands at a label of the order
+  -- what is at a label of the order
   stands_at : (l : ℕ) (b : Block) (ls : List ℕ) → Before order l ls → block_at ltl.blocks l ≡ Some b → place code l ≡ Label l ∷ block_then end b b.operation ls (items_of ls)
   stands_at l b ls before e = place_code l ∙ ap items_of before ∙ ap (λ o. Label l ∷ laid_at end o ls (items_of ls)) e
 

@@ -1,4 +1,4 @@
--- What a pair of Linear keeps comes of the pair of LTL and an order of its blocks.
+-- What a pair of Linear keeps follows from the pair of LTL and an order of its blocks.
 use Rattle.std.proofs.Common.{◌≡◌, ℕ, suc, ◌<◌, List, [], ◌∷◌, length, refl, sym, ap, ◌∙◌, subst, Contains, ◌≢◌, arith}
 use Rattle.std.specs.Prelude.{Bool, true, false, if◌then◌else◌, ◌==◌, Option, Some, None}
 use Rattle.std.specs.List.{AllByRecursion, AllPairs}
@@ -82,7 +82,7 @@ labels_laid blocks end (l ∷ ls) = ap (λ xs. l ∷ xs) (labels_at end (block_a
 labels_code : (ltl : Ltl) (end : ℕ → ℕ) (order : List ℕ) → labels (linear_code ltl end order) ≡ order
 labels_code ltl end order = labels_leads (end ltl.entry) order (laid ltl.blocks end order) ∙ labels_laid ltl.blocks end order
 
--- ---- each item is one of the function
+-- ---- each item is an item of the function
 
 -- the block of a label is one of the blocks
 is_block : (slots : ℕ) (blocks : List Block) (l : ℕ) (b : Block) → AllByRecursion (IsBlock slots) blocks → block_at blocks l ≡ Some b → IsBlock slots b
@@ -201,9 +201,9 @@ pair_of p end far most order is ends ordered =
       keeps_up = (coarser is.keeps_up.0 most, λ meaning m. linear_tracks meaning p.function is.keeps_up.0 p.ltl code end far most (laid_out p.ltl end far most order ends ordered last) (is.keeps_up.1 meaning m));
     }
 
--- ---- without the labels that nothing leads to
+-- ---- without the labels to which nothing leads
 
--- a pair stays one
+-- a pair stays a pair
 pub kept_pair : (p : Pair) → IsPair p → IsPair (record { mode = p.mode; unit = p.unit; function = p.function; ltl = p.ltl; code = kept (targets p.code) p.code })
 kept_pair p is =
     let led = targets p.code in

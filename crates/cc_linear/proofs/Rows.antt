@@ -1,4 +1,4 @@
--- The items of blocks one after the other: what is written for a block depends on the rest by what comes next alone.
+-- The items of blocks one after the other: what is written for a block depends only on what comes next.
 use Rattle.std.proofs.Common.{◌≡◌, ℕ, Bool, true, false, cond, List, [], ◌∷◌, ◌++◌, refl, sym, ap, ◌∙◌, append_assoc, Some}
 use Rattle.cc_ltl.specs.declared.operation.Move.{Move}
 use Rattle.cc_ltl.specs.declared.operation.Operation.{Operation}
@@ -82,7 +82,7 @@ block_alone end block Return order rest = moves_before block.before (item.Return
 
 -- ---- what is put
 
--- only what comes next counts of the order
+-- of the order only the next label matters
 first_alone : (end : ℕ → ℕ) (block : Block) (op : Operation) (order : List ℕ) (rest : List LinearItem) → block_then end block op (listed_first order) rest ≡ block_then end block op order rest
 first_alone end block op [] rest = refl
 first_alone end block (Nop n) (l ∷ ls) rest = refl

@@ -1,4 +1,4 @@
--- From a function's blocks to its list: the tables by places are what each step asks for, and the whole is made of the function.
+-- From a function's blocks to its list: the tables by places are what each step asks for, and the list is made from the function.
 use Rattle.std.proofs.Common.{◌≡◌, ℕ, suc, ◌+◌, ◌<◌, ◌≤◌, Bool, true, false, cond, ◌&&◌, List, [], ◌∷◌, length, get_or, refl, sym, ap, ◌∙◌, subst, arith, Option, Some, None, IsSome, All, Contains}
 use Rattle.std.specs.List.{AllPairs, AllByRecursion}
 use Rattle.std.proofs.lemmas.List.Elements.{All-from_recursion}
@@ -26,7 +26,7 @@ use Rattle.cc_linear.proofs.Pairs.{pair_of, kept_pair}
 pub are_labels : (blocks : List Block) → Ascend blocks → AreLabels (labels_of blocks)
 are_labels blocks up = record { rising = rising blocks up; first = first_place blocks up }
 
--- ---- where blocks lead there are labels
+-- ---- there are labels wherever blocks lead
 
 some_label : (blocks : List Block) (l : ℕ) → IsSome (block_at blocks l) → Contains (labels_of blocks) l
 some_label blocks l some = by (block_at blocks l) refl some
@@ -161,7 +161,7 @@ ends_within labels nexts table ends blocks same are inside is =
     let e : length nexts ≡ length labels = ap length are ∙ nexts_long labels 0 blocks ∙ sym (labels_long blocks) ∙ sym (ap length same) in
     subst (λ n. All (λ p. p < n) ends) e (subst (All (λ p. p < length nexts)) (sym is) inside)
 
--- ---- the facts of a function's own blocks, for its labels as a slice has them
+-- ---- the facts about a function's own blocks, for its labels as a slice has them
 
 pub labels_here : (ltl : Ltl) (labels : List ℕ) (blocks : List Block) → Ascend ltl.blocks → blocks ≡ ltl.blocks → labels ≡ labels_of blocks → AreLabels labels
 labels_here ltl labels blocks up b l = subst AreLabels (sym (l ∙ ap labels_of b)) (are_labels ltl.blocks up)
@@ -197,7 +197,7 @@ made_of ltl labels nexts ends graph order code items up same nexts_are (far, mos
       made = items_are ∙ ap (λ xs. kept (targets xs) xs) code_own;
     }
 
--- what is made of the function of a pair is the code of a pair
+-- the code that is made from a pair's function is the code of a pair
 pub pair_made : (p : above.Pair) (items : List LinearItem) → above.IsPair p → IsMadeOf p.ltl items → IsPair (record { mode = p.mode; unit = p.unit; function = p.function; ltl = p.ltl; code = items })
 pair_made p items is m =
     let first = pair_of p m.end m.far m.most m.order is m.ends m.ordered in

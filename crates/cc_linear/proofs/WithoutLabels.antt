@@ -1,4 +1,4 @@
--- Labels that nothing leads to may be left out: what is done at a label is what the next item does, so the two lists go hand in hand.
+-- Labels to which nothing leads may be left out: at a label the next item is executed, so the two lists go hand in hand.
 use Rattle.std.proofs.Common.{◌≡◌, ◌≢◌, ℕ, zero, suc, ◌+◌, ◌<◌, ◌≤◌, Bool, true, false, cond, List, [], ◌∷◌, length, refl, sym, ap, ◌∙◌, subst, inl, inr, arith, Option, Some, None, ◌==◌, Contains, ◌↔◌, get_or, drop, ◌++◌, append_assoc, append-nil}
 use Rattle.std.specs.List.{AllByRecursion, AllPairs}
 use Rattle.std.proofs.lemmas.Bool.Decides.{eqb_tells}
@@ -84,7 +84,7 @@ found_has xs l (Err i) found up = let h = searched xs l (Err i) found up in sym 
 
 -- ---- labels and targets of what is kept
 
--- all targets are among these
+-- all targets are among these labels
 abbrev Below : List ℕ → List LinearItem → Type 0
 Below led items = AllByRecursion (λ l. has led l ≡ true) (targets items)
 
@@ -116,7 +116,7 @@ targets_kept led (Read ∷ items) = targets_kept led items
 targets_kept led (Write ∷ items) = targets_kept led items
 targets_kept led (Return ∷ items) = targets_kept led items
 
--- the numbers that are among these
+-- the numbers that are among these labels
 abbrev only : (led : List ℕ) → List ℕ → List ℕ
 only led [] = []
 only led (l ∷ ls) = cond (has led l) (l ∷ only led ls) (only led ls)
@@ -142,7 +142,7 @@ labels_kept led (Read ∷ items) = labels_kept led items
 labels_kept led (Write ∷ items) = labels_kept led items
 labels_kept led (Return ∷ items) = labels_kept led items
 
--- what is among them stays, and what stays is among them and was there
+-- a number stays exactly if it is among them and was there
 pub only_has : (led ls : List ℕ) (l : ℕ) → has led l ≡ true → Contains ls l → Contains (only led ls) l
 only_has led [] l h (k, lt, e) = absurd (omega arith)
 only_has led (x ∷ xs) l h (zero, lt, e) =
@@ -290,7 +290,7 @@ module _ (arity : ℕ → ℕ) (code : List LinearItem) (led : List ℕ) (below 
   abbrev new : Configuration → Moving Configuration
   new d = linear_move arity (kept led code) d
 
-  -- the same but for labels that nothing leads to
+  -- the same, except labels to which nothing leads
   abbrev without : Configuration → Configuration
   without c = at_items (kept led c.items) c.locations c.world c.words
 
@@ -373,14 +373,14 @@ kept_tracks meaning f rate slots code led below tracks =
     tracks_on_for_all meaning f rate (linear_move meaning.arity code) linear_output (linear_move meaning.arity (kept led code)) linear_output (Same meaning.arity code led below) (λ c. 0) 0 0
     (kept_alike meaning.arity code led below) (linear_start slots code) (linear_start slots (kept led code)) (λ words are ws h call. (below, refl)) tracks
 
--- something leads to each label that stands
+-- something leads to each label that is left
 pub none_idle : (code : List LinearItem) → NoneIdle (kept (targets code) code)
 none_idle code l c =
     let led = targets code in
     let o = has_only led (labels code) l (subst (λ ls. Contains ls l) (labels_kept led code) c) in
     subst (λ ls. Contains ls l) (sym (targets_kept led code)) (one_had led l o.0)
 
--- ---- one item more
+-- ---- one more item
 
 pub all_put : (led : List ℕ) (items : List LinearItem) (i : ℕ) → length items ≤ i → led ++ targets (drop i items) ≡ targets items → led ≡ targets items
 all_put led items i le e = sym (append-nil led) ∙ ap (λ xs. led ++ targets xs) (sym (drop_all i items le)) ∙ e

@@ -1,5 +1,6 @@
--- to which labels items lead
+-- the labels to which items lead
 pub mod Targets
 -- why a function has no Linear
 pub mod Fault
+-- for private contracts and proofs only
 pub mod internal

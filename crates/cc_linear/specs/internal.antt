@@ -1,4 +1,4 @@
--- What only private contracts and proofs speak of.
+-- Definitions for private contracts and proofs.
 -- when a list lays out a function's blocks
 pub mod Lays
 -- the list that lays them out in an order
@@ -9,7 +9,7 @@ pub mod Ends
 pub mod Reached
 -- Blocks by their places.
 pub mod Places
--- labels that nothing leads to
+-- labels to which nothing leads
 pub mod Idle
--- what is made of a function
+-- what is made from a function
 pub mod Whole

@@ -1,6 +1,6 @@
-// Labels that nothing leads to are left out.
+// Labels to which nothing leads are left out.
 
-ghost use Rattle.std.specs.Prelude.{◌≡◌, ℕ, ◌↔◌, ◌<◌, ◌≤◌, length, get_or, IfOk};
+ghost use Rattle.std.specs.Prelude.{◌≡◌, ℕ, ◌↔◌, ◌<◌, IfOk};
 ghost use Rattle.std.specs.List.{Contains};
 ghost use Rattle.cc_linear.specs.Targets.{targets};
 ghost use Rattle.cc_linear.specs.internal.Idle.{IsRising, stays as has_its_place, kept as without};
@@ -8,7 +8,7 @@ ghost use Rattle.cc_linear.specs.internal.Idle.{IsRising, stays as has_its_place
 use cc_linear_language::LinearItem;
 use std::alloc::{AllocError, Global};
 
-/// The items without the labels to which no jump and no branch leads.
+/// The items without the labels to which no jump and no branch leads. Err: memory ran out.
 pub fn without_idle(alloc: Global, items: &[LinearItem]) -> Result<Vec<LinearItem>, AllocError>
     ensures { IfOk result (λ kept. kept.items ≡ without (targets items.now) items.now) }
 {
@@ -22,7 +22,7 @@ pub fn without_idle(alloc: Global, items: &[LinearItem]) -> Result<Vec<LinearIte
     Ok(kept)
 }
 
-// The labels of jumps and branches; they rise.
+// The labels of jumps and branches, in ascending order.
 fn sorted_targets(alloc: Global, items: &[LinearItem]) -> Result<Vec<u32>, AllocError>
     ensures same { IfOk result (λ led. (l : ℕ) → Contains led.items l ↔ Contains (targets items.now) l) }
     ensures rising { IfOk result (λ led. IsRising led.items) }
@@ -42,7 +42,7 @@ fn sorted_targets(alloc: Global, items: &[LinearItem]) -> Result<Vec<u32>, Alloc
     Ok(led)
 }
 
-// Whether an item has its place, where jumps and branches lead to these labels.
+// Whether an item stays if jumps and branches lead to these labels.
 fn stays(led: &[u32], item: &LinearItem) -> bool
     requires { IsRising led.now }
     ensures { result ≡ has_its_place led.now item.now }

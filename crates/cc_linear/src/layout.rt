@@ -1,4 +1,4 @@
-// The list of all blocks, in an order of their places.
+// Lays out all blocks as a list, in an order of their places.
 
 ghost use Rattle.std.specs.Prelude.{◌≡◌, ◌<◌, ◌++◌, [], length, drop, Contains, All, OnOk, IfOk};
 ghost use Rattle.cc_linear.specs.internal.Layout.{block_then, leads, laid};
@@ -21,7 +21,7 @@ fn end_label(labels: &[u32], ends: &[usize], label: u32) -> u32
     labels[end_of(labels, ends, label)]
 }
 
-/// Puts a block behind the items, of which this label comes next.
+/// Puts a block after the items. `following` is the label that comes next.
 fn put_block(
     items: &mut Vec<LinearItem>,
     labels: &[u32],
@@ -66,7 +66,7 @@ fn put_block(
     }
 }
 
-/// The list that lays out blocks in an order of their places, and begins with a jump where the entry does not come first.
+/// The list that lays out blocks in an order of their places. It begins with a jump if the entry does not come first. Err: memory ran out.
 pub fn lay_out(
     alloc: Global,
     labels: &[u32],
@@ -84,7 +84,7 @@ pub fn lay_out(
     requires order { All (λ p. p < length labels.now) order.now }
     ensures { IfOk result (λ items. items.items ≡ leads (end_in labels.now ends.now entry) (labels_at labels.now order.now) (laid blocks.now (end_in labels.now ends.now) (labels_at labels.now order.now))) }
 {
-    // A label and an item of each block; moves and jumps beside them are fewer as a rule.
+    // One label and one item for each block. Usually there are fewer moves and jumps than that.
     let mut items = Vec::with_capacity(alloc, order.len().saturating_mul(3))?;
     let first = label_at(labels, order, 0);
     put(&mut items, &[], way(end_label(labels, ends, entry), first))?;
@@ -103,7 +103,7 @@ pub fn lay_out(
     Ok(items)
 }
 
-// The label at a place of the order, none behind it.
+// The label at an index of the order; None past its end.
 fn label_at(labels: &[u32], order: &[usize], i: usize) -> Option<u32>
     requires order { All (λ p. p < length labels.now) order.now }
     ensures { listed result ≡ listed_first (labels_at labels.now (drop i order.now)) }

@@ -1,11 +1,12 @@
-//! From LTL to Linear, the blocks of a function as one list of moves and operations, with labels, jumps and branches.
+//! From LTL to Linear: the blocks of a function become one list of moves and operations, with labels, jumps and branches.
 //!
-//! The language is that of `cc_linear_language`. In which order blocks are laid out, and which empty ones are passed over, is free:
-//! `specs/internal/Lays` says when a list lays out a function's blocks, and the lemmas of `proofs/Laid` prove that it then keeps up with
-//! the source; every order that has each label once and all that is reached is laid out (`proofs/Ordering`).
+//! The language is that of `cc_linear_language`. The order of blocks, and which empty ones are passed over, may be chosen freely:
+//! `specs/internal/Lays` says when a list lays out a function's blocks, and the lemmas of `proofs/Laid` prove that such a list keeps up
+//! with the source. Every order that has each label once, and all that is reached, can be laid out (`proofs/Ordering`).
 //!
-//! `lineariser` is the whole. `places` and `tables` read the blocks by their places in the list, `tracing` finds where chains of empty
-//! blocks end and an order, `writing` and `layout` put the items one after the other, `idle` leaves out the labels to which nothing leads.
+//! `lineariser` is the whole pass. `places` and `tables` read the blocks by their places in the list, `tracing` finds where chains of empty
+//! blocks end and chooses an order, `writing` and `layout` put the items one after the other, and `idle` leaves out the labels to which
+//! nothing leads.
 #![tactic(auto)]
 
 mod fault;

@@ -35,11 +35,11 @@ fn items_of(alloc: Global, ltl: &Ltl) -> Result<Vec<LinearItem>, AllocError>
     without_idle(alloc, &items)
 }
 
-/// The Linear of a function. Chains of empty blocks are passed over; an endless cycle of them stays an endless jump. Blocks stand in an
-/// order in which a loop's test stands at its bottom and the likely way falls through, so that a turn of a loop executes one branch and no
-/// jump. What cannot be reached is left out, and so is each label to which nothing leads. The LTL is kept beside it.
+/// The Linear of a function. Chains of empty blocks are passed over; an endless cycle of them stays an endless jump. In the chosen order a
+/// loop's test is at its bottom and the likely way falls through, so one turn of a loop executes one branch and no jump. Unreachable blocks
+/// are left out, and so is each label to which nothing leads. The pair keeps the LTL as well.
 ///
-/// `LinearFault::OutOfMemory` (40) alone, where memory runs out; the pair is given up with it.
+/// The only refusal is `LinearFault::OutOfMemory` (40), if memory runs out; the pair is dropped then.
 pub fn linearise(alloc: Global, pair: LtlPair) -> Result<LinearPair, LinearFault>
     ensures mode { IfOk result (λ made. made.mode ≡ pair.mode) }
     ensures unit { IfOk result (λ made. made.unit ≡ pair.unit) }

@@ -7,7 +7,7 @@ ghost use Rattle.cc_linear.specs.internal.Places.{labels_of, place_in, AreLabels
 use cc_ltl::{Block, Operation};
 use std::alloc::{AllocError, Global};
 
-/// The labels of blocks.
+/// The labels of blocks. Err: memory ran out.
 pub fn labels(alloc: Global, blocks: &[Block]) -> Result<Vec<u32>, AllocError>
     ensures { IfOk result (λ labels. labels.items ≡ labels_of blocks.now) }
 {
@@ -25,7 +25,7 @@ pub fn place(labels: &[u32], label: u32) -> usize
     ensures place { result ≡ place_in labels.now label }
     ensures inside { result < length labels.now }
 {
-    // As a rule a label is the number of its place.
+    // Usually a label is the number of its place.
     let own = label as usize;
     if own < labels.len() && labels[own] == label {
         return own;

@@ -1,4 +1,4 @@
-// Tables by the places of blocks: where each leads, and the graph without the empty ones.
+// Tables by the places of blocks: where each block leads, and the graph without empty blocks.
 
 ghost use Rattle.std.specs.Prelude.{◌≡◌, length, Contains, IfOk};
 ghost use Rattle.cc_linear.specs.internal.Places.{AreLabels, LeadsIn, AllLeadIn, next_place as leads_to, next_places as all_lead_to, end_place, ways_of, graph_of};
@@ -8,7 +8,7 @@ use crate::tracing::ways::Ways;
 use cc_ltl::{Block, Operation};
 use std::alloc::{AllocError, Global};
 
-// Where a block leads: an empty one to its successor, another to itself.
+// The place to which a block leads: its successor's if it is empty, else its own.
 fn next_place(labels: &[u32], own: usize, block: &Block) -> usize
     requires labels { AreLabels labels.now }
     requires leads { LeadsIn labels.now block.now.operation }
@@ -26,7 +26,7 @@ fn next_place(labels: &[u32], own: usize, block: &Block) -> usize
     }
 }
 
-/// Where each block leads.
+/// The places to which the blocks lead. Err: memory ran out.
 pub fn next_places(
     alloc: Global,
     labels: &[u32],
@@ -55,7 +55,7 @@ pub fn end_of(labels: &[u32], ends: &[usize], label: u32) -> usize
     ends[place(labels, label)]
 }
 
-// Where an operation leads, once empty blocks are passed over.
+// The places to which an operation leads, with empty blocks passed over.
 fn ways(labels: &[u32], ends: &[usize], operation: &Operation) -> Ways
     requires labels { AreLabels labels.now }
     requires leads { LeadsIn labels.now operation.now }
@@ -84,7 +84,7 @@ fn ways(labels: &[u32], ends: &[usize], operation: &Operation) -> Ways
     }
 }
 
-/// The graph of blocks.
+/// The graph of blocks. Err: memory ran out.
 pub fn graph(
     alloc: Global,
     labels: &[u32],

@@ -1,4 +1,4 @@
-// The items of a block's parts. Functions that put items name the moves too: they are put together.
+// The items of a block's parts. Functions put moves and an item together, so that each names its moves too.
 
 ghost use Rattle.std.specs.Prelude.{◌≡◌, ◌++◌, [], ◌∷◌, cond, OnOk};
 ghost use Rattle.cc_linear_language.specs.declared.item.LinearItem.TheVariants.{Jump};
@@ -11,7 +11,7 @@ use cc_linear_language::LinearItem;
 use cc_ltl::{Block, Move, Operation, Register};
 use std::alloc::AllocError;
 
-/// Puts moves behind the items, and an item behind them, where there is one.
+/// Puts moves after the items, and an item after them, if there is one. Err: memory ran out.
 pub fn put(
     items: &mut Vec<LinearItem>,
     moves: &[Move],
@@ -28,7 +28,7 @@ pub fn put(
     Ok(())
 }
 
-/// The item of an operation without where it leads; none of a nop or a branch.
+/// The item of an operation, without its next labels; None for a nop or a branch.
 pub fn item_of(operation: &Operation) -> Option<LinearItem>
     ensures { operation_then operation.now [] ≡ listed_items result }
 {
@@ -84,7 +84,7 @@ pub fn item_of(operation: &Operation) -> Option<LinearItem>
     }
 }
 
-/// A jump to a label, unless that comes next.
+/// A jump to a label, unless the label comes next.
 pub fn way(to: u32, following: Option<u32>) -> Option<LinearItem>
     ensures { listed_items result ≡ leads to (listed following) [] }
 {
@@ -94,7 +94,7 @@ pub fn way(to: u32, following: Option<u32>) -> Option<LinearItem>
     }
 }
 
-/// A branch, which falls through to whichever way comes next, and a jump behind it where neither does.
+/// A branch that falls through to whichever way comes next, followed by a jump if neither does.
 pub fn branch(
     from: Register,
     nonzero: u32,
@@ -112,7 +112,8 @@ pub fn branch(
     }
 }
 
-/// What stands behind a block's operation and moves: an empty block that stands is an endless cycle, so its jump is never left out.
+/// The item after a block's operation and moves. An empty block that was not passed over is an endless cycle, so its jump is never left
+/// out.
 pub fn end_item(block: &Block, to: u32, following: Option<u32>) -> Option<LinearItem>
     ensures { listed_items result ≡ cond (is_empty block.now) (Jump to ∷ []) (leads to (listed following) []) }
 {

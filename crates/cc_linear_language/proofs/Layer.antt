@@ -1,4 +1,4 @@
--- The moves of Linear are those of a layer.
+-- Linear's moves are moves of a layer.
 use Rattle.std.proofs.Common.{◌≡◌, ℕ, List, [], ◌∷◌, Option, Some, None, refl, sym, ap, subst}
 use Rattle.std.specs.Prelude.{option_map}
 use Rattle.std.proofs.lemmas.List.{append-nil}
@@ -18,7 +18,7 @@ use Rattle.cc_linear_language.specs.Linear.{Configuration, does, linear_move, li
 use Rattle.cc_c_laws.specs.declared.mode.Mode.{Mode}
 use Rattle.cc_linear_language.specs.Pair.{KeepsUp, FollowsFunction}
 
--- a move that goes on, and one that calls, was made of something
+-- a move that goes on, or calls, was made from something
 tried_goes : {C X : Type 0} (x : Option X) (go : X → Moving C) (d : C) → tried x go ≡ Goes d → (y : X) × (x ≡ Some y) × (go y ≡ Goes d)
 tried_goes (Some y) go d e = (y, refl, e)
 tried_goes None go d e = absurd cc
@@ -33,7 +33,7 @@ GrowsTo world d = IsPrefixOf world.output d.world.output
 same_goes : (c d : Configuration) → Goes c ≡ Goes d → c ≡ d
 same_goes c d e = cc
 
--- what is written stays
+-- the output stays
 keeps : (world : World) (c d : Configuration) → c.world.output ≡ world.output → Goes c ≡ Goes d → GrowsTo world d
 keeps world c d same e = subst (GrowsTo world) (same_goes c d e) ([], rw same (append-nil world.output))
 
@@ -64,7 +64,7 @@ does_grows arity code (Read ∷ items) at world words d e = keeps world _ d refl
 does_grows arity code (Write ∷ items) at world words d e = subst (GrowsTo world) (same_goes _ d e) (_, refl)
 does_grows arity code (Return ∷ items) at world words d e = absurd cc
 
--- what a call hands over, and what is written when it has answered
+-- what a call hands over, and the output after its answer
 abbrev CallsWith : World → Question → (Answer → Configuration) → Type 0
 CallsWith world q resume = (q.world.output ≡ world.output) × ((a : Answer) → (resume a).world.output ≡ a.world.output)
 
@@ -103,7 +103,7 @@ is_layer arity code = record {
   resumes = λ c q resume e. (does_calls arity code c.items c.locations c.world c.words q resume e).1;
 }
 
--- what keeps up follows, at whatever rate
+-- code that keeps up follows, at whatever rate
 pub follows_of : (mode : Mode) (unit : List External) (f slots : ℕ) (code : List LinearItem) → KeepsUp mode unit f slots code → FollowsFunction mode unit f slots code
 follows_of mode unit f slots code (rate, keeps_up) meaning is opened below ws h call =
     all_follow meaning (linear_move meaning.arity code) linear_output (is_layer meaning.arity code) f rate (linear_start slots code) (keeps_up meaning is) opened below ws h call

@@ -1,2 +1,2 @@
--- the moves of Linear are those of a layer
+-- Linear's moves are moves of a layer
 pub mod Layer

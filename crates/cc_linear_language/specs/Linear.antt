@@ -14,7 +14,7 @@ use Rattle.cc_linear_language.specs.declared.item.LinearItem.TheVariants.{Label,
 
 -- ---- which functions there are
 
--- the labels that stand in a list
+-- the labels that are in a list
 abbrev pub labels : List LinearItem → List ℕ
 labels [] = []
 labels (Label label ∷ items) = label ∷ labels items
@@ -37,7 +37,7 @@ IsItem slots functions labels Read = Unit {0}
 IsItem slots functions labels Write = Unit {0}
 IsItem slots functions labels Return = Unit {0}
 
--- no label stands twice
+-- no label occurs twice
 pub record IsLinear (slots functions : ℕ) (items : List LinearItem) : Type 0 where
   pub few : slots ≤ most_slots
   pub distinct : AllPairs (λ (a b : ℕ). a ≢ b) (labels items)
@@ -45,7 +45,7 @@ pub record IsLinear (slots functions : ℕ) (items : List LinearItem) : Type 0 w
 
 -- ---- what one item does
 
--- where a run is: the items from the next one on, the words of the locations, what is shared, and the words that unknown locations
+-- the state of a run: the items from the next one on, the words of the locations, the shared world, and the words that unknown locations
 -- will hold
 pub record Configuration : Type 0 where
   pub items : List LinearItem
@@ -56,7 +56,7 @@ pub record Configuration : Type 0 where
 abbrev pub at_items : List LinearItem → Locations → World → (words : List ℕ) → Configuration
 at_items items at world words = record { items = items; locations = at; world = world; words = words }
 
--- the place of a label: the items from its first one on, and none where it does not stand
+-- the place of a label: the items from its first occurrence on, or no items if it does not occur
 abbrev pub place : List LinearItem → (label : ℕ) → List LinearItem
 place [] label = []
 place (Label other ∷ items) label = if other == label then Label other ∷ items else place items label
@@ -66,8 +66,8 @@ place (item ∷ items) label = place items label
 abbrev pub items_after_answer : List LinearItem → Locations → (words : List ℕ) → Answer → Configuration
 items_after_answer items at words a = at_items items (put result_location a.value (after_call words at)) a.world (left_after_call words)
 
--- The next item, in the whole code; `arity` says how many parameters each function has. A label is no move: what is done there is what
--- the item after it does. Behind the last item a run goes wrong, as where a jump leads to no place.
+-- The next item, in the whole code; `arity` says how many parameters each function has. A label is no move: the item after it is executed.
+-- A run goes wrong after the last item, and if a jump leads to no place.
 abbrev pub does : (arity : ℕ → ℕ) → (code : List LinearItem) → List LinearItem → Locations → World → (words : List ℕ) → Moving Configuration
 does arity code [] at world words = Fails
 does arity code (Label label ∷ items) at world words = does arity code items at world words
@@ -94,10 +94,10 @@ does arity code (Return ∷ items) at world words = Returns (record { value = at
 abbrev pub linear_move : (arity : ℕ → ℕ) → List LinearItem → Configuration → Moving Configuration
 linear_move arity code c = does arity code c.items c.locations c.world c.words
 
--- what is written so far
+-- what has been written so far
 abbrev pub linear_output : Configuration → List ℕ
 linear_output c = c.world.output
 
--- where the run of a function with this many slots begins
+-- the start of a run of a function with this many slots
 abbrev pub linear_start : (slots : ℕ) → List LinearItem → (words arguments : List ℕ) → World → Configuration
 linear_start slots code words arguments world = at_items code (at_entry slots words arguments) world (left_after_entry slots words)

@@ -28,11 +28,12 @@ pub record Pair : Type 0 where
 abbrev pub tree_of : Pair → List External
 tree_of p = (source p.unit).externals
 
--- how many blocks the LTL of a function may have
+-- the most blocks that the LTL of a function may have
 abbrev pub most_blocks : ℕ
 most_blocks = 4096
 
--- so does the run of the LTL: `KeepsUp` of `cc_validate`, said here again so that what stands on Linear need not wait for the validator
+-- so does the run of the LTL: this is `KeepsUp` of `cc_validate`, repeated here so that crates based on Linear need not wait for the
+-- validator
 abbrev pub LtlKeepsUp : Mode → List External → (function : ℕ) → Ltl → Type 0
 LtlKeepsUp mode unit f ltl = (rate : ℕ) × ((meaning : Meaning) → IsMeaning mode unit meaning → TracksForAll meaning f rate (ltl_move meaning.arity ltl) ltl_output (ltl_start ltl))
 

@@ -5,7 +5,7 @@ use crate::pair::LinearPair;
 use cc_ltl::Operation;
 use std::fmt;
 
-// An item that does what an operation of LTL does, as that operation.
+// The operation of LTL that does what an item does, if there is one.
 fn operation_of(item: LinearItem) -> Option<Operation> {
     let next = 0;
     match item {
@@ -64,8 +64,8 @@ fn operation_of(item: LinearItem) -> Option<Operation> {
     }
 }
 
-/// A label `3:`, a jump `jump 3`, a branch `branch x7 != 0 -> 3` or `branch x7 == 0 -> 3`, a move `x8 = slot0`; an operation as in LTL:
-/// `x7 = sub x8, x9`, `x7 = object0[x8]`, `call 3`, `return`.
+/// A label is `3:`, a jump `jump 3`, a branch `branch x7 != 0 -> 3` or `branch x7 == 0 -> 3`, a move `x8 = slot0`. An operation is as in
+/// LTL: `x7 = sub x8, x9`, `x7 = object0[x8]`, `call 3`, `return`.
 impl fmt::Display for LinearItem {
     fn fmt<W: fmt::Write>(&self, f: &mut fmt::Formatter<W>) -> fmt::Result {
         match self {
@@ -82,7 +82,7 @@ impl fmt::Display for LinearItem {
     }
 }
 
-/// The listing: a line with the function's number and how many slots it has, and a line for each item; all but labels are set in.
+/// The listing: a line with the function's number and its number of slots, and a line for each item. All items but labels are indented.
 impl fmt::Display for LinearPair {
     fn fmt<W: fmt::Write>(&self, f: &mut fmt::Formatter<W>) -> fmt::Result {
         let function = self.function();

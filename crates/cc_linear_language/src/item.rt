@@ -3,29 +3,29 @@
 use cc_ltl::{Move, Register};
 use cc_words::{Binary, Unary, Width};
 
-/// One item of a function's list. A label is no move of the run: what is done at it is what the next item does. A call takes its
-/// arguments in `x10` and up and gives its result in `x10`; a read gives its word there, a write and a return take theirs there.
+/// One item of a function's list. A label is no move of the run: at a label the next item is executed. A call takes its arguments in `x10`
+/// and up and puts its result in `x10`. A read puts its word in `x10`; a write and a return take theirs from there.
 #[derive(Clone, Copy)]
 pub enum LinearItem {
-    /// A place, where jumps and branches lead to.
+    /// A place to which jumps and branches lead.
     Label {
         label: u32,
     },
-    /// On at a label.
+    /// Goes on at a label.
     Jump {
         to: u32,
     },
-    /// On at a label where the register is not 0, else at the next item.
+    /// Goes on at a label if the register is not 0, else at the next item.
     IfNonzero {
         from: Register,
         to: u32,
     },
-    /// On at a label where the register is 0, else at the next item.
+    /// Goes on at a label if the register is 0, else at the next item.
     IfZero {
         from: Register,
         to: u32,
     },
-    /// A word goes from one location to another.
+    /// Moves a word from one location to another.
     Copy {
         between: Move,
     },

@@ -1,8 +1,8 @@
 //! Linear as a language: the code of a function as one list of moves and operations, with labels, jumps and branches.
 //!
-//! `item` has the items, `display` their text, `pair` the type that keeps that a function's Linear does what the function does. What one
-//! item does is defined in `specs/Linear.antt`. How Linear is made of LTL is the matter of `cc_linear`, so that what works on Linear need
-//! not wait for it, nor for the validator.
+//! `item` has the items, `display` their text, and `pair` the type that keeps the fact that a function's Linear does what the function
+//! does. `specs/Linear.antt` defines what one item does. `cc_linear` makes Linear from LTL; this crate is separate from it so that crates
+//! that work on Linear need not wait for it, nor for the validator.
 #![tactic(auto)]
 
 mod display;

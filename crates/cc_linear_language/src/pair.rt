@@ -1,4 +1,4 @@
-// The Linear of one function of a unit, with the fact that its run keeps up with the function.
+// The Linear of one function of a unit, together with the fact that its run keeps up with the function.
 
 ghost use Rattle.std.specs.Prelude.{◌≡◌, ◌<◌, ◌≤◌, length};
 ghost use Rattle.std.specs.Arc.{arc_value};
@@ -15,9 +15,9 @@ use cc_types::TypedUnit;
 use std::marker::Model;
 use std::sync::Arc;
 
-/// The Linear of one function of a typed unit. Contracts see the unit, the function's number, the LTL that was laid out and the items;
-/// that their run follows the function's meaning, whatever words nobody knows, belongs to the type, so nobody holds a pair of which it is
-/// not true.
+/// The Linear of one function of a typed unit. Contracts see the unit, the function's number, the LTL that was laid out and the items. The
+/// type carries the fact that their run follows the function's meaning, whatever the unknown words are, so no pair exists for which this is
+/// false.
 #[derive(Drop)]
 pub struct LinearPair {
     mode: Mode,
@@ -44,8 +44,8 @@ impl Model for LinearPair {
 }
 
 impl LinearPair {
-    /// The pair of a function whose LTL and Linear are proved to keep up with it: what the type keeps is asked for here. It
-    /// takes no memory.
+    /// The pair of a function whose LTL and Linear are proved to keep up with it: its `requires` asks for what the type keeps. It takes no
+    /// memory.
     pub fn new(
         mode: Mode,
         unit: Arc<TypedUnit>,
@@ -65,7 +65,7 @@ impl LinearPair {
         }
     }
 
-    /// What the code owes if the function goes wrong.
+    /// The mode: what the code owes if the function goes wrong.
     pub fn mode(&self) -> Mode
         ensures answer { result ≡ self.now.mode }
     {
@@ -87,7 +87,7 @@ impl LinearPair {
         self.function
     }
 
-    /// How many slots its frame has: at most 495, as many as the LTL.
+    /// The number of slots in its frame: at most 495, as many as the LTL has.
     pub fn slots(&self) -> u16
         ensures answer { result ≡ self.now.ltl.slots }
     {
@@ -104,8 +104,8 @@ impl LinearPair {
         &self.ltl
     }
 
-    /// The items. No label stands twice, and each that a jump or a branch leads to stands; each call is of a function of the unit. The
-    /// run keeps up with the function, and so follows it, for every list of words that locations may hold of which nobody knows.
+    /// The items. No label occurs twice, each label to which a jump or a branch leads is in the list, and each call is of a function of the
+    /// unit. The run keeps up with the function and so follows it, for every list of unknown words that locations may hold.
     pub fn code(&self) -> &[LinearItem]
         ensures code { result.now ≡ self.now.code }
         ensures typed { IsTyped (tree_of self.now) }
@@ -116,7 +116,7 @@ impl LinearPair {
         self.code.as_slice()
     }
 
-    /// The unit's owner and the LTL, for the piece.
+    /// The unit's owner and the LTL, from which the piece is made.
     pub fn into_parts(self) -> (Arc<TypedUnit>, Ltl)
         ensures unit { arc_value result.0 ≡ self.unit }
         ensures ltl { result.1 ≡ self.ltl }

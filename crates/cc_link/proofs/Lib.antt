@@ -1,25 +1,48 @@
 -- How an image is shown to agree with its text: a callee's instructions are counted by induction on the calls that are still allowed
 -- (CallsMeet); each call pays with its own jump for the first step of the function that it calls.
+-- steps that are counted make one run follow another
 pub mod Counting
+-- runs of the machine
 pub mod Machine
+-- the objects in memory, and what is loaded of them
 pub mod Laying
+-- calls of pieces do what the source's calls do
 pub mod CallsMeet
+-- pieces at their places as words, and the call of main
 pub mod Placing
+-- the image follows the source
 pub mod Image
+-- its stack is enough
 pub mod Enough
+-- the objects of a unit, and their elements
 pub mod Sizes
+-- the image agrees with the unit's text
 pub mod Agreeing
+-- what linking's answer says of pieces
 pub mod Linked
+-- the code: items that are filled in
 pub mod Filling
+-- elements keep the range of their width
 pub mod Constants
+-- the code: from what is seen of pieces to linking's answer
 pub mod Deciding
+-- the names of functions
 pub mod Names
+-- one piece of each function is refused for the size alone
 pub mod Own
+-- the code: pieces one after the other
 pub mod OneByOne
+-- the code: one piece more
 pub mod Ordering
+-- the code: what linking answers
 pub mod Answering
+-- a unit defines few functions
 pub mod Few
+-- the length of an LTL fits four bytes
 pub mod Short
+-- the certificate of a unit that was made
 pub mod Certified
+-- a unit that was made again is confirmed
 pub mod Confirming
+-- four bytes in a word
 pub mod Packing

@@ -1,5 +1,5 @@
--- What an audit says of a text, an image and a certificate, whoever made them.
-use Rattle.std.specs.Prelude.{◌≡◌, ℕ, List, length, Option, Some, None}
+-- What an audit says of a text, an image and a certificate, whoever made them, and which of the three it does not confirm.
+use Rattle.std.specs.Prelude.{◌≡◌, ℕ, ◌<◌, ◌⊎◌, List, length, Option, Some, None}
 use Rattle.cc_ast.specs.Tree.{External}
 use Rattle.cc_ast.specs.Parse.{SpellsText}
 use Rattle.cc_c_laws.specs.Meaning.{functions}
@@ -8,9 +8,15 @@ use Rattle.cc_c_laws.specs.declared.mode.Mode.TheVariants.{Plain}
 use Rattle.cc_rv32.specs.declared.image.Image.{Image}
 use Rattle.cc_link.specs.Agree.{Agree, AgreeIn}
 use Rattle.cc_link.specs.Certificate.{SpellsAll, EachKeepsUpIn}
+use Rattle.cc_link.specs.Compile.{IsNameAt, HasPieceIn, IsTooLargeIn}
 use Rattle.cc_link.specs.Made.{IsMadeIn}
+use Rattle.cc_link.specs.Text.{IsProgramText, IsTextRefusal, text_fault_number}
+use Rattle.cc_link.specs.Whole.{IsWholeIn}
+use Rattle.cc_link.specs.declared.compiled.Compilation.{Compilation}
 use Rattle.cc_link.specs.declared.audit_answer.Audit.{Audit}
 use Rattle.cc_link.specs.declared.audit_answer.Audit.TheVariants.{Confirmed, NoCertificate, Unconfirmed}
+use Rattle.cc_link.specs.declared.audit_answer.FailedPart.{FailedPart}
+use Rattle.cc_link.specs.declared.audit_answer.FailedPart.TheVariants as part
 
 -- The image agrees with the text. The certificate spells one function of LTL for each function of the text, and the run of each keeps up
 -- with its function: so its allocation is one that was shown to be right, and not any LTL beside a right image. And pieces that were
@@ -25,7 +31,7 @@ pub record IsConfirmedIn (mode : Mode) (text certificate : List ℕ) (image : Im
   pub keep_up : ∥ EachKeepsUpIn mode tree spells.ltls ∥₁
   pub made : IsMadeIn mode (record { source = text; image = image; certificate = Some certificate })
 
--- an audit says that there is no certificate exactly where there is none, and confirms only what is so
+-- an audit reports that the certificate is missing exactly if it is, and confirms only what is so
 abbrev pub AuditSaysIn : Mode → (text : List ℕ) → (certificate : Option (List ℕ)) → Image → Audit → Type 0
 AuditSaysIn mode text None image audit = audit ≡ NoCertificate
 AuditSaysIn mode text (Some certificate) image Confirmed = IsConfirmedIn mode text certificate image
@@ -35,3 +41,36 @@ AuditSaysIn mode text (Some certificate) image NoCertificate = ⊥
 -- of plain images
 abbrev pub AuditSays : (text : List ℕ) → (certificate : Option (List ℕ)) → Image → Audit → Type 0
 AuditSays text certificate image audit = AuditSaysIn Plain text certificate image audit
+
+-- ---- which part is not confirmed
+
+-- the text is a program's; the name of one of its functions begins at this offset and has this many bytes, and each function before it has a
+-- piece
+pub record IsFunctionAt (mode : Mode) (text : List ℕ) (at count : ℕ) : Type 0 where
+  pub tree : List External
+  pub is : IsProgramText text tree
+  pub function : ℕ
+  pub defined : function < length (functions tree)
+  pub name : IsNameAt tree function at count
+  pub earlier : (f : ℕ) → f < function → HasPieceIn mode text f
+
+-- the text compiles, and the unit has another certificate
+pub record HasOtherCertificate (mode : Mode) (text certificate : List ℕ) : Type 0 where
+  pub made : Compilation
+  pub whole : IsWholeIn mode text made
+  pub other : ¬ (made.unit.certificate ≡ Some certificate)
+
+-- the text compiles to a unit with this certificate, which has another image
+pub record HasOtherImage (mode : Mode) (text certificate : List ℕ) (image : Image) : Type 0 where
+  pub made : Compilation
+  pub whole : IsWholeIn mode text made
+  pub along : made.unit.certificate ≡ Some certificate
+  pub other : ¬ (made.unit.image ≡ image)
+
+-- The part that is named: the text as `parse` and `check` refuse it; a function of the program; or the certificate or the image only if another
+-- is made of the text.
+abbrev pub IsFailedPartIn : Mode → (text certificate : List ℕ) → Image → FailedPart → Type 0
+IsFailedPartIn mode text certificate image (part.Text fault) = IsTextRefusal text fault × ¬ (text_fault_number fault ≡ 40)
+IsFailedPartIn mode text certificate image (part.Function at count) = IsFunctionAt mode text at count
+IsFailedPartIn mode text certificate image part.Certificate = HasOtherCertificate mode text certificate
+IsFailedPartIn mode text certificate image part.Image = HasOtherImage mode text certificate image ⊎ IsTooLargeIn mode text

@@ -1,4 +1,6 @@
-// What an audit says.
+// What an audit says, and which part of a unit it does not confirm.
+
+use crate::text::TextFault;
 
 /// What an audit says.
 #[derive(Clone, Copy)]
@@ -9,4 +11,18 @@ pub enum Audit {
     NoCertificate,
     /// The certificate does not show it.
     Unconfirmed,
+}
+
+/// The part of a stored unit that is not what this compiler makes: the first, in this order.
+#[derive(Debug, Drop)]
+pub enum FailedPart {
+    /// The text: it is no program's.
+    Text(TextFault),
+    /// A function's certificate: it is missing or damaged, or does not show that the function has such code. The function's name begins in
+    /// the text at the offset `at` and has `length` bytes.
+    Function { at: usize, length: usize },
+    /// The certificate as a whole: it has another number of functions, or bytes that are left over.
+    Certificate,
+    /// The image: another one is made along the certificate, or one that is too large.
+    Image,
 }

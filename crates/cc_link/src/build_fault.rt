@@ -35,7 +35,7 @@ impl BuildFault {
         }
     }
 
-    /// Where in the text the fault stands, for 1 to 6 and 11 to 21.
+    /// The place in the text of the fault, for 1 to 6 and 11 to 21.
     pub fn place(&self) -> Option<Place>
         ensures { result ≡ build_fault_place self.now }
     {

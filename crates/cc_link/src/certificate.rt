@@ -1,4 +1,5 @@
-// The certificate of a unit: how many functions it has, and the LTL of each, behind its length. Here it is written, and taken apart.
+// The certificate of a unit: how many functions it has, then for each the length of its LTL and the LTL. Here it is written, and taken
+// apart.
 
 ghost use Rattle.std.specs.Prelude.{◌≡◌, ◌≤◌, ◌<◌, ◌^◌, ◌++◌, length, IfOk, OnOk};
 ghost use Rattle.cc_ltl.specs.Ltl.{IsLtl};
@@ -24,7 +25,7 @@ pub(crate) fn certificate(alloc: Global, pieces: &[&Piece]) -> Result<Certificat
     Ok(Certificate::new(bytes))
 }
 
-// Puts the LTL of a function behind others, behind its length.
+// Adds the length of a function's LTL, and the LTL.
 fn add_ltl(alloc: Global, bytes: &mut Vec<u8>, ltl: &Ltl) -> Result<(), AllocError>
     requires is_ltl { IsLtl ltl.now }
     requires few { length ltl.now.blocks ≤ most_blocks }
@@ -35,7 +36,7 @@ fn add_ltl(alloc: Global, bytes: &mut Vec<u8>, ltl: &Ltl) -> Result<(), AllocErr
     bytes.extend_from_slice(written.as_slice())
 }
 
-/// The bytes of the LTL that stands first, and the bytes behind it; none where its length or some of it is missing.
+/// The bytes of the first LTL, and those after it; none if its length or a part of it is missing.
 pub(crate) fn first_ltl(bytes: &[u8]) -> Option<(&[u8], &[u8])> {
     let (count, rest) = number_at(bytes)?;
     let count = count as usize;
@@ -45,7 +46,7 @@ pub(crate) fn first_ltl(bytes: &[u8]) -> Option<(&[u8], &[u8])> {
     Some((&rest[..count], &rest[count..]))
 }
 
-/// The number of four bytes that stands first, and the bytes behind it; none where some of it is missing.
+/// The number that the first four bytes spell, and the bytes after them; none if there are fewer.
 pub(crate) fn number_at(bytes: &[u8]) -> Option<(u32, &[u8])> {
     match bytes {
         [a, b, c, d, rest @ ..] => Some((u32::from_le_bytes([*a, *b, *c, *d]), rest)),

@@ -13,9 +13,10 @@ ghost use Rattle.cc_link.specs.Pieces.{AreFromIn};
 ghost use Rattle.cc_link.specs.Text.{IsProgramText};
 ghost use Rattle.cc_link.specs.Whole.{IsWholeIn};
 
+use crate::allocations::Allocations;
 use crate::build_fault::BuildFault;
 use crate::compiled::{Compilation, CompiledUnit};
-use crate::function::compile_function_in;
+use crate::function::compile_first_in;
 use crate::laws::linked_units_follow;
 use crate::linking::link_all_in;
 use crate::piece_fault::PieceFault;
@@ -38,11 +39,28 @@ pub fn compile_functions_in(
     ensures refused { IfErr result (λ fault. (f : ℕ) × (f < length (functions (source (arc_value unit.now)).externals)) × IsPieceRefusalIn mode (source (arc_value unit.now)).externals f fault
         × ((g : ℕ) → g < f → HasPieceIn mode (source (arc_value unit.now)).text g)) }
 {
+    pieces_by(alloc, mode, unit, Allocations::Chosen)
+}
+
+// The same by these allocations.
+fn pieces_by(
+    alloc: Global,
+    mode: Mode,
+    unit: &Arc<TypedUnit>,
+    allocations: Allocations<'_>,
+) -> Result<Vec<Piece>, PieceFault>
+    ensures count { IfOk result (λ pieces. length pieces.items ≡ length (functions (source (arc_value unit.now)).externals)) }
+    ensures own { IfOk result (λ pieces. AreFromIn mode (source (arc_value unit.now)).text 0 pieces.items) }
+    ensures compiled { IfOk result (λ pieces. All IsCompiled pieces.items) }
+    ensures refused { IfErr result (λ fault. (f : ℕ) × (f < length (functions (source (arc_value unit.now)).externals)) × IsPieceRefusalIn mode (source (arc_value unit.now)).externals f fault
+        × ((g : ℕ) → g < f → HasPieceIn mode (source (arc_value unit.now)).text g)) }
+{
+    let mut left = allocations;
     let mut pieces = Vec::new(alloc);
     let count = unit.functions();
     let _kept = unit.externals();
     for function in 0..count {
-        let piece = match compile_function_in(alloc, mode, unit, function) {
+        let piece = match compile_first_in(alloc, mode, unit, function, left) {
             Ok(piece) => piece,
             Err(fault) => return Err(fault),
         };
@@ -50,17 +68,23 @@ pub fn compile_functions_in(
         if pieces.push(piece).is_err() {
             return Err(PieceFault::OutOfMemory);
         }
+        left = left.rest();
     }
     Ok(pieces)
 }
 
-// A program compiled in a mode, whose tree this is.
-fn compile_unit(alloc: Global, mode: Mode, typed: Arc<TypedUnit>) -> Result<Compilation, BuildFault>
+// A program compiled in a mode by these allocations, whose tree this is.
+fn compile_unit(
+    alloc: Global,
+    mode: Mode,
+    typed: Arc<TypedUnit>,
+    allocations: Allocations<'_>,
+) -> Result<Compilation, BuildFault>
     requires { IsProgramText (source (arc_value typed)).text (source (arc_value typed)).externals }
     ensures whole { IfOk result (IsWholeIn mode (source (arc_value typed)).text) }
     ensures refused { IfErr result (λ fault. IsBuildRefusalIn mode (source (arc_value typed)).text fault) }
 {
-    let pieces = match compile_functions_in(alloc, mode, &typed) {
+    let pieces = match pieces_by(alloc, mode, &typed, allocations) {
         Ok(pieces) => pieces,
         Err(fault) => return Err(BuildFault::Piece(fault)),
     };
@@ -74,22 +98,35 @@ fn compile_unit(alloc: Global, mode: Mode, typed: Arc<TypedUnit>) -> Result<Comp
     }
 }
 
+/// Compiles a text in a mode by these allocations, and hands out with the unit what it was made of. It answers what `compile_in` does.
+pub(crate) fn compile_by(
+    alloc: Global,
+    mode: Mode,
+    text: &[u8],
+    allocations: Allocations<'_>,
+) -> Result<Compilation, BuildFault>
+    ensures whole { IfOk result (IsWholeIn mode text.now) }
+    ensures refused { IfErr result (λ fault. IsBuildRefusalIn mode text.now fault) }
+{
+    match typed_unit(alloc, text) {
+        Ok(typed) => compile_unit(alloc, mode, typed, allocations),
+        Err(fault) => Err(BuildFault::Text(fault)),
+    }
+}
+
 /// Compiles a text in a mode, and hands out with the unit what it was made of. It answers what `compile_in` does.
 pub fn compile_whole_in(alloc: Global, mode: Mode, text: &[u8]) -> Result<Compilation, BuildFault>
     ensures whole { IfOk result (IsWholeIn mode text.now) }
     ensures refused { IfErr result (λ fault. IsBuildRefusalIn mode text.now fault) }
 {
-    match typed_unit(alloc, text) {
-        Ok(typed) => compile_unit(alloc, mode, typed),
-        Err(fault) => Err(BuildFault::Text(fault)),
-    }
+    compile_by(alloc, mode, text, Allocations::Chosen)
 }
 
 /// Compiles a text in a mode: its source is the text, its image agrees with it, and on every input the run of the image follows what the
 /// program shows in the mode.
 ///
 /// Refusals: 1 to 7 and 11 to 21 exactly those of `typed_unit`; for a text without these 22 or 24 for the first function that has one, with
-/// its name, where each function before it has a piece; 25 where `link_in` refuses the pieces so; 40 where memory ran out.
+/// its name, if each function before it has a piece; 25 if `link_in` refuses the pieces so; 40 if memory ran out.
 pub fn compile_in(alloc: Global, mode: Mode, text: &[u8]) -> Result<CompiledUnit, BuildFault>
     ensures source { IfOk result (λ unit. unit.source ≡ text.now) }
     ensures agrees { IfOk result (λ unit. Agree text.now unit.image) }

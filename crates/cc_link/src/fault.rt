@@ -15,7 +15,7 @@ pub enum LinkFault {
     /// 26: the function has no piece.
     #[error("Missing")]
     Missing { function: usize },
-    /// 27: the piece at this place is of a function of which one came before.
+    /// 27: an earlier piece is of the same function as the piece at this place.
     #[error("Doubled")]
     Doubled { function: usize, at: usize },
     /// 28: the piece at this place is of a unit with another text.

@@ -32,7 +32,7 @@ fn word_at(bytes: &[u32], at: usize) -> u32
     low + 65536 * high
 }
 
-// Puts bytes behind words, four in each.
+// Adds bytes to words, four in each.
 fn add_packed(words: &mut Vec<u32>, bytes: &[u32]) -> Result<(), AllocError>
     requires { AreBytes bytes.now }
     ensures { OnOk result (words.new.items ≡ words.old.items ++ packed_bytes bytes.now) }
@@ -43,7 +43,7 @@ fn add_packed(words: &mut Vec<u32>, bytes: &[u32]) -> Result<(), AllocError>
     Ok(())
 }
 
-// Puts an object's words behind others.
+// Adds an object's words.
 fn add_object(alloc: Global, words: &mut Vec<u32>, tree: &Object) -> Result<(), AllocError>
     ensures { OnOk result (words.new.items ≡ words.old.items ++ object_image (object_tree tree.now)) }
 {
@@ -75,7 +75,7 @@ fn add_external(alloc: Global, words: &mut Vec<u32>, tree: &External) -> Result<
     }
 }
 
-/// The words of all objects in an image, one object behind the other.
+/// The words of all objects in an image, one object after the other.
 pub fn image_words(alloc: Global, trees: &[External]) -> Result<Vec<u32>, AllocError>
     ensures { IfOk result (λ words. words.items ≡ image_words (objects (external_trees trees.now))) }
 {

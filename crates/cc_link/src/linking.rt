@@ -1,7 +1,7 @@
 // From the pieces of a unit's functions to the unit that the library keeps.
 //
-// Pieces come in any order. First it is seen that there is one of each function, and that all are of this text; then what stands where
-// depends on nothing but the functions' items in the order of definitions.
+// Pieces come in any order. First it is seen that there is one of each function, and that all are of this text. Then all places depend on
+// nothing but the functions' items in the order of definitions.
 
 ghost use Rattle.std.specs.Prelude.{◌≡◌, ◌⊎◌, ◌≤◌, ◌<◌, ◌^◌, Some, Ok, Err, All, length, IfOk, IfErr};
 ghost use Rattle.std.specs.Arc.{arc_value};
@@ -159,7 +159,7 @@ pub fn link_in(
 /// of each function.
 ///
 /// Refusals, in this order: 28 for the first piece whose unit has another text; 27 for the first piece whose function came before; 26
-/// for the least function without a piece; 25 where the image would have more than 131,072 words of code. 40 where memory ran out.
+/// for the least function without a piece; 25 if the image would have more than 131,072 words of code. 40 if memory ran out.
 pub fn link_lent(
     alloc: Global,
     unit: &Arc<TypedUnit>,

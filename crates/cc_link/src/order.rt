@@ -1,4 +1,4 @@
-// Which piece is of which function: the refusals 28, 27 and 26, and the functions' pieces in the order of definitions.
+// The piece of each function: the refusals 28, 27 and 26, and the functions' pieces in the order of definitions.
 //
 // There are at most 64 functions, so a piece that is looked for is found by going over all of them.
 
@@ -74,7 +74,7 @@ fn came(pieces: &[&Piece], function: usize) -> bool
     false
 }
 
-/// 27 for the first piece of a function of which a piece came before.
+/// 27 for the first piece whose function has an earlier piece.
 pub(crate) fn doubled(pieces: &[&Piece]) -> Option<LinkFault>
     ensures { result ≡ doubled [] 0 (lent_pieces pieces.now) }
 {

@@ -37,7 +37,7 @@ impl TextFault {
         }
     }
 
-    /// Where in the text the fault stands, for 1 to 6 and 11 to 21.
+    /// The place in the text of the fault, for 1 to 6 and 11 to 21.
     pub fn place(&self) -> Option<Place>
         ensures { result ≡ text_fault_place self.now }
     {
@@ -50,7 +50,7 @@ impl TextFault {
 
 /// The program of a text: the text with the tree that it spells, which breaks no rule and passes no limit.
 ///
-/// Refusals: those of `parse`, 1 to 7, and for a text that has a tree those of `check`, 11 to 21; 40 where memory ran out.
+/// Refusals: those of `parse`, 1 to 7, and for a text that has a tree those of `check`, 11 to 21; 40 if memory ran out.
 pub fn typed_unit(alloc: Global, text: &[u8]) -> Result<Arc<TypedUnit>, TextFault>
     ensures fits { IfOk result (λ _. length text.now ≤ most_bytes) }
     ensures text { IfOk result (λ unit. (source (arc_value unit)).text ≡ text.now) }

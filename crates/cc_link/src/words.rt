@@ -1,6 +1,6 @@
 // The words of an image's code: each item is filled in at its address.
 //
-// A function's items become words one after the other; only where calls and jumps lead depends on where it stands, and all lies so
+// A function's items become words one after the other. Only the distances of calls and jumps depend on the function's place, and all lies so
 // near that every distance fits a jump.
 
 ghost use Rattle.std.specs.Prelude.{◌≡◌, ◌+◌, ◌-◌, ◌%◌, ◌^◌, ◌<◌, ◌≤◌, ◌++◌, ◌↔◌, length, slice_index, IsTrue, IfOk, OnOk};
@@ -16,7 +16,7 @@ use cc_rv32::map::CODE_FROM;
 use cc_rv32::operand::{Immediate, JumpOffset, Register};
 use std::alloc::{AllocError, Global};
 
-// How many words stand before the functions, and where those begin.
+// How many words come before the functions, and the address at which those begin.
 const HEAD_WORDS: usize = 3;
 
 const FUNCTIONS_FROM: u32 = CODE_FROM + 12;
@@ -35,7 +35,7 @@ pub(crate) fn fits(bodies: &[&[PieceItem]]) -> bool
     true
 }
 
-/// Where the functions stand, in their order.
+/// The places of the functions, in their order.
 fn places(alloc: Global, bodies: &[&[PieceItem]]) -> Result<Vec<u32>, AllocError>
     requires { code_words (lent bodies.now) ≤ most_code }
     ensures { IfOk result (λ places. places.items ≡ places_from FUNCTIONS_FROM (lent bodies.now)) }
@@ -58,7 +58,7 @@ fn distance(at: u32, to: u32) -> JumpOffset
     JumpOffset::new(to.wrapping_sub(at))
 }
 
-// The instruction that an item becomes at an address, in a function that stands at `place`.
+// The instruction that an item becomes at an address, in a function at `place`.
 fn instruction(places: &[u32], place: u32, at: u32, item: PieceItem) -> Instr
     requires at { IsPlace at }
     requires leads { Leads places.now place item }
@@ -77,7 +77,7 @@ fn instruction(places: &[u32], place: u32, at: u32, item: PieceItem) -> Instr
     }
 }
 
-/// Puts the words of a function that stands at `place` behind others.
+/// Adds the words of a function at `place`.
 fn add_function(
     words: &mut Vec<u32>,
     places: &[u32],
@@ -96,7 +96,7 @@ fn add_function(
     Ok(())
 }
 
-/// Puts the words of all functions behind others.
+/// Adds the words of all functions.
 fn add_functions(
     words: &mut Vec<u32>,
     places: &[u32],
@@ -114,7 +114,7 @@ fn add_functions(
     Ok(())
 }
 
-/// Puts the head's words behind others: the call of `main`, and the exit with its word.
+/// Adds the head's words: the call of `main`, and the exit with its word.
 fn add_head(words: &mut Vec<u32>, places: &[u32], main: usize) -> Result<(), AllocError>
     requires places { ArePlaces places.now }
     requires main { main < length places.now }
@@ -133,7 +133,7 @@ fn add_head(words: &mut Vec<u32>, places: &[u32], main: usize) -> Result<(), All
     Ok(())
 }
 
-// How many words the code of the functions takes, the head with it. That decides how much memory is taken at once, and nothing else.
+// How many words the code of the functions takes, the head with it. Nothing but the memory that is taken at once depends on it.
 fn room(bodies: &[&[PieceItem]]) -> usize {
     let mut words = HEAD_WORDS;
     for items in bodies {
@@ -142,7 +142,7 @@ fn room(bodies: &[&[PieceItem]]) -> usize {
     words
 }
 
-/// The code of the functions, of which number `main` is called first.
+/// The code of the functions; that with number `main` is called first.
 pub(crate) fn code(alloc: Global, main: usize, bodies: &[&[PieceItem]]) -> Result<Code, AllocError>
     requires main { main < length bodies.now }
     requires few { code_words (lent bodies.now) ≤ most_code }

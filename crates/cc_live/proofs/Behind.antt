@@ -1,4 +1,4 @@
--- What is live behind a node, of one live sets and of more; and whether a result is read, by a row that holds the same.
+-- What is live after a node by some live sets and by larger ones; and whether a result is read, by a row that holds the same.
 use Rattle.std.proofs.Common.{◌≡◌, ℕ, zero, suc, List, [], ◌∷◌, refl, ap, ◌∙◌, Bool, true, false, ◌&&◌, not, IsTrue, arith, inl, inr, Contains}
 use Rattle.std.specs.Prelude.{Option, Some, None}
 use Rattle.std.proofs.lemmas.Bool.{or_cases, or_left, or_right}
@@ -23,7 +23,7 @@ one_in live [] s r (k, l, e) h = absurd (omega arith)
 one_in live (t ∷ ss) s r (zero, l, e) h = or_left (live t r) (in_some live ss r) (ap (λ x. live x r) e ∙ h)
 one_in live (t ∷ ss) s r (suc k, l, e) h = or_right (live t r) (in_some live ss r) (one_in live ss s r (k, omega arith, e) h)
 
--- more live sets have more behind a node
+-- larger live sets have more after a node
 pub behind_less : (live other : Sets) → LieWithin live other → (n : Node) (r : ℕ) → IsTrue (live_behind live n r) → IsTrue (live_behind other n r)
 behind_less live other less n r h = let s = in_one live (successors n) r h in one_in other (successors n) s.0 r s.1 (less s.0 r s.2)
 
@@ -33,7 +33,7 @@ not_less : (a b : Bool) → (IsTrue a → IsTrue b) → not a ≡ false → not 
 not_less true b h e = ap not (h refl)
 not_less false b h e = absurd cc
 
--- where more is held a result that was read is read
+-- a result that was read stays read if more is held
 pub read_behind_less : (live other : Sets) (n : Node) → ((r : ℕ) → IsTrue (live_behind live n r) → IsTrue (live_behind other n r)) → is_dead live n ≡ false → is_dead other n ≡ false
 read_behind_less live other n h = go (pure_result n)
   where
@@ -49,7 +49,7 @@ read_less row other n true h e = go (pure_result n) e
     go None f = refl
     go (Some to) f = not_less (holds row to) (live_behind other n to) (h to) f
 
--- where the same is held
+-- the same if the same is held
 pub read_same : (row : List ℕ) (live : Sets) (n : Node) → ((r : ℕ) → holds row r ≡ live_behind live n r) → is_unread row (pure_result n) ≡ is_dead live n
 read_same row live n h = go (pure_result n)
   where

@@ -1,4 +1,4 @@
--- A function whose dead nodes became nops: live sets of it, the labels of these nodes, and that by the least strongly live sets no node is
+-- A function whose dead nodes became nops: its live sets, the labels of these nodes, and that by the least strongly live sets no node is
 -- dead any more.
 use Rattle.std.proofs.Common.{◌≡◌, ◌≢◌, ℕ, zero, suc, ◌<◌, List, [], ◌∷◌, get_or, refl, sym, ap, ◌∙◌, subst, Bool, true, false, ◌==◌, ◌&&◌, ◌||◌, not, if◌then◌else◌, IsTrue, arith, inl, inr, Contains, All}
 use Rattle.std.specs.Prelude.{Some, None, IsSome}
@@ -29,7 +29,7 @@ are_strongly ns live h label node e = let c = h label node e in record { needed 
 -- ---- strongly live sets are live where the dead nodes are nops
 
 module _ (live : Sets) (own : ℕ → Bool) where
-  -- a nop in place of a node whose result is not live behind it
+  -- a nop in place of a node whose result is not live after it
   nop_carries : (to next : ℕ) → IsTrue (not (in_some live (next ∷ []) to)) → ((r : ℕ) → IsTrue (in_some live (next ∷ []) r) → Some to ≢ Some r → IsTrue (own r)) → Carries live (Nop next) own
   nop_carries to next unread inherited = record {
     needed = λ r i. absurd (let l = i.1 in omega arith);
@@ -61,7 +61,7 @@ live_without ns live h label node e =
 
 -- ---- the labels of dead nodes
 
--- a label in front of the others is none of theirs
+-- a label below all others is not the label of any of them
 below_each : (l : ℕ) (ns : List Labelled) (n : Labelled) → IsBelowFirst l ns → Ascend ns → Contains ns n → l < n.label
 below_each l [] n b a (k, lt, e) = absurd (omega arith)
 below_each l (m ∷ ns) n b a (zero, lt, e) = subst (λ (x : Labelled). l < x.label) e b
@@ -79,7 +79,7 @@ none_among live l (m ∷ ns) b a = go (is_dead live m.node) (none_among live l n
     go true rest = ap (λ x. x || among (dead_labels live ns) l) (ne_eqb m.label l (λ e. let f : l < m.label = b in absurd (omega arith))) ∙ rest
     go false rest = rest
 
--- among them is a node's label exactly where it is dead
+-- a node's label is among them exactly if the node is dead
 pub among_dead : (live : Sets) (ns : List Labelled) (n : Labelled) → Ascend ns → Contains ns n → among (dead_labels live ns) n.label ≡ is_dead live n.node
 among_dead live [] n a (k, lt, e) = absurd (omega arith)
 among_dead live (m ∷ ns) n a (zero, lt, e) = subst (λ (x : Labelled). among (dead_labels live (m ∷ ns)) x.label ≡ is_dead live x.node) e (go (is_dead live m.node))
@@ -119,7 +119,7 @@ may_go live ns a h = record {
       or_right (is_nop node) (is_dead live node) (sym d ∙ i);
 }
 
--- ---- what is left when all that nobody needs has gone
+-- ---- what is left without all that nobody needs
 
 none_apart : (r : ℕ) → None ≢ Some r
 none_apart r e = absurd (let z : None ≡ Some r = e in cc)
@@ -143,7 +143,7 @@ result_turned : (b : Bool) (n : Node) (r : ℕ) → result n ≢ Some r → resu
 result_turned true n r d = result_nop n r d
 result_turned false n r d = d
 
--- what both hold
+-- what both sets hold
 abbrev pub both : Sets → Sets → Sets
 both live other label r = live label r && other label r
 
@@ -151,7 +151,7 @@ module _ (ns : List Labelled) (live other : Sets) (strong : AreStronglyLive ns l
   less : LieWithin (both live other) live
   less label r h = (and_parts (live label r) (other label r) h).0
 
-  -- live sets of what is left, and the strongly live ones: what both hold is strongly live
+  -- live sets of what is left, intersected with the strongly live ones, are strongly live
   pub both_strongly : AreStronglyLive ns (both live other)
   both_strongly label node e =
       let mine = strong label node e in
@@ -193,7 +193,7 @@ position_without : (which : Which) (ns : List Labelled) (label : ℕ) → positi
 position_without which [] label = refl
 position_without which (n ∷ ns) label = ap (λ p. if n.label == label then 0 else suc p) (position_without which ns label)
 
--- sets that hold the same are least live where one of them is
+-- sets that hold the same as least live ones are least live
 same_least : (ns : List Labelled) (live same : Sets) → LieWithin live same → LieWithin same live → AreLeastLive ns live → AreLeastLive ns same
 same_least ns live same there back h = record {
   are_live = λ label node e. let c = h.are_live label node e in record {

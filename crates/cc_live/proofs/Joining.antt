@@ -1,4 +1,5 @@
--- A row that holds what either of two hold is their join; where one lies within the other that one is; else less is missing in it.
+-- A row that holds what either of two rows holds is their join. If one lies within the other, the join is the other; else the join lacks
+-- less.
 use Rattle.std.proofs.Common.{◌≡◌, ◌∙◌, ℕ, ◌*◌, ◌<◌, ◌≤◌, List, length, sym, ◌||◌, IsTrue, IsFalse, arith}
 use Rattle.std.proofs.lemmas.Bool.{or_left, or_right}
 use Rattle.cc_flow.specs.Lattice.{Equivalent}

@@ -1,4 +1,4 @@
--- The nodes as the code walks over them: each leads to nodes, and the labels of dead ones are listed in their order.
+-- The nodes as the code walks over them: each leads to nodes, and the labels of the dead ones are listed in their order.
 use Rattle.std.proofs.Common.{◌≡◌, ℕ, ◌+◌, ◌<◌, List, [], ◌∷◌, ◌++◌, length, take, get_or, sym, ap, ◌∙◌, subst, Bool, true, false, if◌then◌else◌, All}
 use Rattle.std.specs.Prelude.{Some, IsSome, slice_get}
 use Rattle.std.proofs.lemmas.Option.{slice_get_within, get_or_from_slice_get}
@@ -8,7 +8,7 @@ use Rattle.cc_rtl_language.specs.Live.{Sets, is_dead}
 use Rattle.cc_rtl_language.proofs.Places.{lead_inside}
 use Rattle.cc_live.specs.internal.Dead.{dead_labels}
 
--- ---- one node more behind others
+-- ---- one more node at the end
 
 dead_push : (live : Sets) (ns : List Labelled) (n : Labelled) → is_dead live n.node ≡ true → dead_labels live (ns ++ n ∷ []) ≡ dead_labels live ns ++ n.label ∷ []
 dead_push live [] n d = ap (λ b. if b then n.label ∷ [] else []) d
@@ -28,7 +28,7 @@ alive_push live (m ∷ ns) n d = go (is_dead live m.node) (alive_push live ns n 
     go true rest = ap (λ ls. m.label ∷ ls) rest
     go false rest = rest
 
--- ---- one position more
+-- ---- one more position
 
 module _ (ns : List Labelled) (i : ℕ) (n : Labelled) (item : slice_get ns i ≡ Some n) where
   within : i < length ns

@@ -1,5 +1,5 @@
--- The solution that lies below every other is the least live sets: what comes back to a node is what the node reads and what is live behind
--- it; and other live sets, cut down to the registers that some node reads, are a solution too.
+-- The solution that lies below every other one is the least live sets: what arrives at a node is what the node reads and what is live after
+-- it. And other live sets, cut down to the registers that some node reads, are a solution too.
 use Rattle.std.proofs.Common.{◌≡◌, ℕ, ◌<◌, List, [], ◌∷◌, length, map, get_or, refl, sym, ap, ◌∙◌, subst, Bool, true, false, ◌&&◌, ◌||◌, IsTrue, arith, inl, inr}
 use Rattle.std.specs.Prelude.{Option, Some, None, IsSome, slice_get}
 use Rattle.std.proofs.lemmas.Option.{slice_get_within, slice_get-get_or}
@@ -18,7 +18,7 @@ use Rattle.cc_live.specs.internal.Holding.{holds-either, in_those, those_in, wit
 use Rattle.cc_live.proofs.Behind.{in_one, one_in, read_less, read_same}
 use Rattle.cc_live.proofs.Nodes.{nobody, carries_at, row_at, label_at, label_of_position, all_reads, read_among}
 
--- the facts of labels
+-- facts as sets of labels
 abbrev by_label : (facts : ℕ → List ℕ) → List Labelled → Sets
 by_label facts ns label = holds (facts (position_of ns label))
 
@@ -32,7 +32,7 @@ holds-joined facts ns (s ∷ ss) r =
 abbrev SolvesBy : Bool → List Labelled → (ℕ → List ℕ) → Type 0
 SolvesBy strong ns facts = Solves Below nothing either (carries strong ns) (graph_of ns) facts
 
--- what is joined behind a position
+-- the join after a position
 abbrev behind : List Labelled → (ℕ → List ℕ) → (position : ℕ) → List ℕ
 behind ns facts i = joined nothing either facts (successors_of (graph_of ns) i)
 
@@ -67,7 +67,7 @@ cut : List Labelled → Sets → ℕ → List ℕ
 cut ns other i = those (other (label_at ns i)) (bound ns)
 
 module _ (strong : Bool) (rtl : Rtl) (is : IsRtl rtl) (other : Sets) (live : AreLiveAs strong rtl.nodes other) where
-  -- what is behind a node by them is live behind it, and is read by some node
+  -- what these sets have after a node is live after it, and is read by some node
   held : (i : ℕ) (n : Labelled) → slice_get rtl.nodes i ≡ Some n → node_at rtl.nodes n.label ≡ Some n.node → (r : ℕ) → IsTrue (holds (behind rtl.nodes (cut rtl.nodes other) i) r) → IsTrue (live_behind other n.node r) × IsTrue (holds (bound rtl.nodes) r)
   unfolding cut
   held i n e here r h =

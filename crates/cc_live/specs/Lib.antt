@@ -2,5 +2,5 @@
 pub mod Rows
 -- The least live sets, strongly live sets, and a function without dead nodes.
 pub mod Liveness
--- What private contracts and proofs speak of.
+-- Definitions for private contracts and proofs.
 pub mod internal

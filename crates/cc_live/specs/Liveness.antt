@@ -14,7 +14,7 @@ pub record AreLeastLive (nodes : List Labelled) (live : Sets) : Type 0 where
 
 -- ---- strongly live (Giegerich, Moencke and Wilhelm, "Invariance of approximate semantics with respect to program transformations", 1981)
 
--- as of live sets, but a dead node needs nothing of what it reads
+-- as for live sets, but a dead node needs nothing of what it reads
 pub record CarriesStrongly (live : Sets) (node : Node) (own : ℕ → Bool) : Type 0 where
   pub needed : is_dead live node ≡ false → (r : ℕ) → Contains (reads node) r → IsTrue (own r)
   pub inherited : (r : ℕ) → IsTrue (live_behind live node r) → result node ≢ Some r → IsTrue (own r)
@@ -28,18 +28,18 @@ pub record AreLeastStronglyLive (nodes : List Labelled) (live : Sets) : Type 0 w
 
 -- ---- dead nodes
 
--- the function with its dead nodes as nops
+-- the function with nops in place of its dead nodes
 abbrev pub without_dead : Sets → Rtl → Rtl
 without_dead live rtl = record rtl { nodes = with_nops (λ label node. is_dead live node) rtl.nodes }
 
--- What is left of a function when all that nobody needs has gone: exactly those of its nodes are nops that are dead by its least strongly
--- live sets, which are then the least live sets of what is left.
+-- What is left of a function without all that nobody needs: its nodes that are dead by its least strongly live sets, and only those, are
+-- nops. These sets are then the least live sets of what is left.
 pub record IsWithoutFaint (old new : Rtl) : Type 0 where
   pub live : Sets
   pub strongly : AreLeastStronglyLive old.nodes live
   pub is : new ≡ without_dead live old
   pub least : AreLeastLive new.nodes live
 
--- no node is dead, whichever live sets are asked
+-- no node is dead, by any live sets
 abbrev pub NothingIsDead : Rtl → Type 0
 NothingIsDead rtl = (live : Sets) → AreLive rtl.nodes live → (label : ℕ) (node : Node) → node_at rtl.nodes label ≡ Some node → is_dead live node ≡ false

@@ -5,6 +5,6 @@ use Rattle.cc_rtl_language.specs.Positions.{position_of}
 use Rattle.cc_rtl_language.specs.Live.{Sets}
 use Rattle.cc_bits.specs.Rows.{holds}
 
--- rows beside the nodes of a function, as a set for each label; none is live at a label without a node
+-- rows beside the nodes of a function, as a set for each label; no register is live at a label without a node
 abbrev pub rows_at : List Labelled → (rows : List (List ℕ)) → Sets
 rows_at nodes rows label = holds (get_or rows (position_of nodes label) [])

@@ -1,4 +1,4 @@
--- Rows as facts, and what a node makes of one.
+-- Rows as facts, and the step over a node.
 pub mod Facts
 -- What a row holds.
 pub mod Holding

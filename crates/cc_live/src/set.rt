@@ -1,7 +1,6 @@
 // Sets of registers, as rows of bits: register r is bit r % 64 of word r / 64.
 
 ghost use Rattle.std.specs.Prelude.{◌≡◌, ℕ, ◌==◌, ◌||◌, ◌&&◌, not, IfOk, IfErr};
-ghost use Rattle.cc_flow.specs.Lattice.{Equivalent};
 ghost use Rattle.cc_bits.specs.Rows.{holds};
 ghost use Rattle.cc_live.specs.internal.Facts.{Below, nothing, either};
 ghost use Rattle.cc_live.specs.internal.Room.{room as room_of, height as height_of, bounded as room_bounded};
@@ -30,7 +29,7 @@ impl Model for RegisterSet {
 }
 
 impl RegisterSet {
-    /// Its words: register r is bit r % 64 of word r / 64, and none past their end is in the set.
+    /// Its words: register r is bit r % 64 of word r / 64. No register past their end is in the set.
     pub fn words(&self) -> &[u64]
         ensures { result.now ≡ self.now }
     {
@@ -44,7 +43,7 @@ impl RegisterSet {
         self.row.contains(register as usize)
     }
 
-    /// The same set once more.
+    /// A copy of the set.
     pub(crate) fn copy(&self, alloc: Global) -> Result<RegisterSet, AllocError>
         ensures { IfOk result (λ made. made ≡ self.now) }
     {
@@ -53,7 +52,7 @@ impl RegisterSet {
         })
     }
 
-    /// Puts a register in. Without memory the set stays as it was.
+    /// Adds a register. If memory runs out, the set stays as it was.
     pub(crate) fn insert(&mut self, register: u32) -> Result<(), AllocError>
         ensures added { IfOk result (λ _. (r : ℕ) → holds self.new r ≡ (register == r || holds self.old r)) }
         ensures leaves { IfErr result (λ _. self.new ≡ self.old) }
@@ -62,7 +61,7 @@ impl RegisterSet {
         Ok(())
     }
 
-    /// Takes a register out.
+    /// Removes a register.
     pub(crate) fn remove(&mut self, register: u32)
         ensures { (r : ℕ) → holds self.new r ≡ (holds self.old r && not (register == r)) }
     {
@@ -75,7 +74,7 @@ pub struct Liveness {
     sets: Vec<RegisterSet>,
 }
 
-// By hand, so that crates above call it and do not prove anew how each part is dropped.
+// Written by hand, so that crates above call it and need not prove again how each part is dropped.
 impl Drop for Liveness {
     fn drop(self) {
         let Liveness { sets } = self;
@@ -91,14 +90,14 @@ impl Model for Liveness {
 }
 
 impl Liveness {
-    /// These sets.
+    /// These live sets, one for each node.
     pub(crate) fn new(sets: Vec<RegisterSet>) -> Liveness
         ensures { result ≡ sets.items }
     {
         Liveness { sets }
     }
 
-    /// The sets, each beside its node.
+    /// The sets, in the order of the nodes.
     pub fn as_slice(&self) -> &[RegisterSet]
         ensures { result.now ≡ self.now }
     {

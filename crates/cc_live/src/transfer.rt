@@ -1,4 +1,4 @@
-// What a node makes of the registers that are live behind it, and what the solver makes of that.
+// The step from the registers that are live after a node to those before it, and what the solver makes of it.
 
 ghost use Rattle.std.specs.Prelude.{◌≡◌, ℕ, ◌||◌, ◌&&◌, ◌↔◌, not, length, IsTrue, IfOk};
 ghost use Rattle.cc_rtl_language.specs.Code.{node_of};
@@ -13,7 +13,7 @@ use cc_flow::{Facts, Transfer, solve_backward};
 use cc_rtl_language::{Node, Rtl};
 use std::alloc::{AllocError, Global};
 
-/// The nodes of a function, of which dead ones need nothing where that is asked (`strong`).
+/// The nodes of a function. With `strong`, dead nodes need nothing of what they read.
 #[derive(Drop)]
 pub struct Code<'a> {
     pub rtl: &'a Rtl,
@@ -38,7 +38,7 @@ impl<'a> Transfer<RegisterSet> for Code<'a> {
     ghost monotone = { λ c. carries_up c.strong c.rtl.now.nodes };
 }
 
-/// What is live in front of a node, of what is live behind it.
+/// What is live before a node, from what is live after it.
 fn live_before(
     alloc: Global,
     strong: bool,
@@ -56,7 +56,7 @@ fn live_before(
     Ok(before)
 }
 
-/// Takes out the register that gets a node's result.
+/// Removes the register that gets a node's result.
 fn drop_result(before: &mut RegisterSet, node: &Node)
     ensures { (r : ℕ) → holds before.new r ≡ (holds before.old r && not (is_result (result_of (node_of node.now)) r)) }
 {
@@ -65,7 +65,7 @@ fn drop_result(before: &mut RegisterSet, node: &Node)
     }
 }
 
-/// Whether a node needs nothing of what it reads: where that is asked, a pure one whose result is not live behind it.
+/// Whether a node needs nothing of what it reads: with `strong`, a pure one whose result is not live after it.
 fn is_left_out(strong: bool, node: &Node, behind: &RegisterSet) -> bool
     ensures { result ≡ (strong && is_unread behind.now (pure_result_of (node_of node.now))) }
 {
@@ -78,7 +78,7 @@ fn is_left_out(strong: bool, node: &Node, behind: &RegisterSet) -> bool
     }
 }
 
-/// The register of a pure node, which does nothing but put a word into it.
+/// The register that a pure node writes. A pure node does nothing else.
 fn pure_result(node: &Node) -> Option<u32>
     ensures { result ≡ pure_result_of (node_of node.now) }
 {
@@ -103,7 +103,7 @@ fn result(node: &Node) -> Option<u32>
     }
 }
 
-/// Puts in what a node reads.
+/// Adds what a node reads.
 fn add_reads(before: &mut RegisterSet, node: &Node) -> Result<(), AllocError>
     ensures { IfOk result (λ _. (r : ℕ) → holds before.new r ≡ (among (reads (node_of node.now)) r || holds before.old r)) }
 {
@@ -121,7 +121,7 @@ fn add_reads(before: &mut RegisterSet, node: &Node) -> Result<(), AllocError>
     }
 }
 
-/// Puts some registers in.
+/// Adds some registers.
 fn add_all(before: &mut RegisterSet, registers: &[u32]) -> Result<(), AllocError>
     ensures { IfOk result (λ _. (r : ℕ) → holds before.new r ≡ (among registers.now r || holds before.old r)) }
 {
@@ -131,7 +131,7 @@ fn add_all(before: &mut RegisterSet, registers: &[u32]) -> Result<(), AllocError
     Ok(())
 }
 
-/// The least live sets of a function, one for each node; strongly live ones where that is asked.
+/// The least live sets of a function, one for each node; with `strong`, the least strongly live sets. Err: memory ran out.
 pub fn solve(alloc: Global, rtl: &Rtl, strong: bool) -> Result<Vec<RegisterSet>, AllocError>
     ensures long { IfOk result (λ sets. length sets.items ≡ length rtl.now.nodes) }
     ensures least { IfOk result (λ sets. AreLeastAs strong rtl.now.nodes (rows_at rtl.now.nodes sets.items)) }

@@ -1,3 +1,4 @@
--- Bodies that spell one command more (Reading), and lines that follow one another (Writing).
+-- Bodies that spell one more command.
 pub mod Reading
+-- Lines that follow one another.
 pub mod Writing

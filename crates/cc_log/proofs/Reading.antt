@@ -1,4 +1,4 @@
--- Bodies spell one list of commands at most, and one more body spells one more command.
+-- Bodies spell at most one list of commands, and one more body spells one more command.
 use Rattle.std.proofs.Common.{◌≡◌, ℕ, zero, suc, ◌+◌, ◌<◌, List, [], ◌∷◌, ◌++◌, length, take, get_or, refl, sym, ap, subst, ◌∙◌, arith}
 use Rattle.std.specs.FinMap.{empty}
 use Rattle.std.specs.Prelude.{Result, Ok, Err, IfOk, IfErr}
@@ -21,25 +21,25 @@ spelled_push [] (c ∷ commands) body command spelled one = absurd spelled
 spelled_push (b ∷ bodies) [] body command spelled one = absurd spelled
 spelled_push (b ∷ bodies) (c ∷ commands) body command spelled one = (spelled.0, spelled_push bodies commands body command spelled.1 one)
 
--- one body more of a list
+-- one more body of a list
 pub spelled_more : (bodies : List (List ℕ)) (i : ℕ) (body : List ℕ) (commands : List LibraryCommand) (command : LibraryCommand) → i < length bodies → body ≡ get_or bodies i body
     → AreSpelled (take i bodies) commands → Spells body command → AreSpelled (take (i + 1) bodies) (commands ++ command ∷ [])
 spelled_more bodies i body commands command within is so_far one =
     let more : take i bodies ++ body ∷ [] ≡ take (i + 1) bodies = ap (λ x. take i bodies ++ x ∷ []) is ∙ sym (take_more bodies i body within) in
     subst (λ (l : List (List ℕ)). AreSpelled l (commands ++ command ∷ [])) more (spelled_push (take i bodies) commands body command so_far one)
 
--- of commands that a list of bodies spells, one is spelled by each
+-- if a list of bodies spells commands, each body spells one
 pub spelled_at : (bodies : List (List ℕ)) (commands : List LibraryCommand) (i : ℕ) (body : List ℕ) → i < length bodies → body ≡ get_or bodies i body → AreSpelled bodies commands → (command : LibraryCommand) × Spells body command
 spelled_at [] commands i body within is spelled = absurd (omega arith)
 spelled_at (b ∷ bodies) [] i body within is spelled = absurd spelled
 spelled_at (b ∷ bodies) (c ∷ commands) zero body within is spelled = (c, subst (λ (x : List ℕ). Spells x c) (sym is) spelled.0)
 spelled_at (b ∷ bodies) (c ∷ commands) (suc i) body within is spelled = spelled_at bodies commands i body (omega arith) is spelled.1
 
--- bodies of which one is read as no command spell none
+-- if one body cannot be read as a command, the bodies spell no commands
 pub unread : (bodies : List (List ℕ)) (i : ℕ) (body : List ℕ) → i < length bodies → body ≡ get_or bodies i body → ((command : LibraryCommand) → Spells body command → ⊥) → (commands : List LibraryCommand) → AreSpelled bodies commands → ⊥
 unread bodies i body within is none commands spelled = let one = spelled_at bodies commands i body within is spelled in none one.0 one.1
 
--- bodies spell one list of commands at most
+-- bodies spell at most one list of commands
 pub same_commands : (bodies : List (List ℕ)) (xs ys : List LibraryCommand) → AreSpelled bodies xs → AreSpelled bodies ys → xs ≡ ys
 same_commands [] [] [] p q = refl
 same_commands [] [] (y ∷ ys) p q = absurd q
@@ -51,12 +51,12 @@ same_commands (body ∷ bodies) (x ∷ xs) (y ∷ ys) p q =
     let there = same_commands bodies xs ys p.1 q.1 in
     λ i. here i ∷ there i
 
--- the commands that bodies spell are accepted, if the bodies stand for a map
+-- the commands that bodies spell are accepted, if the bodies represent a map
 pub read_of : (bodies : List (List ℕ)) (units : Units) (commands : List LibraryCommand) → StandFor bodies units → AreSpelled bodies commands → AreRead bodies commands
 read_of bodies units commands stand spelled =
     record { spelled = spelled; accepted = subst (λ (l : List LibraryCommand). AreAccepted empty l) (same_commands bodies stand.commands commands stand.spelled spelled) stand.accepted }
 
--- bodies that spell no commands stand for no map
+-- bodies that spell no commands represent no map
 pub unread_stand : (bodies : List (List ℕ)) (fault : LibraryFault) → IsUnread bodies fault → ReplayFaults bodies fault
 unread_stand bodies Damaged why = λ units stand. why stand.commands stand.spelled
 unread_stand bodies OutOfMemory why = tt
@@ -67,12 +67,12 @@ unread_stand bodies Absent why = why
 unread_stand bodies Full why = why
 unread_stand bodies Closed why = why
 
--- what is said of each answer
+-- a claim about each answer
 pub of_ok : {A F : Type 0} {P Q : A → Type 0} → ((a : A) → P a → Q a) → (r : Result A F) → IfOk r P → IfOk r Q
 of_ok step (Ok a) p = step a p
 of_ok step (Err f) p = tt
 
--- and of each refusal
+-- and one about each refusal
 pub of_err : {A F : Type 0} {P Q : F → Type 0} → ((f : F) → P f → Q f) → (r : Result A F) → IfErr r P → IfErr r Q
 of_err step (Ok a) p = tt
 of_err step (Err f) p = step f p

@@ -1,6 +1,6 @@
--- The commands of which a disk has the records, and what each stored.
+-- The commands whose records a disk has, and what each stored.
 pub mod Commands
--- What is written of them.
+-- The lines that are written for them.
 pub mod Written
--- What only private contracts speak of.
+-- Definitions for private contracts.
 pub mod internal

@@ -1,4 +1,4 @@
--- What is written of commands.
+-- The lines that are written for commands.
 use Rattle.std.specs.Prelude.{ℕ, ◌+◌, Bool, true, List, [], ◌∷◌, ◌++◌, length, Option, Some, None, codes, if◌then◌else◌}
 use Rattle.std.specs.Str.{bytes_eq}
 use Rattle.std.specs.Fmt.{decimal}
@@ -12,7 +12,7 @@ name_of (Add name unit) = name
 name_of (Replace name unit) = name
 name_of (Withdraw name) = name
 
--- each command is asked for, or those about one name
+-- each command is wanted, or those about one name
 abbrev pub is_asked : Option (List ℕ) → LibraryCommand → Bool
 is_asked None command = true
 is_asked (Some name) command = bytes_eq (name_of command) name
@@ -27,11 +27,11 @@ command_text (Add name unit) = codes " add " ++ unit_text name unit
 command_text (Replace name unit) = codes " replace " ++ unit_text name unit
 command_text (Withdraw name) = codes " withdraw " ++ (name ++ codes "\n")
 
--- the line of the command of a number, if it is asked for
+-- the line of the command with a given number, if it is wanted
 abbrev pub line_text : Option (List ℕ) → (number : ℕ) → LibraryCommand → List ℕ
 line_text name number command = if is_asked name command then decimal number ++ command_text command else []
 
--- the lines of commands, of which the first has the number after this one
+-- the lines of commands, the first of which has the number after this one
 abbrev pub lines_after : Option (List ℕ) → ℕ → List LibraryCommand → List ℕ
 lines_after name number [] = []
 lines_after name number (command ∷ commands) = line_text name (number + 1) command ++ lines_after name (number + 1) commands

@@ -1,2 +1,2 @@
--- Why commands are not read.
+-- Why commands could not be read.
 pub mod Reading

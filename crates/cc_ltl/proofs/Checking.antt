@@ -1,4 +1,4 @@
--- Testing a list from its start: what is left of it has the property exactly where the whole has.
+-- Testing a list from its start: the rest has the property exactly if the whole list has it.
 use Rattle.std.proofs.Common.{◌↔◌, ℕ, List, drop}
 use Rattle.std.specs.List.{AllByRecursion}
 use Rattle.cc_ltl.specs.declared.block.Block.{Block}

@@ -1,5 +1,5 @@
--- A field that is read is the field that was written, and what was written is read again: for each kind of field, from its two
--- halves, up to the whole function. Fields go together by `both` and `mapped`, so that each move and each operation is a line.
+-- What is read is what was written, and what was written is read again: for each kind of field, up to the whole function. Fields are
+-- combined by `both` and `mapped`, so that each move and each operation is one line.
 use Rattle.std.proofs.Common.{◌≡◌, ℕ, zero, suc, ◌+◌, ◌^◌, ◌<◌, ◌≤◌, Bool, true, false, ◌&&◌, cond, ltb, eqb, List, [], ◌∷◌, ◌++◌, length, get_or, map, take, drop, Option, Some, None, refl, sym, ap, subst, ◌∙◌, append_assoc, arith, ◌⊎◌, inl, inr}
 use Rattle.std.specs.Prelude.{nat_le, slice_get, option_map}
 use Rattle.std.specs.List.{flat_map, AllByRecursion}
@@ -73,12 +73,12 @@ pub record Takes (bytes text rest : List ℕ) : Type 0 where
 Takes-then : (a x b y c : List ℕ) → Takes a x b → Takes b y c → Takes a (x ++ y) c
 Takes-then a x b y c p q = record { parts = p.parts ∙ ap (λ (t : List ℕ). x ++ t) q.parts ∙ sym (append_assoc x y c); are = q.are }
 
--- reading takes what writing gives, and at the values that are good it reads that again
+-- reading takes what writing gives, and reads again each good value that was written
 pub record IsField {X : Type 0} (read : Reader X) (write : X → List ℕ) (Good : X → Type 0) : Type 0 where
   pub takes : (bytes : List ℕ) (x : X) (rest : List ℕ) → AreBytes bytes → read bytes ≡ Some (x, rest) → Takes bytes (write x) rest
   pub again : (x : X) (rest : List ℕ) → Good x → read (write x ++ rest) ≡ Some (x, rest)
 
--- ---- fields go together
+-- ---- combining fields
 
 pub both_field : {A B : Type 0} (f : Reader A) (s : A → List ℕ) (P : A → Type 0) (g : Reader B) (t : B → List ℕ) (Q : B → Type 0)
     → IsField f s P → IsField g t Q → IsField (both f g) (λ x. s x.0 ++ t x.1) (λ x. P x.0 × Q x.1)
@@ -157,7 +157,7 @@ pub byte_takes : (bytes : List ℕ) (b : ℕ) (rest : List ℕ) → AreBytes byt
 byte_takes [] b rest are e = absurd (none-some (b, rest) e)
 byte_takes (a ∷ bytes) b rest are e = subst (λ (y : ℕ × List ℕ). Takes (a ∷ bytes) (y.0 ∷ []) y.1) (same_Some (a, bytes) (b, rest) e) (record { parts = refl; are = are.1 })
 
--- k bytes that stand for a number below a limit
+-- k bytes that spell a number below a limit
 record IsWide (w : Width) (k limit : ℕ) : Type 0 where
   len : (n : ℕ) → length (to_le_bytes w n) ≡ k
   back : (bytes : List ℕ) (n : ℕ) → length bytes ≡ k → AreBytes bytes → n ≡ from_le_bytes w bytes → to_le_bytes w n ≡ bytes
@@ -240,7 +240,7 @@ number_at zero a k m e = absurd (none-some m e)
 number_at (suc n) a zero m e = sym (same_Some a m e) ∙ omega arith
 number_at (suc n) a (suc k) m e = number_at n (suc a) k m e ∙ omega arith
 
--- one of a list whose elements have their positions as numbers
+-- one of a list in which each element's number is its position
 one_of_field : {A : Type 0} (xs : List A) (number : A → ℕ) (n : ℕ) → map number xs ≡ numbers_from 0 n → ((x : A) → slice_get xs (number x) ≡ Some x) → IsField (one_of xs) (λ x. number x ∷ []) (λ x. Unit {0})
 one_of_field {A} xs number n all at = record {
   takes = λ bytes x rest are e.

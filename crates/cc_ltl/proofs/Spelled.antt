@@ -23,7 +23,7 @@ use Rattle.cc_ltl.proofs.Fields.{AreBytes, bind_some, which, when_some, Takes, I
 
 -- ---- a number in front of the fields
 
--- what a kind reads is spelled behind its number
+-- what a kind reads is spelled after its number
 abbrev IsKind : {B : Type 0} → (B → List ℕ) → ℕ × Reader B → Type 0
 IsKind {B} spell kind = (bytes : List ℕ) (y : B) (rest : List ℕ) → AreBytes bytes → kind.1 bytes ≡ Some (y, rest) → Takes (kind.0 ∷ bytes) (spell y) rest
 
@@ -42,7 +42,7 @@ chosen_takes spell (kind ∷ kinds) all number bytes y rest are e =
       | inr p ↦ chosen_takes spell kinds all.1 number bytes y rest are p.1
     ]
 
--- a number, and what it leads to
+-- a number, and the reader that belongs to it
 numbered_takes : {B : Type 0} (spell : B → List ℕ) (kinds : List (ℕ × Reader B)) → AllByRecursion (IsKind spell) kinds → (bytes : List ℕ) (y : B) (rest : List ℕ) → AreBytes bytes
     → (byte_in bytes >>= λ k. chosen kinds k.0 k.1) ≡ Some (y, rest) → Takes bytes (spell y) rest
 numbered_takes spell kinds all [] y rest are e = absurd (none-some (y, rest) e)
@@ -184,7 +184,7 @@ operation_field = record { takes = numbered_takes operation_bytes operation_kind
 
 -- ---- blocks
 
--- a value made of fields, that gives them back
+-- a value made from fields, from which the fields can be taken back
 remade_field : {A B : Type 0} (f : Reader A) (s : A → List ℕ) (P : A → Type 0) → IsField f s P → (make : A → B) (back : B → A) → ((b : B) → make (back b) ≡ b) → (spell : B → List ℕ) → ((a : A) → spell (make a) ≡ s a)
     → IsField (mapped make f) spell (λ b. P (back b))
 remade_field {A} {B} f s P p make back same spell spelled = record {
@@ -271,7 +271,7 @@ is_read bytes l m are e is same = subst (Spells bytes) (sym same) (record { spel
 pub is_refused : (bytes : List ℕ) (m : Ltl) → parts_in bytes ≡ Some m → (IsLtl m → ⊥) → (l : Ltl) → Spells bytes l → ⊥
 is_refused bytes m e is_not l spells = is_not (subst IsLtl (same_Some l m (sym (parts_again bytes l spells) ∙ e)) spells.is_ltl)
 
--- there are none
+-- there are no parts
 pub is_fault : (bytes : List ℕ) (fault : LtlFault) → IsFault fault (parts_in bytes) → ReadAnswers bytes (Err fault)
 is_fault bytes Damaged none = λ l spells. none-some l (sym none ∙ parts_again bytes l spells)
 is_fault bytes OutOfMemory none = tt

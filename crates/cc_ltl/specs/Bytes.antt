@@ -58,7 +58,7 @@ move_bytes (Between to from) = 0 ∷ to ∷ from ∷ []
 move_bytes (Reload to slot) = 1 ∷ to ∷ half_bytes slot
 move_bytes (Spill slot from) = 2 ∷ (half_bytes slot ++ from ∷ [])
 
--- an operation: its number, and its fields; of a load and of a store how many bytes an element has comes first
+-- an operation: its number, and its fields; in a load and a store the number of bytes of an element comes first
 -- ORDER Operation
 abbrev pub operation_bytes : Operation → List ℕ
 operation_bytes (Nop next) = 0 ∷ word_bytes next
@@ -73,7 +73,7 @@ operation_bytes (Write next) = 8 ∷ word_bytes next
 operation_bytes (Branch from if_nonzero if_zero) = 9 ∷ from ∷ (word_bytes if_nonzero ++ word_bytes if_zero)
 operation_bytes Return = 10 ∷ []
 
--- how many moves there are, and the moves
+-- the number of moves, and the moves
 abbrev pub moves_bytes : List Move → List ℕ
 moves_bytes moves = half_bytes (length moves) ++ flat_map move_bytes moves
 
@@ -81,7 +81,7 @@ moves_bytes moves = half_bytes (length moves) ++ flat_map move_bytes moves
 abbrev pub block_bytes : Block → List ℕ
 block_bytes block = word_bytes block.label ++ (moves_bytes block.before ++ (operation_bytes block.operation ++ moves_bytes block.after))
 
--- a function: how many slots, the label of its entry, how many blocks, the blocks; nothing stands after
+-- a function: the number of slots, the label of its entry, the number of blocks, the blocks, and nothing after them
 abbrev pub ltl_bytes : Ltl → List ℕ
 ltl_bytes ltl = word_bytes ltl.slots ++ (word_bytes ltl.entry ++ (word_bytes (length ltl.blocks) ++ flat_map block_bytes ltl.blocks))
 
@@ -90,7 +90,7 @@ pub record Spells (bytes : List ℕ) (ltl : Ltl) : Type 0 where
   pub spelled : bytes ≡ ltl_bytes ltl
   pub is_ltl : IsLtl ltl
 
--- what reading answers: the function that the bytes spell, and Damaged only where they spell none
+-- what reading answers: the function that the bytes spell, and Damaged only if they spell no function
 abbrev pub ReadAnswers : (bytes : List ℕ) → Result Ltl LtlFault → Type 0
 ReadAnswers bytes (Ok ltl) = Spells bytes ltl
 ReadAnswers bytes (Err Damaged) = (ltl : Ltl) → Spells bytes ltl → ⊥

@@ -1,4 +1,4 @@
--- which registers code may be allocated to, and how many slots there may be
+-- the registers to which code may be allocated, and the most slots
 pub mod Registers
 -- the functions of LTL, and what one block does
 pub mod Ltl
@@ -8,7 +8,7 @@ pub mod Bytes
 pub mod Fault
 -- a function as text
 pub mod Listing
--- what only proofs and private contracts use
+-- for proofs and private contracts only
 pub mod internal
--- Worked examples of these, each by computation; no contract rests on them.
+-- Worked examples, each by computation. No contract depends on them.
 pub mod rows

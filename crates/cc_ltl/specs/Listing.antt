@@ -18,7 +18,7 @@ register_text r = codes "x" ++ decimal r
 abbrev pub slot_text : ℕ → List ℕ
 slot_text i = codes "slot" ++ decimal i
 
--- what gets a word, and what it gets
+-- the target, and what is put there
 abbrev pub assigned : (to from : List ℕ) → List ℕ
 assigned to from = to ++ codes " = " ++ from
 
@@ -27,7 +27,7 @@ move_text (Between to from) = assigned (register_text to) (register_text from)
 move_text (Reload to slot) = assigned (register_text to) (slot_text slot)
 move_text (Spill slot from) = assigned (slot_text slot) (register_text from)
 
--- an element of an object, with `byte` in front where it is one
+-- an element of an object, with `byte` in front if it is a byte
 abbrev pub element_text : Width → (object index : ℕ) → List ℕ
 element_text width object index = width_text width ++ codes "object" ++ decimal object ++ codes "[" ++ register_text index ++ codes "]"
 
@@ -45,7 +45,7 @@ operation_text (Write next) = codes "write"
 operation_text (Branch from if_nonzero if_zero) = codes "branch " ++ register_text from
 operation_text Return = codes "return"
 
--- the blocks that come next: of a branch the one for a word that is not zero, and the one for zero
+-- the blocks that come next; after a branch, the one for a word that is not zero, then the one for zero
 abbrev pub next_text : Operation → List ℕ
 next_text (Nop next) = codes " -> " ++ decimal next
 next_text (Const to word next) = codes " -> " ++ decimal next

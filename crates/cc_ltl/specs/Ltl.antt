@@ -14,7 +14,7 @@ use Rattle.cc_ltl.specs.declared.operation.Operation.{Operation}
 use Rattle.cc_ltl.specs.declared.operation.Operation.TheVariants.{Nop, Const, Unary, Binary, Load, Store, Call, Read, Write, Branch, Return}
 use Rattle.cc_ltl.specs.declared.block.Block.{Block}
 
--- a function: how many slots it has, the label of the block that it begins with, its blocks
+-- a function: its number of slots, the label of its first block, its blocks
 pub record Ltl : Type 0 where
   pub slots : ℕ
   pub entry : ℕ
@@ -48,13 +48,13 @@ IsOperation (Write next) = IsWord next
 IsOperation (Branch from if_nonzero if_zero) = IsAllocatable from × IsWord if_nonzero × IsWord if_zero
 IsOperation Return = Unit {0}
 
--- it has one block that comes next: it is no branch and no return
+-- it has exactly one next block: it is no branch and no return
 abbrev pub goes_on : Operation → Bool
 goes_on (Branch from if_nonzero if_zero) = false
 goes_on Return = false
 goes_on operation = true
 
--- no move stands behind a branch or a return
+-- no move comes after a branch or a return
 pub record IsBlock (slots : ℕ) (block : Block) : Type 0 where
   pub label : IsWord block.label
   pub before : AreMoves slots block.before
@@ -71,7 +71,7 @@ abbrev pub Ascend : List Block → Type 0
 Ascend [] = Unit {0}
 Ascend (block ∷ blocks) = IsBelowFirst block.label blocks × Ascend blocks
 
--- the functions of LTL: what the type of Rust holds, and what bytes can spell
+-- the functions of LTL: those that the Rust type holds, and that bytes can spell
 pub record IsLtl (ltl : Ltl) : Type 0 where
   pub slots : ltl.slots ≤ most_slots
   pub entry : IsWord ltl.entry
@@ -85,8 +85,8 @@ pub record IsLtl (ltl : Ltl) : Type 0 where
 abbrev pub Locations : Type 0
 Locations = Location → ℕ
 
--- where a run is: the label of the block that is next, the words of the locations, what is shared, and the words that unknown
--- locations will hold
+-- the state of a run: the label of the next block, the words of the locations, the shared world, and the words that unknown locations will
+-- hold
 pub record Configuration : Type 0 where
   pub label : ℕ
   pub locations : Locations
@@ -118,7 +118,7 @@ abbrev pub moved : List Move → Locations → Locations
 moved [] at = at
 moved (m ∷ ms) at = moved ms (put (target m) (at (source m)) at)
 
--- arguments stand in x10 and up, a result in x10; a read and a write destroy x17
+-- arguments are in x10 and up, a result is in x10; a read and a write destroy x17
 abbrev pub first_argument : ℕ
 first_argument = 10
 
@@ -133,12 +133,12 @@ abbrev pub words_from : (register n : ℕ) → Locations → List ℕ
 words_from register zero at = []
 words_from register (suc n) at = at (Register register) ∷ words_from (suc register) n at
 
--- after a call, each location but for the result
+-- each location after a call, except the result's
 abbrev pub after_call : (words : List ℕ) → Locations → Locations
 after_call words at (Register r) = register_after_call words r (at (Register r))
 after_call words at (Slot i) = at (Slot i)
 
--- on to a block, through the moves after the operation
+-- going on to a block, through the moves after the operation
 abbrev pub to_block : (label : ℕ) → (after : List Move) → Locations → World → (words : List ℕ) → Configuration
 to_block label after at world words = record { label = label; locations = moved after at; world = world; words = words }
 
@@ -181,7 +181,7 @@ ltl_move arity ltl c =
 abbrev pub ltl_output : Configuration → List ℕ
 ltl_output c = c.world.output
 
--- at entry x(10+i) holds argument i, where there is one; all else is unknown
+-- at entry x(10+i) holds argument i, if there is one; all else is unknown
 abbrev pub at_entry : (slots : ℕ) → (words arguments : List ℕ) → Locations
 at_entry slots words arguments (Register r) = if nat_le first_argument r then get_or arguments (r - first_argument) (unknown_register words r) else unknown_register words r
 at_entry slots words arguments (Slot i) = unknown_slot slots words i

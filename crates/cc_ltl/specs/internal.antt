@@ -1,1 +1,2 @@
+-- reading a function from left to right
 pub mod Reading

@@ -5,15 +5,15 @@ ghost use Rattle.std.specs.Prelude.{◌≡◌, ◌<◌, ◌^◌, ◌↔◌, leng
 use crate::operation::{Move, Operation};
 use std::marker::Model;
 
-/// The most moves that stand before an operation, or behind one.
+/// At most this many moves are before an operation, and at most as many after it.
 pub const MOST_MOVES: usize = 65_535;
 
-/// Moves, made one after the other: at most 65,535. A clause sees their list.
+/// At most 65,535 moves, made one after the other. Contracts see their list.
 pub struct Moves {
     moves: Vec<Move>,
 }
 
-// By hand, so that crates above call it and do not prove anew how each part is dropped.
+// Written by hand, so that crates above call it and need not prove again how each part is dropped.
 impl Drop for Moves {
     fn drop(self) {
         let Moves { moves } = self;
@@ -32,7 +32,7 @@ impl Model for Moves {
 }
 
 impl Moves {
-    /// These moves, or the moves back where they are more than 65,535. Takes no memory.
+    /// These moves. Err: the moves back, if there are more than 65,535. It takes no memory.
     pub fn new(moves: Vec<Move>) -> Result<Self, Vec<Move>>
         ensures fits { IsOk result ↔ (length moves.items < 2 ^ 16) }
         ensures hands_back { MatchResult result (λ made. made ≡ moves.items) (λ back. back ≡ moves) }
@@ -43,7 +43,7 @@ impl Moves {
         Ok(Moves { moves })
     }
 
-    /// The moves, the first of them first.
+    /// The moves, in the order in which they are made.
     pub fn moves(&self) -> &[Move]
         ensures moves { result.now ≡ self.now }
         ensures few { length self.now < 2 ^ 16 }

@@ -1,5 +1,5 @@
-// The bytes of a function that are still to be read, and the fields that are read off their front: each step gives the field and
-// leaves the bytes behind it, or gives none.
+// The bytes of a function that are still to be read. Each step reads one field off their front and leaves the bytes after it, or finds no
+// field.
 
 ghost use Rattle.std.specs.Prelude.{◌≡◌, ◌==◌, length};
 ghost use Rattle.cc_ltl.specs.internal.Reading.{Reads, binary_in, byte_in, half_in, register_in, slot_in, unary_in, width_in, word_in};
@@ -35,7 +35,7 @@ const BINARY: [Binary; 19] = [
     Binary::LeU,
 ];
 
-/// The bytes that are still to be read. A clause sees them.
+/// The bytes that are still to be read. Contracts see them.
 #[derive(Drop)]
 pub struct Cursor<'a> {
     rest: &'a [u8],
@@ -50,7 +50,7 @@ impl<'a> Model for Cursor<'a> {
 }
 
 impl<'a> Cursor<'a> {
-    /// All the bytes are still to be read.
+    /// A cursor at the start of these bytes.
     pub fn new(bytes: &'a [u8]) -> Cursor<'a>
         ensures { result ≡ bytes.now }
     {
@@ -76,7 +76,7 @@ impl<'a> Cursor<'a> {
         }
     }
 
-    /// A number of two bytes.
+    /// Reads a number of two bytes.
     pub fn half(&mut self) -> Option<u16>
         ensures { Reads (half_in self.old) result self.new }
     {
@@ -88,7 +88,7 @@ impl<'a> Cursor<'a> {
         Some(u16::from_le_bytes([prefix[0], prefix[1]]))
     }
 
-    /// A number of four bytes.
+    /// Reads a number of four bytes.
     pub fn word(&mut self) -> Option<u32>
         ensures { Reads (word_in self.old) result self.new }
     {
@@ -136,7 +136,7 @@ impl<'a> Cursor<'a> {
         }
     }
 
-    /// How wide an element is, by how many bytes it has.
+    /// Reads the width of an element, which is spelled as its number of bytes.
     #[tactic(auto, unfolding(crate::specs::internal::Reading::width_in))]
     pub fn width(&mut self) -> Option<Width>
         ensures { Reads (width_in self.old) result self.new }

@@ -1,11 +1,11 @@
-// Why bytes are no function.
+// Why bytes are not a function.
 
 ghost use Rattle.std.specs.Prelude.{◌≡◌};
 
 use std::alloc::{AllocError, AllocFailed};
 use thiserror::Error;
 
-/// Why bytes are no function of LTL.
+/// Why bytes are not a function of LTL.
 #[derive(Clone, Copy, Debug, Error)]
 pub enum LtlFault {
     /// 37: the bytes are not exactly one function.

@@ -1,4 +1,4 @@
-// Laws of the definitions, each the contract of a function that does nothing.
+// Laws of the definitions. Each is the contract of a function that does nothing.
 
 ghost use Rattle.std.specs.Prelude.{◌≡◌, List, ℕ};
 ghost use Rattle.cc_simulation.specs.Cuts.{IsLayer};
@@ -11,7 +11,8 @@ pub fn spellings_are_determined()
     ensures one_spelling { (a b : List ℕ) (l : Function) → Spells a l → Spells b l → a ≡ b }
 {}
 
-/// The blocks of a function are the moves of a layer: outputs only grow, a call hands over the output so far, and goes on from its answer's.
+/// The blocks of a function are moves of a layer: output only grows, and a call hands over the output so far and goes on with the output of
+/// its answer.
 pub fn ltl_is_a_layer()
     ensures { (arity : ℕ → ℕ) (l : Function) → IsLayer (ltl_move arity l) ltl_output }
 {}

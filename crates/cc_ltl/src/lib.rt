@@ -1,8 +1,9 @@
-//! LTL: the code of a function over machine registers and slots. A block stands for one node of RTL: moves, one operation on
-//! registers, moves. Its functions come from nobody that is trusted, an allocator or bytes; whether one does what the RTL does is
-//! the validator's matter.
+//! LTL: the code of a function over machine registers and slots. One block represents one node of RTL: moves, one operation on registers,
+//! moves. Its functions come from sources that are not trusted: an allocator, or bytes. Whether a function does what the RTL does is for
+//! the validator to check.
+//!
 //! `location` is where a word can be, `operation` and `block` what a block does, `ltl` the functions, `writing` and `reading` (by a
-//! `cursor`) their bytes, `listing` their text, `laws` what holds of the definitions. What a block does is defined in `specs/Ltl.antt`.
+//! `cursor`) their bytes, `listing` their text, `laws` the laws of the definitions. `specs/Ltl.antt` defines what a block does.
 #![tactic(auto)]
 
 mod block;

@@ -1,6 +1,6 @@
 // A function as text: its slots and its entry, and a line for each block.
 
-ghost use Rattle.std.specs.Prelude.{◌≡◌, Some};
+ghost use Rattle.std.specs.Prelude.{Some};
 ghost use Rattle.cc_ltl.specs.Listing.{register_text, slot_text, move_text, operation_text, next_text, block_text, ltl_text};
 
 use crate::block::Block;
@@ -27,7 +27,7 @@ impl fmt::Display for Slot {
     }
 }
 
-/// The target, and what it gets: `x8 = slot0`.
+/// The target, and what is put there: `x8 = slot0`.
 impl fmt::Display for Move {
     ghost output = { λ m. Some (move_text m) };
 
@@ -40,7 +40,7 @@ impl fmt::Display for Move {
     }
 }
 
-/// The operation without the blocks that come next: `x7 = sub x8, x9`, `x7 = object0[x8]`, `branch x7`.
+/// The operation, without the blocks that come next: `x7 = sub x8, x9`, `x7 = object0[x8]`, `branch x7`.
 impl fmt::Display for Operation {
     ghost output = { λ o. Some (operation_text o) };
 
@@ -124,7 +124,7 @@ impl fmt::Display for Next {
     }
 }
 
-/// The label, the moves and the operation in their order, the blocks that come next: `3: x7 = slot0; x7 = neg x7; slot1 = x7 -> 4`.
+/// The label, the moves and the operation in their order, and the blocks that come next: `3: x7 = slot0; x7 = neg x7; slot1 = x7 -> 4`.
 impl fmt::Display for Block {
     ghost output = { λ b. Some (block_text b) };
 

@@ -1,12 +1,12 @@
 // Where a word can be: an allocatable register, or a slot of the frame.
 
-ghost use Rattle.std.specs.Prelude.{◌≡◌, ◌<◌, ◌≤◌, IsSome, IfSome, ◌↔◌};
+ghost use Rattle.std.specs.Prelude.{◌≡◌, ◌<◌, IsSome, IfSome, ◌↔◌};
 ghost use Rattle.cc_ltl.specs.Registers.{IsAllocatable, most_slots};
 
 use std::marker::Model;
 
-/// A register that code may be allocated to: `x7` to `x31`. The emitter keeps `x5` and `x6` for itself, and `x0` to `x4` have uses
-/// of their own. A clause sees its number.
+/// A register to which code may be allocated: `x7` to `x31`. The emitter keeps `x5` and `x6` for itself, and `x0` to `x4` have uses of
+/// their own. Contracts see its number.
 #[derive(Clone, Copy, PartialEq, Eq)]
 pub struct Register {
     number: u8,
@@ -26,7 +26,7 @@ impl Model for Register {
 }
 
 impl Register {
-    /// The register of this number, or `None` where it is not allocatable: below 7 or above 31.
+    /// The register with this number, or `None` if it is not allocatable (below 7 or above 31).
     pub fn new(number: u8) -> Option<Self>
         ensures allocatable { IsSome result ↔ IsAllocatable number }
         ensures answer { IfSome result (λ register. register ≡ number) }
@@ -47,10 +47,10 @@ impl Register {
     }
 }
 
-/// The most slots that a function has.
+/// A function has at most this many slots.
 pub const MOST_SLOTS: u16 = 495;
 
-/// A slot of a function's frame, which holds a word: 0 to 494. A clause sees its number.
+/// A slot of a function's frame, which holds a word. Contracts see its number, 0 to 494.
 #[derive(Clone, Copy, PartialEq, Eq)]
 pub struct Slot {
     number: u16,
@@ -70,7 +70,7 @@ impl Model for Slot {
 }
 
 impl Slot {
-    /// The slot of this number, or `None` where it is 495 or more.
+    /// The slot with this number, or `None` if it is 495 or more.
     pub fn new(number: u16) -> Option<Self>
         ensures few { IsSome result ↔ (number < most_slots) }
         ensures answer { IfSome result (λ slot. slot ≡ number) }

@@ -1,6 +1,6 @@
 // A function of LTL: its blocks, in the order of their labels.
 
-ghost use Rattle.std.specs.Prelude.{◌≡◌, ◌↔◌, length, not, IsTrue, IsOk, MatchResult, OnOk};
+ghost use Rattle.std.specs.Prelude.{◌≡◌, ◌↔◌, not, IsTrue, IsOk, MatchResult};
 ghost use Rattle.std.specs.List.{AllByRecursion};
 ghost use Rattle.cc_ltl.specs.Ltl.{Ltl as Function, IsLtl, IsMove, IsOperation, IsBlock, IsBelowFirst, Ascend, goes_on};
 
@@ -9,16 +9,16 @@ use crate::location::MOST_SLOTS;
 use crate::operation::{Move, Operation};
 use std::marker::Model;
 
-/// A function: its number of slots, the label of the block that it begins with, and its blocks, whose labels ascend. The type holds
-/// exactly the functions that bytes can spell: at most 495 slots, each slot below their number, no move behind a branch or a return.
-/// A clause sees these parts.
+/// A function: its number of slots, the label of its first block, and its blocks in ascending order of their labels. The type holds exactly
+/// the functions that bytes can spell: at most 495 slots, each slot below the function's number of slots, and no moves after a branch or a
+/// return. Contracts see these parts.
 pub struct Ltl {
     slots: u16,
     entry: u32,
     blocks: Vec<Block>,
 }
 
-// By hand, so that crates above call it and do not prove anew how each part is dropped.
+// Written by hand, so that crates above call it and need not prove again how each part is dropped.
 impl Drop for Ltl {
     fn drop(self) {
         let Ltl {
@@ -40,8 +40,8 @@ impl Model for Ltl {
 }
 
 impl Ltl {
-    /// The function of these parts, or the blocks back where they are none: more than 495 slots, labels that do not ascend, a slot
-    /// that is not below their number, a move behind a branch or a return, or 2^32 blocks. Takes no memory.
+    /// The function with these parts. Err: the blocks back, if they make no function: more than 495 slots, labels that do not ascend, a
+    /// slot that is not below the number of slots, moves after a branch or a return, or 2^32 blocks or more. It takes no memory.
     pub fn new(slots: u16, entry: u32, blocks: Vec<Block>) -> Result<Self, Vec<Block>>
         ensures fits { IsOk result ↔ IsLtl (record { slots = slots; entry = entry; blocks = blocks.items }) }
         ensures hands_back { MatchResult result (λ ltl. ltl ≡ record { slots = slots; entry = entry; blocks = blocks.items }) (λ back. back ≡ blocks) }
@@ -60,14 +60,14 @@ impl Ltl {
         })
     }
 
-    /// How many slots it has: at most 495.
+    /// Its number of slots, at most 495.
     pub fn slots(&self) -> u16
         ensures { result ≡ self.now.slots }
     {
         self.slots
     }
 
-    /// The label of the block that it begins with.
+    /// The label of its first block.
     pub fn entry(&self) -> u32
         ensures { result ≡ self.now.entry }
     {
@@ -106,7 +106,7 @@ fn ascend_after(first: &Block, rest: &[Block]) -> bool
     true
 }
 
-// Whether each block may stand in a function with this many slots.
+// Whether each block fits a function with this many slots.
 fn blocks_fit(slots: u16, blocks: &[Block]) -> bool
     ensures { IsTrue result ↔ AllByRecursion (IsBlock slots) blocks.now }
 {
@@ -128,8 +128,8 @@ fn block_fits(slots: u16, block: &Block) -> bool
     (after.is_empty() || !ends) && moves_fit(slots, before) && moves_fit(slots, after)
 }
 
-// Whether no block comes next, or one of two. What else is said of an operation holds by its type: the numbers are read so that the
-// proof sees their ranges.
+// Whether the operation has no single next block: it is a branch or a return. The other facts about an operation hold by its type. The code
+// reads the numbers so that the proof sees their ranges.
 fn ends(operation: &Operation) -> bool
     ensures ends { result ≡ not (goes_on operation.now) }
     ensures operation { IsOperation operation.now }
@@ -210,7 +210,7 @@ fn moves_fit(slots: u16, moves: &[Move]) -> bool
     true
 }
 
-// Whether a move's slot is below their number. Its registers are allocatable by their type.
+// Whether a move's slot is below the number of slots. Its registers are allocatable by their type.
 fn move_fits(slots: u16, each: &Move) -> bool
     ensures { IsTrue result ↔ IsMove slots each.now }
 {

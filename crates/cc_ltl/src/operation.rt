@@ -4,7 +4,7 @@ use crate::location::{Register, Slot};
 use cc_words::{Binary, Unary, Width};
 
 // ORDER Operation
-/// A word goes from one location to another. No word goes from slot to slot.
+/// A word moves from one location to another. No word moves from slot to slot.
 #[derive(Clone, Copy)]
 pub enum Move {
     Between { to: Register, from: Register },
@@ -12,8 +12,8 @@ pub enum Move {
     Spill { slot: Slot, from: Register },
 }
 
-/// The operation of a block, and the label of the block that comes next. A call takes its arguments in `x10` and up and gives its
-/// result in `x10`; a read gives its word there, a write and a return take theirs there.
+/// The operation of a block, and the label of the next block. A call takes its arguments in `x10` and up and puts its result in `x10`. A
+/// read puts its word in `x10`; a write and a return take theirs from there.
 #[derive(Clone, Copy)]
 pub enum Operation {
     Nop {

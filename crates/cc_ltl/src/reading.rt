@@ -1,5 +1,5 @@
-// The function that bytes spell, from left to right. No room is taken by a number that the bytes say: a list grows by what was
-// read, so bytes that lie about their length cost no more than they have.
+// Reads the function that bytes spell, from left to right. No memory is reserved for a number that the bytes state. A list grows by what
+// was read, so bytes that lie about their length cost no more than the bytes that are there.
 
 ghost use Rattle.std.specs.Prelude.{◌≡◌, length, IfOk};
 ghost use Rattle.cc_ltl.specs.Bytes.{ReadAnswers};
@@ -13,11 +13,11 @@ use crate::ltl::Ltl;
 use crate::operation::{Move, Operation};
 use std::alloc::Global;
 
-/// The function that the bytes spell, all of them.
+/// The function that all these bytes together spell.
 ///
-/// 37 `Damaged` exactly where they spell none: a register that is not allocatable, a slot that is not below the number of slots, more
-/// than 495 slots, a number of a move, of an operation or of an operator that is unknown, a width other than 1 and 4, moves behind a branch or
-/// a return, labels that do not ascend, bytes that are missing or left. 40 `OutOfMemory` where memory ran out.
+/// 37 `Damaged` exactly if they spell no function: a register that is not allocatable, a slot that is not below the number of slots, more
+/// than 495 slots, an unknown number of a move, of an operation or of an operator, a width other than 1 and 4, moves after a branch or a
+/// return, labels that do not ascend, missing bytes, or bytes left over. 40 `OutOfMemory` if memory ran out.
 pub fn read_ltl(alloc: Global, bytes: &[u8]) -> Result<Ltl, LtlFault>
     ensures answers { ReadAnswers bytes.now result }
 {
@@ -28,7 +28,7 @@ pub fn read_ltl(alloc: Global, bytes: &[u8]) -> Result<Ltl, LtlFault>
     }
 }
 
-// What a function is made of; whether the parts fit each other is not asked.
+// The parts of a function. Whether they fit each other is not checked here.
 #[derive(Drop)]
 struct Parts {
     slots: u16,
@@ -56,7 +56,7 @@ fn parts_of(alloc: Global, bytes: &[u8]) -> Result<Parts, LtlFault>
 
 // Blocks and functions.
 impl<'a> Cursor<'a> {
-    // How many slots a function has.
+    // Reads the number of slots of a function.
     #[tactic(auto, unfolding(crate::specs::internal::Reading::slots_in))]
     fn slots(&mut self) -> Option<u16>
         ensures { Reads (slots_in self.old) result self.new }
@@ -68,7 +68,7 @@ impl<'a> Cursor<'a> {
         Some(slots as u16)
     }
 
-    // How many blocks there are, and the blocks.
+    // Reads the number of blocks, and the blocks.
     #[tactic(auto, unfolding(crate::specs::internal::Reading::blocks_in))]
     fn blocks(&mut self, alloc: Global) -> Result<Vec<Block>, LtlFault>
         ensures { Gives (λ blocks. (blocks.items, self.new)) result (blocks_in self.old) }
@@ -109,7 +109,7 @@ impl<'a> Cursor<'a> {
 
 // Moves.
 impl<'a> Cursor<'a> {
-    // How many moves there are, and the moves.
+    // Reads the number of moves, and the moves.
     #[tactic(auto, unfolding(crate::specs::internal::Reading::moves_in))]
     fn moves(&mut self, alloc: Global) -> Result<Moves, LtlFault>
         ensures { Gives (λ moves. (moves, self.new)) result (moves_in self.old) }

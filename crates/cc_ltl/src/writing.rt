@@ -1,7 +1,7 @@
 // A function as bytes.
 
 ghost use Rattle.std.specs.Prelude.{◌≡◌, ◌++◌, ◌<◌, ◌^◌, length, IfOk, OnOk};
-ghost use Rattle.cc_ltl.specs.Bytes.{Spells, ltl_bytes, block_bytes, moves_bytes, move_bytes, operation_bytes, word_bytes, unary_number, binary_number};
+ghost use Rattle.cc_ltl.specs.Bytes.{Spells, block_bytes, moves_bytes, move_bytes, operation_bytes, word_bytes, unary_number, binary_number};
 
 use crate::block::Block;
 use crate::ltl::Ltl;
@@ -9,9 +9,9 @@ use crate::operation::{Move, Operation};
 use cc_words::{Binary, Unary};
 use std::alloc::{AllocError, Global};
 
-/// The bytes that spell the function: three numbers of four bytes, the lowest first (slots, entry, how many blocks), and the blocks
-/// in the order of their labels. A block is its label, the moves before, the operation, the moves after, with how many moves there are
-/// as two bytes. See docs/FORMATS.md.
+/// The bytes that spell the function: three numbers of four bytes, lowest byte first (slots, entry, number of blocks), and the blocks in
+/// the order of their labels. A block is its label, the moves before, the operation, and the moves after; the number of moves comes before
+/// each list of them, in two bytes. See docs/FORMATS.md. Err: memory ran out.
 pub fn write_ltl(alloc: Global, ltl: &Ltl) -> Result<Vec<u8>, AllocError>
     ensures spelled { IfOk result (λ bytes. Spells bytes.items ltl.now) }
 {
@@ -35,7 +35,7 @@ fn put_block(bytes: &mut Vec<u8>, block: &Block) -> Result<(), AllocError>
     put_moves(bytes, block.after.moves())
 }
 
-// How many moves there are, and the moves.
+// Writes the number of moves, and the moves.
 fn put_moves(bytes: &mut Vec<u8>, moves: &[Move]) -> Result<(), AllocError>
     requires { length moves.now < 2 ^ 16 }
     ensures { OnOk result (bytes.new.items ≡ bytes.old.items ++ moves_bytes moves.now) }
@@ -143,7 +143,7 @@ fn put_operation(bytes: &mut Vec<u8>, operation: &Operation) -> Result<(), Alloc
     }
 }
 
-// Some bytes, and a number of four.
+// Writes some bytes, and a number of four bytes.
 fn put(bytes: &mut Vec<u8>, prefix: &[u8], number: u32) -> Result<(), AllocError>
     ensures { OnOk result (bytes.new.items ≡ bytes.old.items ++ (prefix.now ++ word_bytes number)) }
 {

@@ -1,4 +1,4 @@
--- How a statement is left, in the resolved form; scopes and lists of locals.
+-- How a statement ends, in the resolved form; scopes and lists of locals.
 use Rattle.std.proofs.Common.{◌≡◌, ℕ, zero, suc, ◌+◌, ◌-◌, ◌≤◌, List, [], ◌∷◌, ◌++◌, length, reverse, take, drop, Some, slice_get, refl, sym, ap, ◌∙◌, subst, arith, length-append, append_assoc, take-append-drop}
 use Rattle.std.proofs.lemmas.List.{length-map, reverse-append, map-append, drop_at}
 use Rattle.cc_meaning.specs.declared.form.Instruction.TheVariants as instruction
@@ -39,7 +39,7 @@ names_drop zero ls = refl
 names_drop (suc d) [] = refl
 names_drop (suc d) (l ∷ ls) = names_drop d ls
 
--- after a scope, whose locals no name has any more
+-- after a scope, whose locals no name refers to any more
 pub fits_left : (v : Environment) (extra : List (List ℕ)) (total most before : ℕ) (vs : List ℕ) (t : State) → before ≡ length v.locals → Fits (over extra v) total most vs t → Fits v total most vs (left_scope before t)
 fits_left v extra total most before vs t e h =
     let ls : List Local = t.locals in
@@ -58,7 +58,7 @@ fits_left v extra total most before vs t e h =
       steps = h.steps;
     }
 
--- ---- how a statement is left
+-- ---- how a statement ends
 
 module _ (form : FormTree) (cs : List Activation) (total : ℕ) where
   -- the form reaches a place, in an environment
@@ -67,14 +67,14 @@ module _ (form : FormTree) (cs : List Activation) (total : ℕ) where
     pub fits : Fits v total most variables t
     pub leads : Leads form c (conf q variables [] cs t)
 
-  -- or with locals of inner scopes, which are left
+  -- the form reaches a place with locals of inner scopes, which are dropped
   pub record Leaves (c : Configuration) (v : Environment) (most q : ℕ) (t : State) : Type 0 where
     pub extra : List (List ℕ)
     pub variables : List ℕ
     pub fits : Fits (over extra v) total most variables t
     pub leads : Leads form c (conf q variables [] cs t)
 
-  -- the form comes to a return of a word
+  -- the form reaches a return of a word
   pub record Brings (layout : Layout) (c : Configuration) (most w : ℕ) (t : State) : Type 0 where
     pub offset : ℕ
     pub variables : List ℕ
@@ -84,7 +84,7 @@ module _ (form : FormTree) (cs : List Activation) (total : ℕ) where
     pub laid : layout_from 0 t.globals ≡ layout.objects
     pub steps : t.steps ≤ most
 
-  -- how a statement is left: it falls through, breaks or continues to what these say, or returns
+  -- how a statement ends: it falls through, breaks, continues or returns, each as these say
   abbrev pub Done : Layout → Configuration → ℕ → (falls breaks continues : State → Type 0) → Flow → State → Type 0
   Done layout c most falls breaks continues Falls t = falls t
   Done layout c most falls breaks continues Breaks t = breaks t
@@ -109,7 +109,7 @@ module _ (form : FormTree) (cs : List Activation) (total : ℕ) where
   done_by layout c d most more f b k f' b' k' p le x y z Continues t h = z t h
   done_by layout c d most more f b k f' b' k' p le x y z (Returns w) t h = brings_after layout c d most more w t p le h
 
-  -- a part after some moves, whose ways out mean the same
+  -- a part after some moves, with the same ways to end
   pub done_after : (layout : Layout) (c d : Configuration) (most more : ℕ) (f b k f' b' k' : State → Type 0) (r : Run Flow) → Leads form c d → most ≤ more
       → ((t : State) → f t → f' t) → ((t : State) → b t → b' t) → ((t : State) → k t → k' t) → Meets form d (Done layout d most f b k) r → Meets form c (Done layout c more f' b' k') r
   done_after layout c d most more f b k f' b' k' r p le x y z h =
@@ -122,7 +122,7 @@ module _ (form : FormTree) (cs : List Activation) (total : ℕ) where
     leads = leads_then form c d (conf q' h.variables [] cs t) p (subst (λ k. Leads form d (conf k h.variables [] cs t)) at h.leads);
   }
 
-  -- some locals of v are further ones over w
+  -- some locals of v are added to those of w
   pub leaves_after : (c d : Configuration) (v w : Environment) (extra : List (List ℕ)) (most more q q' : ℕ) (t : State) → Leads form c d → v.locals ≡ extra ++ w.locals → v.layout ≡ w.layout → most ≤ more → q ≡ q'
       → Leaves d v most q t → Leaves c w more q' t
   leaves_after c d v w extra most more q q' t p e f le at h = record {

@@ -1,4 +1,4 @@
--- A call in the resolved form does what a call in the source does: by recursion on the number that bounds the calls.
+-- A call in the resolved form does what a call in the source does, by recursion on the bound on calls.
 use Rattle.std.proofs.Common.{◌≡◌, ℕ, zero, suc, ◌+◌, ◌<◌, ◌≤◌, Bool, true, false, if◌then◌else◌, List, [], ◌∷◌, ◌++◌, length, map, reverse, take, drop, replicate, nat_lt, Option, Some, None, slice_get, codes, refl, sym, ap, ◌∙◌, subst, arith, length-append, append-nil}
 use Rattle.std.proofs.lemmas.Bool.{le-leb}
 use Rattle.std.proofs.lemmas.List.{length-map, length-reverse, length-replicate, reverse-reverse, take_at, drop_at}
@@ -52,7 +52,7 @@ bound_variables xs ws e = ap (λ (l : List ℕ). reverse l) (bound_words xs ws [
 
 -- ---- functions
 
--- a function in the source and its instructions, in the environment where its body begins
+-- a function in the source and its instructions, in the environment at the beginning of its body
 pub record Defined (layout : Layout) (defined : List (List ℕ)) (fs : List Function) (g : Function) (fc : FunctionCode) : Type 0 where
   pub parameters : List Parameter
   pub named : g.parameters ≡ map (λ (p : Parameter). text_of p.name) parameters
@@ -67,7 +67,7 @@ pub record Defined (layout : Layout) (defined : List (List ℕ)) (fs : List Func
   pub code : fc.code ≡ statements_code environment (record { breaks = 0; continues = 0 }) g.body ++ instruction.Constant 0 ∷ instruction.Return ∷ []
   pub variables : fc.variables ≡ length (locals g.body)
 
--- the function of a name, its number, and where its instructions stand
+-- the function with a name, its number, and the place of its instructions
 pub record Entered (form : FormTree) (layout : Layout) (defined : List (List ℕ)) (fs : List Function) (x : List ℕ) : Type 0 where
   pub function : Function
   pub code : FunctionCode
@@ -83,7 +83,7 @@ module _ (form : FormTree) (layout : Layout) (defined : List (List ℕ)) (fs : L
 
   -- ---- the body of a function
 
-  -- a body comes to a return of its word: over the calls around
+  -- a body reaches a return of its word, over the calls around it
   record Returned (cs : List Activation) (c : Configuration) (most w : ℕ) (t : State) : Type 0 where
     offset : ℕ
     variables : List ℕ
@@ -220,7 +220,7 @@ module _ (form : FormTree) (layout : Layout) (defined : List (List ℕ)) (fs : L
             (instructed form instruction.Return r.offset r.variables (w ∷ r.operands) (a ∷ cs) t (conf p vs (w ∷ ops) cs (record t { locals = s.locals })) r.here refl);
       }
 
-  -- what a call move does
+  -- the move of a call
   call_moves : (x : List ℕ) (e : Entered form layout defined fs x) (v : Environment) (c : Configuration) → v.layout ≡ layout
       → instruction_move form (instruction.Call (names_before v.layout.functions x)) c
       ≡ call_move (Some (record { start = e.start; parameters = e.code.parameters; variables = e.code.variables })) c
@@ -313,7 +313,7 @@ module _ (form : FormTree) (layout : Layout) (defined : List (List ℕ)) (fs : L
 
   -- ---- main
 
-  -- a body that no other calls: the run stops as the source does
+  -- a body that no other function calls: the run stops as the source does
   pub main_meets : (n : ℕ) (e : (x : List ℕ) × Entered form layout defined fs x) (t : State) (opened : ℕ) → opened ≡ 1 → (e.1).function.parameters ≡ [] → t.steps < n → layout_from 0 t.globals ≡ layout.objects
       → Meets form (conf (e.1).start (replicate (e.1).code.variables 0) [] [] t) (λ w u. Halts form (conf (e.1).start (replicate (e.1).code.variables 0) [] [] t) (record { stop = outcome.Ended w; output = u.output }))
       (run_body (e.1).function n (calls n fs opened) [] t)

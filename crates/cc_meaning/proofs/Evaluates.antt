@@ -1,4 +1,4 @@
--- The instructions of each expression push its value: by recursion on the tree. What a call does is handed in.
+-- The instructions of each expression push its value, by recursion on the tree. What a call does is a parameter.
 use Rattle.std.proofs.Common.{◌≡◌, ℕ, ◌+◌, ◌<◌, List, [], ◌∷◌, ◌++◌, length, reverse, refl, sym, subst, arith, length-append}
 use Rattle.cc_ast.specs.Tree.{Name, Expr, Exprs, none, more, Number, Variable, Element, Call, Parenthesised, Unary, Cast, Binary, Conditional}
 use Rattle.cc_types.specs.Operators.{working_type, unary_word}
@@ -21,13 +21,13 @@ use Rattle.cc_meaning.proofs.Expressions.{Value, Values, CallsMeet, Part, value_
 use Rattle.cc_c_laws.proofs.Scoped.{Scoped}
 
 module _ (form : FormTree) (cs : List Activation) (total : ℕ) (layout : Layout) (defined : List (List ℕ)) (Takes : List ℕ → ℕ → Type 0) (n : ℕ) (call : Calls) (calls_meet : CallsMeet form layout Takes cs total n call) where
-  -- arguments, one after the other
+  -- arguments, one after another
   abbrev Arguments : Environment → (most : ℕ) (vs : List ℕ) → Exprs → Type 0
   Arguments v most vs es =
       (p : ℕ) (ops : List ℕ) (s : State) → Stands form.code p (arguments_code v es) → Fits v total most vs s
       → Meets form (conf p vs ops cs s) (Values form cs total (conf p vs ops cs s) v most vs (p + length (arguments_code v es)) (count_of es) ops) (evaluate_all es (types_in v) call s)
 
-  -- what a word is pushed for, and the instruction after it
+  -- the value of an index, and the instruction after it
   element_part : (e : Expr) (x : Name) (v : Environment) (most : ℕ) (vs : List ℕ) → Part form cs total v most vs (expression_code v e) (evaluate e (types_in v) call)
       → Part form cs total v most vs (expression_code v (Element x e)) (evaluate (Element x e) (types_in v) call)
   element_part e x v most vs f p ops s st h =

@@ -1,4 +1,4 @@
--- The instructions of each statement do what the source says: by recursion on the tree. What a call does is handed in.
+-- The instructions of each statement do what the source says, by recursion on the tree. What a call does is a parameter.
 use Rattle.std.proofs.Common.{◌≡◌, ℕ, zero, suc, ◌+◌, ◌<◌, ◌≤◌, List, [], ◌∷◌, ◌++◌, length, Option, Some, None, slice_get, refl, sym, ap, ◌∙◌, subst, arith, length-append}
 use Rattle.std.proofs.lemmas.List.{length-map}
 use Rattle.cc_tokens.specs.declared.scalar.Scalar.{Scalar}
@@ -55,19 +55,19 @@ return_value : (r : Option Scalar) (bs : List Binding) (at : ℕ) (e : Expr) →
 return_value None bs at e h = nil_right (broken BadReturn at) (value_errors bs e) h
 return_value (Some t) bs at e h = h
 
--- what never comes
+-- what never happens
 abbrev Never : State → Type 0
 Never t = ⊥
 
 module _ (form : FormTree) (cs : List Activation) (total : ℕ) (layout : Layout) (defined : List (List ℕ)) (Takes : List ℕ → ℕ → Type 0) (n : ℕ) (call : Calls) (calls_meet : CallsMeet form layout Takes cs total n call) where
-  -- instructions that do what a statement does, wherever they stand: `falls` says what it is to fall through
+  -- instructions that do what a statement does, at any place in the code; `falls` says what it means to fall through
   abbrev Does : (falls : Configuration → ℕ → State → Type 0) → Environment → Exits → (most : ℕ) → List Instruction → (State → Run Flow) → Type 0
   Does falls v x most code part =
       (p b k : ℕ) (vs : List ℕ) (t : State) → b ≡ p + length code + x.breaks → k ≡ p + length code + x.continues → b ≤ length form.code → k ≤ length form.code → Stands form.code p code → Fits v total most vs t
       → Meets form (conf p vs [] cs t)
       (Done form cs total layout (conf p vs [] cs t) most (falls (conf p vs [] cs t) (p + length code)) (Leaves form cs total (conf p vs [] cs t) v most b) (Leaves form cs total (conf p vs [] cs t) v most k)) (part t)
 
-  -- a statement, after which there is an environment
+  -- a statement with the environment after it
   abbrev StatementDoes : Environment → Environment → Exits → ℕ → List Instruction → (State → Run Flow) → Type 0
   StatementDoes v w x most code part = Does (λ c q t. Reaches form cs total c w most q t) v x most code part
 
@@ -75,7 +75,7 @@ module _ (form : FormTree) (cs : List Activation) (total : ℕ) (layout : Layout
   abbrev ListDoes : Environment → Exits → ℕ → List Instruction → (State → Run Flow) → Type 0
   ListDoes v x most code part = Does (λ c q t. Leaves form cs total c v most q t) v x most code part
 
-  -- a part in a scope of its own: each way out has the locals from before
+  -- a part in a scope of its own: every way to end leaves the earlier locals
   abbrev BlockDoes : Environment → Exits → ℕ → List Instruction → (State → Run Flow) → Type 0
   BlockDoes v x most code part =
       (p b k : ℕ) (vs : List ℕ) (t : State) → b ≡ p + length code + x.breaks → k ≡ p + length code + x.continues → b ≤ length form.code → k ≤ length form.code → Stands form.code p code → Fits v total most vs t
@@ -103,7 +103,7 @@ module _ (form : FormTree) (cs : List Activation) (total : ℕ) (layout : Layout
       done_after form cs total layout c c most most (Reaches form cs total c w most q) (Leaves form cs total c v most b) (Leaves form cs total c v most k) (Leaves form cs total c v most q) (Leaves form cs total c v most b) (Leaves form cs total c v most k) (part t)
       (leads_refl form c) (omega arith) (λ u y. reaches_leaves form cs total c c w v extra most most q q u (leads_refl form c) e pl (omega arith) refl y) (λ u y. y) (λ u y. y) (f p b k vs t eb ek lb lk st h)
 
-  -- the body of an arm or a loop, which is a statement in a scope of its own
+  -- the body of a branch or a loop, which is a statement in a scope of its own
   block_of_statement : (s : Stmt) (v : Environment) (x : Exits) (most : ℕ) (code : List Instruction) (part : State → Run Flow) → Scoped layout defined Takes v → StatementDoes (inner v) (behind s (inner v)) x most code part
       → BlockDoes v x most code (in_block part)
   block_of_statement s v x most code part scoped f =
@@ -118,7 +118,7 @@ module _ (form : FormTree) (cs : List Activation) (total : ℕ) (layout : Layout
       (leads_refl form c) (omega arith) (λ u y. y) (λ u y. reaches_leaves form cs total c c v v [] most most b b u (leads_refl form c) refl refl (omega arith) refl y)
       (λ u y. reaches_leaves form cs total c c v v [] most most k k u (leads_refl form c) refl refl (omega arith) refl y) (f p b k vs t eb ek lb lk st h)
 
-  -- what falls through alone
+  -- a part that only falls through
   falls_done : (c : Configuration) (v : Environment) (most q : ℕ) (b k : State → Type 0) (flow : Flow) (t : State) → Acted form cs total c v most q flow t → Done form cs total layout c most (Reaches form cs total c v most q) b k flow t
   falls_done c v most q b k flow t h =
       subst (λ f. Done form cs total layout c most (Reaches form cs total c v most q) b k f t) (sym h.falls) (record { variables = h.variables; fits = h.fits; leads = h.leads })
@@ -211,7 +211,7 @@ module _ (form : FormTree) (cs : List Activation) (total : ℕ) (layout : Layout
       (λ y z. reaches_after form cs total c d v v most most b b y got.leads refl refl (omega arith) refl z) (λ y z. reaches_after form cs total c d v v most most k k y got.leads refl refl (omega arith) refl z)
       (arm_meets v x most q b k w vs arm part u g in_arm.0 in_arm.1 (omega arith) (omega arith) lb lk got.fits))
 
-  -- both arms
+  -- both branches
   arms_meet : (v : Environment) (x : Exits) (most p b k w : ℕ) (vs : List ℕ) (first second : List Instruction) (part other : State → Run Flow) (t : State) → BlockDoes v (further (length second + 1) x) most first part → BlockDoes v x most second other
       → slice_get form.code p ≡ Some (instruction.JumpIfZero (length first + 1)) → Stands form.code (p + 1) first → slice_get form.code (p + 1 + length first) ≡ Some (instruction.Jump (length second)) → Stands form.code (p + 1 + length first + 1) second
       → b ≡ p + 1 + length first + 1 + length second + x.breaks → k ≡ p + 1 + length first + 1 + length second + x.continues → b ≤ length form.code → k ≤ length form.code → Fits v total most vs t
@@ -278,7 +278,7 @@ module _ (form : FormTree) (cs : List Activation) (total : ℕ) (layout : Layout
   FollowingDoes v following part =
       (most : ℕ) → most < n → (p : ℕ) (vs : List ℕ) (t : State) → Stands form.code p following → Fits v total most vs t → Meets form (conf p vs [] cs t) (Acted form cs total (conf p vs [] cs t) v most (p + length following)) (part t)
 
-  -- the turns of a loop that stands at p, from its test on
+  -- the turns of a loop at p, from its test on
   turns_there : (v : Environment) (body following test : List Instruction) (condition : State → Run ℕ) (inside part : State → Run Flow) (p : ℕ) → v.layout ≡ layout → Loop form.code body following test p
       → TestDoes v test condition → BodyDoes v (exits_of_body following test) body inside → FollowingDoes v following part → (i most : ℕ) (vs : List ℕ) (t : State) → most < i → most < n → Fits v total most vs t
       → Meets form (conf (p + 1 + length body + length following) vs [] cs t)
@@ -336,7 +336,7 @@ module _ (form : FormTree) (cs : List Activation) (total : ℕ) (layout : Layout
       (let z : p + 1 + length body + 0 ≡ p + 1 + length body = omega arith in z)
       (turns_there v body [] test condition inside (λ y. Gives Falls y) p pl loop tests bodies nothing (suc n) fewer vs' u (omega arith) (omega arith) fits)))
 
-  -- a part that only falls through or returns is left as any statement is
+  -- a part that only falls through or returns ends like any statement
   never_leaves : (v w : Environment) (x : Exits) (most : ℕ) (code : List Instruction) (part : State → Run Flow)
       → ((p : ℕ) (vs : List ℕ) (t : State) → Stands form.code p code → Fits v total most vs t → Meets form (conf p vs [] cs t) (Done form cs total layout (conf p vs [] cs t) most (Reaches form cs total (conf p vs [] cs t) w most (p + length code)) Never Never) (part t))
       → StatementDoes v w x most code part

@@ -1,4 +1,4 @@
--- The instructions of an expression push its value. By recursion on the tree; what a call does is handed in.
+-- The instructions of an expression push its value, by recursion on the tree. What a call does is a parameter.
 use Rattle.std.proofs.Common.{◌≡◌, ℕ, zero, suc, ◌+◌, ◌<◌, ◌≤◌, true, not, if◌then◌else◌, ◌&&◌, List, [], ◌∷◌, ◌++◌, length, reverse, inl, inr, Option, Some, None, slice_get, refl, sym, ap, ◌∙◌, subst, arith, length-append}
 use Rattle.std.proofs.lemmas.Bool.Decides.{leb_tells}
 use Rattle.std.proofs.Math.Dec.{eqb-suc-zero}
@@ -27,18 +27,18 @@ use Rattle.cc_meaning.proofs.Moves.{Leads, leads_refl, leads_then, conf, Meets, 
 use Rattle.cc_meaning.proofs.Plain.{IsPlain, Kind, IsAnd, IsOr, IsOther}
 use Rattle.cc_meaning.proofs.Fits.{Fits, found_object}
 
--- the form gives a word after some instructions, over the operands that were there
+-- after some instructions the form has a word above the operands that were there
 pub record Value (form : FormTree) (cs : List Activation) (total : ℕ) (c : Configuration) (v : Environment) (most : ℕ) (vs : List ℕ) (q : ℕ) (ops : List ℕ) (w : ℕ) (t : State) : Type 0 where
   pub fits : Fits v total most vs t
   pub leads : Leads form c (conf q vs (w ∷ ops) cs t)
 
--- and some words, the last one the newest
+-- the same for several words, the last one newest
 pub record Values (form : FormTree) (cs : List Activation) (total : ℕ) (c : Configuration) (v : Environment) (most : ℕ) (vs : List ℕ) (q count : ℕ) (ops : List ℕ) (ws : List ℕ) (t : State) : Type 0 where
   pub fits : Fits v total most vs t
   pub many : length ws ≡ count
   pub leads : Leads form c (conf q vs (reverse ws ++ ops) cs t)
 
--- each call that takes this many words gives in the form what it gives in the source, where fewer than n steps are left
+-- each call with the right number of words gives in the form what it gives in the source, if fewer than n steps are left
 abbrev pub CallsMeet : FormTree → Layout → (List ℕ → ℕ → Type 0) → List Activation → (total n : ℕ) → Calls → Type 0
 CallsMeet form layout Takes cs total n call =
     (v : Environment) (f ws : List ℕ) (p : ℕ) (vs ops : List ℕ) (s : State) (most : ℕ)
@@ -46,13 +46,13 @@ CallsMeet form layout Takes cs total n call =
     → Meets form (conf p vs (reverse ws ++ ops) cs s) (Value form cs total (conf p vs (reverse ws ++ ops) cs s) v most vs (p + 1) ops) (call f ws s)
 
 module _ (form : FormTree) (cs : List Activation) (total : ℕ) where
-  -- instructions that do what an expression does, wherever they stand
+  -- instructions that do what an expression does, at any place in the code
   abbrev pub Part : Environment → (most : ℕ) (vs : List ℕ) → List Instruction → (State → Run ℕ) → Type 0
   Part v most vs code part =
       (p : ℕ) (ops : List ℕ) (s : State) → Stands form.code p code → Fits v total most vs s
       → Meets form (conf p vs ops cs s) (Value form cs total (conf p vs ops cs s) v most vs (p + length code) ops) (part s)
 
-  -- after some moves, and at another way to write the place
+  -- after some moves, and with another way to write the place
   pub value_after : (v : Environment) (most : ℕ) (vs ops : List ℕ) (c d : Configuration) (q q' : ℕ) (r : Run ℕ) → Leads form c d → q ≡ q'
       → Meets form d (Value form cs total d v most vs q ops) r → Meets form c (Value form cs total c v most vs q' ops) r
   value_after v most vs ops c d q q' r p e h =
@@ -279,7 +279,7 @@ module _ (form : FormTree) (cs : List Activation) (total : ℕ) where
 
   -- ---- a conditional
 
-  -- a jump where a word is 0
+  -- a jump if a word is 0
   pub branches : (n p q : ℕ) (vs ops : List ℕ) (s : State) → slice_get form.code p ≡ Some (instruction.JumpIfZero n) → q ≡ p + 1 + n → q ≤ length form.code
       → Leads form (conf p vs (zero ∷ ops) cs s) (conf q vs ops cs s)
   branches n p q vs ops s e at le =

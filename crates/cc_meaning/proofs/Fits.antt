@@ -1,5 +1,4 @@
--- When a configuration of the form stands for a state of the source, and how variables and elements are read and written in
--- it.
+-- When a configuration of the form represents a state of the source, and how variables and elements are read and written in it.
 use Rattle.std.proofs.Common.{◌≡◌, ℕ, ◌+◌, ◌<◌, ◌≤◌, true, if◌then◌else◌, List, [], ◌∷◌, ◌++◌, length, reverse, nat_lt, inl, inr, Option, Some, None, is_some, slice_get, slice_set, unwrap_or, refl, sym, ap, ◌∙◌, subst, arith}
 use Rattle.std.proofs.lemmas.Bool.{lt-ltb}
 use Rattle.cc_words.specs.Widths.{kept}
@@ -14,8 +13,8 @@ use Rattle.cc_c_laws.proofs.Held.{names_of, words_in, reads_local, no_local, wri
 use Rattle.cc_meaning.proofs.Moves.{conf}
 use Rattle.cc_c_laws.proofs.Scoped.{Readable}
 
--- the variables are the words of the locals, the oldest first, with others after them that no name has; the objects stand
--- where they are placed; at most this many steps are left
+-- the variables are the words of the locals, oldest first, followed by others that no name refers to; the objects are at their
+-- places; at most this many steps are left
 pub record Fits (v : Environment) (total most : ℕ) (vs : List ℕ) (s : State) : Type 0 where
   pub names : names_of s.locals ≡ v.locals
   pub laid : layout_from 0 s.globals ≡ v.layout.objects

@@ -15,7 +15,7 @@ use Rattle.cc_meaning.proofs.Expressions.{Value, Part}
 use Rattle.cc_meaning.proofs.Actions.{Acted}
 use Rattle.cc_meaning.proofs.Blocks.{Reaches, Done, done_after, reaches_after}
 
--- where the parts of a loop stand: its step, its body, what follows it, its test, and the instruction that goes back
+-- where the parts of a loop are: its step, its body, what follows the body, its test, and the backward jump
 pub record Loop (code : List Instruction) (body following test : List Instruction) (p : ℕ) : Type 0 where
   pub begins : slice_get code p ≡ Some instruction.Step
   pub has_body : Stands code (p + 1) body
@@ -67,7 +67,7 @@ module _ (form : FormTree) (cs : List Activation) (total n : ℕ) (layout : Layo
   abbrev end_at : ℕ
   end_at = p + 1 + length body + length following + length test + 1
 
-  -- what a loop comes to: it falls through, or returns
+  -- how a loop ends: it falls through or returns
   abbrev Ends : Configuration → ℕ → (b k : State → Type 0) → Flow → State → Type 0
   Ends c most b k = Done form cs total layout c most (Reaches form cs total c v most end_at) b k
 
@@ -85,7 +85,7 @@ module _ (form : FormTree) (cs : List Activation) (total n : ℕ) (layout : Layo
       (λ u x. reaches_after form cs total c (conf following_at h.variables [] cs t) v v most most end_at end_at u h.leads refl refl (omega arith) refl x) (λ u x. x) (λ u x. x) (f h.variables t h.fits)
   behind_body_meets c most b k go (Returns w) t f h = h
 
-  -- the body of a turn, wherever its locals are
+  -- the body of a turn, with any locals
   abbrev pub BodyDoes : Type 0
   BodyDoes = (most : ℕ) (vs : List ℕ) (t : State) → most < n → Fits v total most vs t
       → Meets form (conf body_at vs [] cs t)

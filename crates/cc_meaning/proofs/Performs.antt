@@ -1,4 +1,4 @@
--- The instructions of each action and declaration do what the source says. What a call does is handed in.
+-- The instructions of each action and declaration do what the source says. What a call does is a parameter.
 use Rattle.std.proofs.Common.{◌≡◌, ℕ, ◌+◌, ◌<◌, ◌≤◌, if◌then◌else◌, List, [], ◌∷◌, ◌++◌, length, reverse, drop, Option, Some, None, is_some, slice_get, slice_set, refl, sym, ap, ◌∙◌, subst, arith, length-append}
 use Rattle.std.proofs.lemmas.Bool.{lt-ltb}
 use Rattle.std.proofs.lemmas.List.{length-map, length-reverse}
@@ -30,7 +30,7 @@ use Rattle.cc_meaning.proofs.Evaluates.{expression_meets}
 use Rattle.cc_meaning.proofs.Actions.{Acted, acted_after, stores_local, store_meets, element_store_meets}
 use Rattle.cc_c_laws.proofs.Scoped.{Readable, Scoped, scoped_local}
 
--- a new variable, which is 0, takes the first word that no name had
+-- a new variable, which is 0, takes the first word that no name refers to
 cleared_words : (ws junk : List ℕ) → 0 < length junk → slice_set (reverse ws ++ junk) (length ws) 0 ≡ reverse (0 ∷ ws) ++ drop 1 junk
 cleared_words ws [] h = absurd (omega arith)
 cleared_words ws (j ∷ junk) h = set_right (reverse ws) (j ∷ junk) 0 (length ws) 0 (let e = length-reverse ws in omega arith) ∙ sym (newest_last 0 ws junk)
@@ -184,7 +184,7 @@ module _ (form : FormTree) (cs : List Activation) (total : ℕ) (layout : Layout
   newest_number : (t : Scalar) (x : List ℕ) (v : Environment) → number_in (with_local t x v).locals x ≡ Some (length v.locals)
   newest_number t x v = ap (λ b. if b then Some (length v.locals) else number_in v.locals x) (name_is_itself x)
 
-  -- a local that is 0 may be stored 0
+  -- storing 0 in a local that is 0 changes nothing
   stored_again : (x : List ℕ) (s : State) → stored x 0 (meaning.with_local x s) ≡ meaning.with_local x s
   stored_again x s =
       ap (λ b. if is_some (if b then Some 0 else meaning.local_word s.locals x)

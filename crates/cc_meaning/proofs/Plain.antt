@@ -1,4 +1,4 @@
--- Operators and the operations that stand for them.
+-- Operators and the operations that they become.
 use Rattle.std.proofs.Common.{◌≡◌, ℕ, List, [], ◌∷◌, ◌++◌, Option, Some, None, refl}
 use Rattle.cc_tokens.specs.declared.scalar.Scalar.{Scalar}
 use Rattle.cc_tokens.specs.declared.scalar.Scalar.TheVariants.{Int, Unsigned}
@@ -17,7 +17,7 @@ use Rattle.cc_meaning.specs.declared.form.Instruction.TheVariants.{Binary}
 use Rattle.cc_c_laws.specs.Meaning.{cause_of}
 use Rattle.cc_meaning.specs.internal.FormMeaning.{binary_result, cause_of_operation}
 
--- an operator that needs both its operands, which an operation stands for
+-- an operator that needs both its operands, and becomes an operation
 pub record IsPlain (op : BinaryOperator) : Type 0 where
   pub undecided : (a : ℕ) → decided op a ≡ None
   pub joins : (o : BinaryOperation) (left right : List Instruction) → joined op o left right ≡ (left ++ right) ++ Binary o ∷ []

@@ -24,7 +24,7 @@ use Rattle.cc_c_laws.proofs.Scopes.{AllFit, all_fit}
 use Rattle.cc_meaning.proofs.Called.{Defined, Entered, main_meets}
 use Rattle.cc_c_laws.proofs.Bodies.{Takes, final_scope, names_in, body_scoped, main_named, main_parameters}
 
--- ---- what stands in the whole code
+-- ---- what the whole code has at a place
 
 stands_in : (prefix xs back : List Instruction) → Stands (prefix ++ (xs ++ back)) (length prefix) xs
 stands_in prefix [] back = omega (arith, length-append prefix back)
@@ -46,7 +46,7 @@ objects_laid at (o ∷ rest) h =
     ap (λ k. record { name = (object_name o).text; extent = record { offset = at; length = k; width = object_width o } } ∷ layout_from (at + k) (map initial_global rest)) h.0
     ∙ ap (λ (ps : List LaidObject). record { name = (object_name o).text; extent = record { offset = at; length = object_elements o; width = object_width o } } ∷ ps) (objects_laid (at + object_elements o) rest h.1)
 
--- ---- the functions of a unit beside their instructions
+-- ---- the functions of a unit and their instructions
 
 module _ (unit : List External) (typed : IsTyped unit) where
   abbrev layout : Layout
@@ -94,7 +94,7 @@ module _ (unit : List External) (typed : IsTyped unit) where
   matched (Objects t os ∷ rest) f o d whole =
       matched rest (with_objects t os f) (nil_right (external_errors (Objects t os) f) (externals_errors rest (with_objects t os f)) o) (defined_right known (called_in_external (Objects t os)) (called rest) d) whole
 
-  -- a name among them: its function, its number, and where its instructions stand
+  -- a name among them: its function, its number, and the place of its instructions
   record Listed (gs : List Function) (cs : List FunctionCode) (xs : List (List ℕ)) (code : List Instruction) (at : ℕ) (x : List ℕ) : Type 0 where
     function : Function
     instructions : FunctionCode
@@ -164,7 +164,7 @@ module _ (unit : List External) (typed : IsTyped unit) where
   no_parameters : (e : Entered (resolved unit) layout known (functions unit) (codes "main")) → e.function.parameters ≡ []
   no_parameters e = nil_from_length e.function.parameters (main_parameters unit typed e.function e.is)
 
-  -- with no step left, and with one at least
+  -- with no step left, and with at least one
   behaves : (text input : List ℕ) (n : ℕ) (e : Entered (resolved unit) layout known (functions unit) (codes "main"))
       → (k : ℕ) × (form_behavior k (resolved unit) input n ≡ Some (source_behavior (record { text = text; externals = unit }) input n))
   behaves text input zero e = (

@@ -1,4 +1,4 @@
--- An assignment: the index of what is written, the right side, and the write, which stands after both.
+-- An assignment: the index of the target, the right side, and the write, which follows both.
 use Rattle.std.proofs.Common.{◌≡◌, ℕ, ◌+◌, ◌-◌, List, [], ◌∷◌, ◌++◌, length, set, Option, Result, Ok, Err, OnOk, refl, sym, ap, ◌∙◌, append_assoc}
 use Rattle.cc_ast.specs.Tree.{Target, AtVariable, AtElement}
 use Rattle.cc_resolve.specs.Environment.{Environment}

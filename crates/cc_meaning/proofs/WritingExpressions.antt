@@ -12,11 +12,11 @@ use Rattle.cc_resolve.specs.declared.operations.BinaryOperation.{BinaryOperation
 use Rattle.cc_meaning.specs.declared.form.Instruction.{Instruction}
 use Rattle.cc_meaning.specs.declared.form.Instruction.TheVariants.{Binary, Truth, AndThen, OrElse}
 
--- a part, and what stood before it, in front of what stood at first
+-- a part written before another, which was written before the first instructions
 pub behind : {A : Type 0} (xs ys old mid new : List A) → new ≡ xs ++ mid → mid ≡ ys ++ old → new ≡ (xs ++ ys) ++ old
 behind xs ys old mid new en em = en ∙ ap (λ l. xs ++ l) em ∙ sym (append_assoc xs ys old)
 
--- an item after which this many stand gets another value
+-- an item followed by this many gets another value
 pub set_behind : {A : Type 0} (xs old new : List A) (x y : A) (n : ℕ) → new ≡ xs ++ x ∷ old → n ≡ length old → set new (length new - (n + 1)) y ≡ xs ++ y ∷ old
 set_behind xs old new x y n e en =
     let long : length new ≡ length xs + length (x ∷ old) = ap length e ∙ length-append xs (x ∷ old) in
@@ -39,7 +39,7 @@ module _ (op : BinaryOperation) (left right old second cut first new : List Inst
       let mid : cut ≡ (jump (length right + 1) ∷ right) ++ Truth ∷ old = e3 ∙ ap (λ k. jump k ∷ second) distance ∙ ap (λ l. jump (length right + 1) ∷ l) e2 in
       behind (left ++ jump (length right + 1) ∷ right) (Truth ∷ []) old (Truth ∷ old) new (behind left (jump (length right + 1) ∷ right) (Truth ∷ old) cut new (e5 ∙ e4) mid) refl
 
-  -- both operands of another one
+  -- both operands of an operator without a short cut
   without_cut : cut ≡ second → new ≡ set first (length first - (n + 1)) (Binary op) → new ≡ (left ++ right ++ Binary op ∷ []) ++ old
   without_cut e3 e5 =
       let stands : first ≡ (left ++ right) ++ Truth ∷ old = behind left right (Truth ∷ old) cut first e4 (e3 ∙ e2) in

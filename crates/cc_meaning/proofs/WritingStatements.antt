@@ -1,5 +1,5 @@
--- Instructions are written from the last one to the first: the names of a list come into scope first, and then what stands
--- after each of its members is there when the member is written.
+-- Instructions are written from last to first: the names of a list come into scope first, and then the instructions after each
+-- member are there when the member is written.
 use Rattle.std.proofs.Common.{◌≡◌, ℕ, ◌+◌, ◌-◌, ◌≤◌, List, [], ◌∷◌, ◌++◌, length, length-append, reverse, set, refl, sym, ap, ◌∙◌, append_assoc, arith}
 use Rattle.std.proofs.lemmas.List.{set-append_right}
 use Rattle.cc_ast.specs.Erase.{optional_tree, declarator_trees, statement_tree, statements_of}
@@ -18,7 +18,7 @@ use Rattle.cc_meaning.proofs.Emitting.{reverse-prefix}
 
 -- ---- declarations
 
--- the environment after some names of a declaration, the last one first
+-- the environment after some names in a declaration, the last one first
 abbrev pub with_reversed : Scalar → List Declarator → Environment → Environment
 with_reversed t [] w = w
 with_reversed t (d ∷ before) w = with_local t d.name.bytes.items (with_reversed t before w)
@@ -33,11 +33,11 @@ with_locals-reversed t (d ∷ ds) w =
     with_locals-reversed t ds (with_local t d.name.bytes.items w) ∙ sym (with_reversed-append t (reverse ds) (d ∷ []) w)
     ∙ sym (ap (λ l. with_reversed t l w) (reverse-prefix d ds))
 
--- one name of a declaration, whose local is the newest in an environment after another one
+-- one name in a declaration, whose local is the newest in an environment after another one
 abbrev pub declarator_code : Scalar → Declarator → Environment → List Instruction
 declarator_code t d w = Clear (length w.locals) ∷ initial_code (with_local t d.name.bytes.items w) (length w.locals) (optional_tree d.initial)
 
--- names of a declaration, the last one first, before some instructions
+-- names in a declaration, the last one first, before some instructions
 abbrev pub declared_onto : Scalar → List Declarator → Environment → List Instruction → List Instruction
 declared_onto t [] w c = c
 declared_onto t (d ∷ before) w c = declared_onto t before w (declarator_code t d (with_reversed t before w) ++ c)
@@ -57,7 +57,7 @@ declared-is t (d ∷ ds) w c =
     ∙ ap (λ l. declarator_code t d w ++ l) (declared-is t ds there c)
     ∙ sym (append_assoc (declarator_code t d w) (declared_code there t (declarator_trees ds)) c)
 
--- before the last names of a declaration are taken back: what is left makes the whole
+-- before the last names of a declaration are removed: what is left makes the whole
 pub record Undeclaring (t : Scalar) (w : Environment) (all : List Declarator) (c0 : List Instruction) (v : Environment) (c : List Instruction) (rest : List Declarator) : Type 0 where
   pub names : v ≡ with_reversed t rest w
   pub code : declared_onto t rest w c ≡ declared_onto t all w c0
@@ -110,7 +110,7 @@ written_onto-append x (s ∷ xs) ys w c =
     ap (λ v. written_onto x (xs ++ ys) w (statement_code v (exits_of (length c) x) (statement_tree s) ++ c)) (behind_reversed-append xs ys w)
     ∙ written_onto-append x xs ys w (statement_code (behind_reversed xs (behind_reversed ys w)) (exits_of (length c) x) (statement_tree s) ++ c)
 
--- a place is as far from what is written next as from what stands, and past that
+-- a target's distance from the next instruction, by its distance from those that are written
 further-minus : (n m k : ℕ) → k ≤ m → (n + m) - k ≡ n + (m - k)
 further-minus n m k h = omega arith
 
@@ -157,7 +157,7 @@ Writing-next x w all c0 v c s rest v' c' before en ec =
       longer = omega arith;
     }
 
--- a statement that declares nothing in the scope around it, in the form in which it is met
+-- a statement that declares nothing in the scope around it, as the walk meets it
 pub statement-is : (s met : tree.Stmt) (v w : Environment) (x : code.Exits) (c c' : List Instruction) → s ≡ met → v ≡ behind s w → behind met w ≡ w
     → c' ≡ statement_code v x met ++ c → c' ≡ statement_code w x s ++ c
 statement-is s met v w x c c' is e stays written =
@@ -166,7 +166,7 @@ statement-is s met v w x c c' is e stays written =
 
 -- ---- loops
 
--- the body of a loop, of whose instructions this many stand when it is written
+-- the body of a loop, when this many instructions are written
 pub exits-of-body : (following test rest c : List Instruction) (breaks : ℕ) → c ≡ following ++ (test ++ Repeat 0 ∷ rest) → breaks ≡ length rest
     → exits_of (length c) (record { breaks = breaks; continues = length c }) ≡ exits_of_body following test
 exits-of-body following test rest c breaks e b =
@@ -175,7 +175,7 @@ exits-of-body following test rest c breaks e b =
     let none : length c - length c ≡ 0 = omega arith in
     λ i. record { breaks = breaks-at i; continues = none i }
 
--- the turns stand once the jump back has its distance
+-- the turns are complete once the backward jump has its distance
 pub turns-are : (body following test rest c0 c1 c2 c3 : List Instruction) (breaks : ℕ) → c0 ≡ following ++ (test ++ Repeat 0 ∷ rest) → breaks ≡ length rest
     → c1 ≡ body ++ c0 → c2 ≡ set c1 (length c1 - (breaks + 1)) (Repeat (length c1 - breaks)) → c3 ≡ Step ∷ c2
     → c3 ≡ turns_code body following test ++ rest

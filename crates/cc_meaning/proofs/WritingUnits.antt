@@ -1,4 +1,4 @@
--- Functions and external declarations, one after the other: what is written and what is left make the whole.
+-- Functions and external declarations, one after another: what is written and what is left make the whole.
 use Rattle.std.proofs.Common.{◌≡◌, ℕ, ◌+◌, List, [], ◌∷◌, ◌++◌, length, length-append, append_assoc, refl, sym, ap, ◌∙◌, arith}
 use Rattle.std.proofs.lemmas.List.{append-nil}
 use Rattle.std.specs.Prelude.{codes}
@@ -16,7 +16,7 @@ use Rattle.cc_meaning.specs.internal.Form.{FunctionCode, function_code, function
 
 -- ---- functions
 
--- the names of its parameters and locals go with a function
+-- after a function, the names of its parameters and locals are gone
 pub function-names : (v v1 v2 v3 : Environment) (s : Signature) (f : FileScope) → v.locals ≡ [] → v1 ≡ environment_of v.layout s f → v2 ≡ v1
     → ((layout : Layout) (t : Signature) (g : FileScope) → v2 ≡ environment_of layout t g → v3 ≡ record { visible = file_level (with_function t g).bindings; locals = []; layout = layout })
     → v3 ≡ record v { visible = file_level (with_function s f).bindings }
@@ -25,7 +25,7 @@ function-names v v1 v2 v3 s f none e1 e2 left =
 
 -- ---- the code of functions
 
--- what is declared in file scope after an external declaration depends on what was declared there before it
+-- what file scope has declared after an external declaration depends only on what it had declared before it
 behind-bindings : (e : External) (g h : FileScope) → g.bindings ≡ h.bindings → (file_scope_behind e g).bindings ≡ (file_scope_behind e h).bindings
 behind-bindings (Declaration s) g h same = ap (λ bs. (with_function s (record { bindings = bs; defined = [] })).bindings) same
 behind-bindings (Definition s body) g h same = ap (λ bs. (with_function s (record { bindings = bs; defined = [] })).bindings) same

@@ -1,4 +1,4 @@
--- What the code's answer shows.
+-- The code's result, as the definitions see it.
 use Rattle.std.specs.Prelude.{ℕ}
 use Rattle.cc_c_laws.specs.Outcome as outcome
 use Rattle.cc_meaning.specs.declared.outcome.Stop.{Stop}

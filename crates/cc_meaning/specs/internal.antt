@@ -1,4 +1,5 @@
--- What only private contracts and proofs speak of: the resolved form, what it means, and how the interpreter holds a run.
+-- Definitions that only private contracts and proofs use: the resolved form, what it means, and how the interpreter represents a
+-- run.
 pub mod Form
 pub mod FormErase
 pub mod Emitted

@@ -1,5 +1,5 @@
-// The instructions of a function, written from the last one to the first, so that each jump's distance is known when it is
-// written. The one jump backward, of a loop, is written with its distance once the loop's body stands.
+// The instructions of a function, written from last to first, so that each jump's distance is known when it is written. The only
+// backward jump, that of a loop, gets its distance once the loop's body is written.
 
 ghost use Rattle.std.specs.Prelude.{◌≡◌, ◌+◌, ◌-◌, ◌<◌, ◌≤◌, [], ◌∷◌, ◌++◌, length, slice_set, OnOk};
 
@@ -7,7 +7,7 @@ use super::form::Instruction;
 use std::alloc::{AllocError, Global};
 use std::marker::Model;
 
-/// The instructions so far, the last one of the function first.
+/// The instructions so far, with the function's last one first.
 #[derive(Drop)]
 pub struct Emitter {
     items: Vec<Instruction>,
@@ -31,14 +31,14 @@ impl Emitter {
         }
     }
 
-    /// How many instructions stand after the next one that is written.
+    /// How many instructions are written already.
     pub fn len(&self) -> usize
         ensures { result ≡ length self.now }
     {
         self.items.len()
     }
 
-    /// Writes an instruction before those that stand.
+    /// Writes an instruction before those that are written already.
     pub fn emit(&mut self, instruction: Instruction) -> Result<(), AllocError>
         ensures { OnOk result (self.new ≡ instruction ∷ self.old) }
     {
@@ -46,7 +46,7 @@ impl Emitter {
         Ok(())
     }
 
-    /// How many instructions a jump that is written next skips, to go where this many stood after it.
+    /// How many instructions the next jump must skip to reach the place that `target` instructions followed when it was noted.
     pub fn distance(&self, target: usize) -> usize
         requires { target ≤ length self.now }
         ensures { result ≡ length self.now - target }
@@ -54,7 +54,7 @@ impl Emitter {
         self.items.len() - target
     }
 
-    /// Writes another instruction in the place of one, before which this many stood after.
+    /// Replaces the instruction that `behind` instructions follow.
     pub fn replace(&mut self, behind: usize, instruction: Instruction)
         requires { behind < length self.old }
         ensures { self.new ≡ slice_set self.old (length self.old - (behind + 1)) instruction }
@@ -62,7 +62,7 @@ impl Emitter {
         self.items[behind] = instruction;
     }
 
-    /// Puts the instructions after some others, in the order in which they run, and begins anew.
+    /// Appends the instructions to others, in the order in which they run, and starts again with none.
     pub fn finish(&mut self, code: &mut Vec<Instruction>) -> Result<(), AllocError>
         ensures code { OnOk result (code.new.items ≡ code.old.items ++ self.old) }
         ensures begun { OnOk result (self.new ≡ []) }

@@ -6,7 +6,7 @@ ghost use Rattle.cc_meaning.specs.Fault.{fault_number};
 use std::alloc::AllocError;
 use thiserror::Error;
 
-/// Why a program is not run to its end or its last step.
+/// Why a run stops before its end or its last step.
 #[derive(Debug, Drop, Error)]
 pub enum MeaningFault {
     /// 40: memory ran out.

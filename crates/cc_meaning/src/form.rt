@@ -1,11 +1,12 @@
 // The resolved form of a unit: one list of instructions over a stack of words, with numbers in place of names.
 //
-// The arguments of a call are its callee's first variables, and stand where the caller left them on the stack; the other
-// variables follow, and above them the words of unfinished expressions. A jump skips a number of instructions after itself.
+// The arguments of a call are the first variables of the called function, and stay where the caller left them on the stack. The
+// other variables follow, and above them the words of unfinished expressions. A jump's number is how many instructions it skips
+// after itself.
 
 use cc_resolve::{BinaryOperation, Extent, UnaryOperation};
 
-/// What is written: a variable of the function, a word of the objects at file scope, or an array's element.
+/// What is written to: a variable of the function, a word of the objects at file scope, or an element of an array.
 #[derive(Clone, Copy)]
 pub enum Slot {
     Local(usize),
@@ -13,7 +14,7 @@ pub enum Slot {
     Element(Extent),
 }
 
-/// One step of an interpreter over a stack of words.
+/// One step of an interpreter with a stack of words.
 #[derive(Clone, Copy)]
 pub enum Instruction {
     /// Pushes a word.
@@ -22,48 +23,49 @@ pub enum Instruction {
     Local(usize),
     /// Pushes a word of the objects at file scope.
     Global(usize),
-    /// Replaces an index by the array's element; goes wrong where there is none.
+    /// Replaces an index by the array's element; goes wrong if the array has no such element.
     Element(Extent),
-    /// Makes a variable 0.
+    /// Sets a variable to 0.
     Clear(usize),
-    /// Takes a word into a variable of the function.
+    /// Takes a word and stores it in a variable of the function.
     SetLocal(usize),
-    /// Takes a word into a word of the objects at file scope.
+    /// Takes a word and stores it in a word of the objects at file scope.
     SetGlobal(usize),
-    /// Takes a word, and an index below it, and stores the word in the array's element.
+    /// Takes a word and the index below it, and stores the word in the array's element.
     SetElement(Extent),
-    /// Takes a word, and an index below it for an element, and makes of the old value there and of the word the new one.
+    /// Takes a word, and for an element the index below it, and replaces the old value there by the operation's value for the old
+    /// value and the word.
     Update(BinaryOperation, Slot),
     Unary(UnaryOperation),
-    /// Replaces two words, the left one below the right one, by one.
+    /// Replaces two words, the left one below the right one, by the operation's value.
     Binary(BinaryOperation),
-    /// Takes a word away.
+    /// Removes a word.
     Drop,
-    /// Replaces a word by 1, and 0 stays.
+    /// Replaces a word other than 0 by 1, and keeps 0.
     Truth,
-    /// Where the word is 0, leaves it and skips this many instructions; else takes it away.
+    /// If the word is 0, keeps it and skips this many instructions; otherwise removes it.
     AndThen(usize),
-    /// Where the word is not 0, replaces it by 1 and skips this many instructions; else takes it away.
+    /// If the word is not 0, replaces it by 1 and skips this many instructions; otherwise removes it.
     OrElse(usize),
     /// Skips this many instructions.
     Jump(usize),
-    /// Takes a word, and skips this many instructions where it is 0.
+    /// Takes a word, and skips this many instructions if it is 0.
     JumpIfZero(usize),
-    /// Takes a word, and where it is not 0 goes back over this many instructions and itself.
+    /// Takes a word, and if it is not 0 goes back over this many instructions and itself.
     Repeat(usize),
-    /// Spends a step; stops where none is left.
+    /// Spends a step; stops if none is left.
     Step,
-    /// Calls the function with a number, in the order of definitions.
+    /// Calls the function with this number, in the order of definitions.
     Call(usize),
-    /// Pushes the next word of the input, and 0 where none is left.
+    /// Pushes the next word of the input, or 0 if none is left.
     Read,
     /// Appends a word to the output, and replaces it by 0.
     Write,
-    /// Leaves the function with a word.
+    /// Returns from the function with a word.
     Return,
 }
 
-/// Where a function's instructions begin, how many parameters it has, and how many other variables.
+/// The index of a function's first instruction, how many parameters it has, and how many other variables.
 #[derive(Clone, Copy)]
 pub struct Entry {
     pub start: usize,
@@ -71,8 +73,8 @@ pub struct Entry {
     pub variables: usize,
 }
 
-/// The resolved form of a unit: the instructions of all functions one after the other, the functions in the order of
-/// their definitions, the number of `main`, and the words of all objects before the run, one object after the other.
+/// The resolved form of a unit: the instructions of all functions one after another, the functions in the order of their
+/// definitions, the number of `main`, and the initial words of all objects one object after another.
 #[derive(Drop)]
 pub struct Form {
     pub code: Vec<Instruction>,

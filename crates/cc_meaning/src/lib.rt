@@ -1,9 +1,15 @@
-//! The interpreter of C, which is exactly the meaning of C: a program's behavior on an input within a number of steps.
+//! The interpreter of C. Its results are exactly the meaning of C: a program's behavior on an input within a number of steps.
 //!
-//! `form` has the instructions that a typed unit becomes, and `writer` writes them, on `emitter`; `operation` has what
-//! operations give on words, `interpreter` runs a form over one stack, `run` runs a typed unit; `outcome` has how a run comes out,
-//! `fault` the refusal 40. The crate hands out `interpret` and these types, and what `cc_c_laws` hands out: the meaning of C
-//! stands in that crate's `specs/Meaning.antt`, and `interpret` is proved to give it.
+//! - `form`: the instructions that a typed unit becomes.
+//! - `writer`, on `emitter`: writes them.
+//! - `operation`: the values of operations on words.
+//! - `interpreter`: runs a form with one stack.
+//! - `run`: runs a typed unit.
+//! - `outcome`: the outcome of a run.
+//! - `fault`: the refusal 40.
+//!
+//! The crate exports `interpret`, these types, and the items of `cc_c_laws`. The meaning of C is defined in that crate's
+//! `specs/Meaning.antt`, and it is proved that `interpret` returns it.
 #![tactic(auto)]
 
 mod emitter;

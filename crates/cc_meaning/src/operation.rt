@@ -1,4 +1,4 @@
-// What operations give on words.
+// The values of operations on words.
 
 ghost use Rattle.std.specs.Prelude.{◌≡◌, ok_or};
 ghost use Rattle.cc_meaning.specs.internal.FormMeaning.{unary_result, binary_result, cause_of_operation};
@@ -6,7 +6,7 @@ ghost use Rattle.cc_meaning.specs.internal.FormMeaning.{unary_result, binary_res
 use cc_c_laws::Cause;
 use cc_resolve::{BinaryOperation, UnaryOperation};
 
-/// What an operation on one word gives.
+/// The value of an operation on one word.
 #[inline(always)]
 pub fn unary(operation: UnaryOperation, word: u32) -> u32
     ensures { result ≡ unary_result operation word }
@@ -18,7 +18,7 @@ pub fn unary(operation: UnaryOperation, word: u32) -> u32
     }
 }
 
-/// What an operation on two words gives, or why it gives nothing.
+/// The value of an operation on two words, or why it has none.
 #[inline(always)]
 pub fn binary(operation: BinaryOperation, left: u32, right: u32) -> Result<u32, Cause>
     ensures { result ≡ ok_or (binary_result operation left right) (cause_of_operation operation) }

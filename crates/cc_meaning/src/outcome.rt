@@ -1,4 +1,4 @@
-// How a run comes out.
+// The outcome of a run.
 
 ghost use Rattle.std.specs.Prelude.{◌≡◌};
 
@@ -21,7 +21,7 @@ pub struct Words {
     words: Vec<u32>,
 }
 
-// By hand, so that crates above call it and do not prove anew how each part is dropped.
+// Written by hand, so that the crates above use this proof and need not show again how each part is dropped.
 impl Drop for Words {
     fn drop(self) {
         let Words { words } = self;
@@ -37,7 +37,7 @@ impl Model for Words {
 }
 
 impl Words {
-    /// The words of a vector. It takes no memory.
+    /// Makes a list of a vector's words. Takes no memory.
     pub fn from_vec(items: Vec<u32>) -> Words
         ensures { result ≡ items.items }
     {
@@ -51,7 +51,7 @@ impl Words {
         self.words.as_slice()
     }
 
-    /// The vector that holds the words. It takes no memory.
+    /// Returns the vector that has the words. Takes no memory.
     pub fn into_vec(self) -> Vec<u32>
         ensures { result.items ≡ self }
     {
@@ -60,7 +60,7 @@ impl Words {
     }
 }
 
-/// How a run stops, and the words that it wrote up to there.
+/// How a run stops, and the words that it wrote until then.
 #[derive(Drop)]
 pub struct Outcome {
     pub stop: Stop,

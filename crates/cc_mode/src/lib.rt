@@ -1,6 +1,6 @@
-//! From a function's tree to its RTL in a mode: by Cminor, in which a checked function has guards.
+//! From the Cminor of a function to its Cminor in a mode, in which a checked function has guards.
 #![tactic(auto)]
 
-mod lowering;
+mod guarding;
 
-pub use lowering::rtl_in;
+pub use guarding::guarded_in;

@@ -1,3 +1,4 @@
--- What is said of commands, said of the disk that has their records (Past); what is put back (Moments).
+-- What is said of commands, said of the disk that has their records (Past); what is put back (Moments); one command more in the log (Logged).
 pub mod Past
 pub mod Moments
+pub mod Logged

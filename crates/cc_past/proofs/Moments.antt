@@ -7,13 +7,12 @@ use Rattle.cc_unit.specs.declared.unit.StoredUnit.{StoredUnit}
 use Rattle.cc_library.specs.declared.command.LibraryCommand.{LibraryCommand}
 use Rattle.cc_library.specs.declared.command.LibraryCommand.TheVariants.{Add, Replace}
 use Rattle.cc_library.specs.declared.fault.LibraryFault.{LibraryFault}
-use Rattle.cc_library.specs.declared.fault.LibraryFault.TheVariants.{Exists, Absent as NoUnit, Full, DiskFault, Closed, Damaged, NotALibrary, OutOfMemory as NoMemory}
 use Rattle.cc_library.specs.Apply.{Units, after, exists, absent, kept, library_of}
-use Rattle.cc_library.specs.Answers.{ChangeLeaves, OpenFaults}
+use Rattle.cc_library.specs.Answers.{ChangeLeaves}
 use Rattle.cc_library.specs.Recovered.{Recovers, RecoversAlone, RecoversOneOf, View}
 use Rattle.cc_log.specs.Commands.{HasCommands}
 use Rattle.cc_past.specs.Past.{IsStoredOn}
-use Rattle.cc_past.specs.Restored.{IsNotPut, MayBeRestored}
+use Rattle.cc_past.specs.Restored.{MayBeRestored}
 use Rattle.cc_past.specs.internal.Steps.{MayBe}
 
 -- ---- the map
@@ -45,7 +44,7 @@ module _ {D : Type 0} (seen : D → List ℕ) (may_leave : D → List ℕ → Ty
   deeper f (inl a) = inl (f a)
   deeper f (inr p) = inr (inr p)
 
-  -- a disk that was read, and of which a crash then leaves P at most
+  -- a disk that was read, and of which a crash then leaves at most P
   pub read_then : (P : List ℕ → Type 0) (old mid new : D) → ((image : List ℕ) → left_since old (moment old) image → may_leave old image)
       → OnlyReads seen may_leave moment left_since old mid → LeavesOnly moment left_since mid new P → LeavesOnly moment left_since old new (λ image. may_leave old image ⊎ P image)
   read_then P old mid new only_now first second = record {
@@ -54,7 +53,7 @@ module _ {D : Type 0} (seen : D → List ℕ) (may_leave : D → List ℕ → Ty
     before = λ t image le left. deeper (λ l. first.moments t image le l) (second.before t image (omega (arith, le, first.later)) left);
   }
 
-  -- one that was read alone
+  -- a disk that was only read
   pub read_alone : (P : List ℕ → Type 0) (old new : D) → ((image : List ℕ) → left_since old (moment old) image → may_leave old image)
       → OnlyReads seen may_leave moment left_since old new → LeavesOnly moment left_since old new (λ image. may_leave old image ⊎ P image)
   read_alone P old new only_now reads = record {
@@ -63,20 +62,9 @@ module _ {D : Type 0} (seen : D → List ℕ) (may_leave : D → List ℕ → Ty
     before = λ t image le left. inl (reads.moments t image le left);
   }
 
--- ---- refusals
+-- ---- answers
 
--- why a library is not opened is why nothing is put into it
-pub open_refused : (honest : Bool) (seen : List ℕ) (before after : ℕ) (fault : LibraryFault) → OpenFaults honest seen before after fault → IsNotPut honest seen before after fault
-open_refused honest seen before after DiskFault why = why
-open_refused honest seen before after NotALibrary why = why
-open_refused honest seen before after Damaged why = why
-open_refused honest seen before after NoMemory why = why
-open_refused honest seen before after Full why = absurd why
-open_refused honest seen before after Exists why = absurd why
-open_refused honest seen before after NoUnit why = absurd why
-open_refused honest seen before after Closed why = absurd why
-
--- what is said of each answer that is one
+-- a claim about each answer that is Ok
 pub on_ok : {T F : Type 0} {A B : Type 0} → (A → B) → (r : Result T F) → OnOk r A → OnOk r B
 on_ok step (Ok t) a = step a
 on_ok step (Err f) a = tt
@@ -90,7 +78,7 @@ kept_as (Ok done) command old new may_leave H made is leaves kept =
     λ h image left. subst (λ (m : Units). RecoversAlone image m) units (kept h image left)
 kept_as (Err fault) command old new may_leave H made is leaves kept = tt
 
--- what may be left of a disk before it was read may be left before
+-- what could have been left of a disk after it was read could have been left before
 pub may_be_restored : (seen name : List ℕ) (number : ℕ) (before mid : List ℕ → Type 0) (units : Units) (stored : List ℕ) (unit : StoredUnit) → ((image : List ℕ) → mid image → before image)
     → stored ≡ name → IsStoredOn seen name number unit → (image : List ℕ) → before image ⊎ MayBe mid units (map.insert units stored unit) image → MayBeRestored seen name number before units image
 may_be_restored seen name number before mid units stored unit none same is image (inl left) = inl left

@@ -1,4 +1,4 @@
--- What is said of commands, said of the disk that has their records.
+-- What holds for commands holds for the disk that has their records.
 use Rattle.std.proofs.Common.{ℕ, Bool, IsTrue, List}
 use Rattle.cc_library.specs.declared.command.LibraryCommand.{LibraryCommand}
 use Rattle.cc_log.specs.Commands.{HasCommands}
@@ -7,7 +7,7 @@ use Rattle.cc_tasks.specs.declared.part.PartFault.TheVariants.{BadName, Absent, 
 use Rattle.cc_past.specs.Past.{IsNotStoredOn}
 use Rattle.cc_past.specs.internal.Steps.{IsNotStored}
 
--- why the command stored nothing among those of a disk is why it stored nothing on the disk
+-- the reason why a command stored nothing, among those of a disk, is the reason why it stored nothing on the disk
 pub not_stored_on : (honest : Bool) (seen : List ℕ) (before after : ℕ) (name : List ℕ) (number : ℕ) (commands : List LibraryCommand) → (IsTrue honest → HasCommands seen commands)
     → (fault : PartFault) → IsNotStored commands name number fault → IsNotStoredOn honest seen before after name number fault
 not_stored_on honest seen before after name number commands has BadName why = why

@@ -1,6 +1,6 @@
 -- What a command of a library stored, and why it stored nothing.
 pub mod Past
--- What is put back.
+-- What was put back.
 pub mod Restored
--- What only private contracts speak of.
+-- Definitions for private contracts.
 pub mod internal

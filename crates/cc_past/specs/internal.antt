@@ -1,2 +1,2 @@
--- Of commands and images alone, before it is said of a disk.
+-- The same for commands and images, before it is stated for a disk.
 pub mod Steps

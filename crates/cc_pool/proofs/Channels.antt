@@ -1,4 +1,5 @@
--- The two ends of a ruled channel may cross threads where its messages may. For any type of message: a search for a given one goes into it.
+-- The two ends of a ruled channel may cross threads if its messages may. This is proved for any type of message, since a search for a given
+-- type would look into it.
 use denote.RattleType.{RattleType}
 use denote.Builtin.{unit}
 use denote.Param.Send.{IsSend, IsSync, sendable, struct_send, struct_sync, recorded_send, recorded_sync}

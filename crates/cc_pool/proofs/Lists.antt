@@ -3,7 +3,7 @@ use Rattle.std.proofs.Common.{◌≡◌, ℕ, zero, suc, ◌+◌, List, [], ◌�
 use Rattle.cc_pool.specs.declared.item.Item.TheVariants.{Stop}
 use Rattle.cc_pool.specs.Shared.{Lists, piece_of, pieces_from, pieces_of, stops, sent_by}
 
--- one more word to stop
+-- one more stop item
 stop_more : (n : ℕ) → stops (suc n) ≡ stops n ++ Stop ∷ []
 stop_more zero = refl
 stop_more (suc n) = ap (λ l. Stop ∷ l) (stop_more n)

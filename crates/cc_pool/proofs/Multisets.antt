@@ -1,4 +1,4 @@
--- Two lists that weigh the same, however items are weighed, have the same items: each as often.
+-- Two lists that weigh the same, however items are weighed, have the same items, each as often.
 use Rattle.std.proofs.Common.{◌≡◌, ℕ, zero, suc, ◌<◌, cond, eqb, List, [], ◌∷◌, ◌++◌, sym, refl, ap, subst, arith}
 use Rattle.std.specs.List.{sum_by}
 use Rattle.std.specs.Prelude.{IsPermutation}
@@ -20,7 +20,7 @@ same_self a = grind (arith, nat_tests)
 same_is : (a b : ℕ) → 0 < same a b → a ≡ b
 same_is a b p = grind (arith, nat_tests)
 
--- how often an item stands at a place: once where it is that one, else never
+-- how often an item is at a place: once if it is the item there, else never
 abbrev is_item : Item → Item → ℕ
 is_item (Piece a) (Piece b) = cond (eqb a.job b.job) (same a.function b.function) 0
 is_item (Piece a) Stop = 0
@@ -40,11 +40,11 @@ item_is (Piece a) Stop p = absurd (omega (arith, p))
 item_is Stop (Piece b) p = absurd (omega (arith, p))
 item_is Stop Stop p = refl
 
--- where an item stands in a list
+-- the place of an item in a list
 abbrev Stands : Item → List Item → Type 0
 Stands x ys = (prefix : List Item) × (back : List Item) × (ys ≡ prefix ++ x ∷ back)
 
--- an item that counts stands somewhere
+-- an item that counts is somewhere in the list
 first_or_later : (x y : Item) (ys : List Item) → 0 < sum_by (is_item x) (y ∷ ys) → (0 < sum_by (is_item x) ys → Stands x ys) → (n : ℕ) → is_item x y ≡ n → Stands x (y ∷ ys)
 first_or_later x y ys p later zero is = let w = later (omega (arith, sum_by-cons (is_item x) y ys, is, p)) in (y ∷ w.0, w.1, ap (λ l. y ∷ l) w.2)
 first_or_later x y ys p later (suc n) is = let here : 0 < is_item x y = omega (arith, is) in ([], ys, ap (λ z. z ∷ ys) (sym (item_is x y here)))

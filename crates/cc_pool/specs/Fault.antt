@@ -16,7 +16,7 @@ pool_fault_number OutOfMemory = 40
 abbrev pub IsRefusedAt : Mode → List ℕ → (function : ℕ) → PieceFault → Type 0
 IsRefusedAt mode text function fault = ∥ IsBlamedIn mode text function fault ∥₁ × (fault ≢ piece.OutOfMemory)
 
--- the fault of a piece, 22 or 24, names a function before which, in the order of their definitions, each has a piece
+-- the fault of a piece, 22 or 24, names a function; each function before it, in the order of definitions, has a piece
 abbrev pub IsJobRefusal : Mode → List ℕ → PoolFault → Type 0
 IsJobRefusal mode text (Piece function fault) = IsRefusedAt mode text function fault × ((f : ℕ) → f < function → HasPieceIn mode text f)
 IsJobRefusal mode text WorkersGone = Unit {0}

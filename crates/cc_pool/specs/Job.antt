@@ -1,13 +1,13 @@
--- What contracts see of jobs.
+-- Jobs as contracts see them.
 use Rattle.std.specs.Prelude.{ℕ, List}
 use Rattle.cc_c_laws.specs.declared.mode.Mode.{Mode}
 
--- a function of a job: both by their numbers
+-- a function of a job, both by number
 pub record JobFunction : Type 0 where
   pub job : ℕ
   pub function : ℕ
 
--- a unit that was handed in: the job's number, the mode of its code, the unit's text, and how many functions it defines
+-- a unit that was handed in: the job's number, the mode of its code, the unit's text, and the number of functions that it defines
 pub record Job : Type 0 where
   pub number : ℕ
   pub mode : Mode

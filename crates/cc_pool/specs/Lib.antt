@@ -1,14 +1,14 @@
--- what contracts see of jobs
+-- jobs as contracts see them
 pub mod Job
--- what contracts say of passes
+-- what contracts say about passes
 pub mod Shared
 -- why a job has no pieces
 pub mod Fault
--- what contracts see of a worker's refusal
+-- a worker's refusal as contracts see it
 pub mod Answers
 -- which queue it is
 pub mod Queue
 -- the rule of the queue
 pub mod Rule
--- what serves private contracts
+-- for private contracts
 pub mod internal

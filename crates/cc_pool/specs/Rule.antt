@@ -1,4 +1,4 @@
--- The rule of the queue: what all passes have sent is what all have taken and what the queue holds.
+-- The rule of the queue: what all passes have sent is what all have taken together with what the queue holds.
 use Rattle.std.specs.Prelude.{◌≡◌, ℕ, ◌+◌, List, [], ◌∷◌, ◌++◌, sum_by}
 use mathlib.Core.Option.{some}
 use lib.ListN.{get_elem?}
@@ -10,7 +10,7 @@ use Rattle.cc_pool.specs.declared.rule.Hand.{Hand}
 abbrev pub hand : Role → (splits joins : ℕ) → (sent taken : List Item) → Hand
 hand role splits joins sent taken = record { role = role; splits = splits; joins = joins; sent = sent; taken = taken }
 
--- ---- what a step leaves of the views
+-- ---- the views after a step
 
 abbrev pub first_hand : Hand
 first_hand = hand Owner 0 0 [] []
@@ -53,16 +53,16 @@ is_live Owner = 1
 is_live Out = 1
 is_live Joined = 0
 
--- however items are weighed, one list weighs what the other does: each item stands in the one as often as in the other
+-- both lists weigh the same, however items are weighed: each item is in one as often as in the other
 abbrev pub SameItems : List Item → List Item → Type 0
 SameItems xs ys = (h : Item → ℕ) → sum_by h xs ≡ sum_by h ys
 
--- what these passes have sent is what they have taken and what the queue holds
+-- what these passes have sent is what they have taken together with what the queue holds
 abbrev pub Balanced : (queue : List Item) (passes : List Hand) → Type 0
 Balanced queue passes = (h : Item → ℕ) → sum_by (λ v. sum_by h v.sent) passes ≡ sum_by (λ v. sum_by h v.taken) passes + sum_by h queue
 
--- The pool has one pass of its own, which alone counts splits and joins: passes that are out are as many as splits less joins. A joined
--- pass has nothing any more
+-- The pool has one pass of its own, and only that pass counts splits and joins: there are as many passes out as splits minus joins. A
+-- joined pass has nothing any more
 pub record Kept (queue : List Item) (passes : List Hand) : Type 0 where
   pub one : sum_by (λ v. owns v.role) passes ≡ 1
   pub counted : sum_by (λ v. is_out v.role) passes + sum_by (λ v. v.joins) passes ≡ sum_by (λ v. v.splits) passes
@@ -70,6 +70,6 @@ pub record Kept (queue : List Item) (passes : List Hand) : Type 0 where
   pub empty : (k : ℕ) (v : Hand) → get_elem? passes k ≡ some v → is_live v.role ≡ 0 → (v.sent ≡ []) × (v.taken ≡ [])
   pub balanced : Balanced queue passes
 
--- where the pool's own pass has as many joins as splits, its lists are all that was sent and taken
+-- if the pool's own pass has as many joins as splits, its lists are all that was sent and taken
 abbrev pub SeesAll : Hand → List Item → Type 0
 SeesAll v queue = v.role ≡ Owner → v.splits ≡ v.joins → SameItems v.sent (v.taken ++ queue)

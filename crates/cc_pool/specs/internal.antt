@@ -1,5 +1,5 @@
--- What private contracts speak of.
+-- Definitions for private contracts.
 -- what the pool's own pass knows once all passes are back
 pub mod AllTaken
--- what is told of a function of which no piece came
+-- the fault for a function whose piece did not come
 pub mod Reason

@@ -1,6 +1,6 @@
 // What a worker answers for a function.
 
-ghost use Rattle.std.specs.Prelude.{◌≡◌, ◌≢◌, ◌<◌, length, IfSome};
+ghost use Rattle.std.specs.Prelude.{◌≡◌, ◌≢◌, ◌<◌, length};
 ghost use Rattle.std.specs.Arc.{arc_value};
 ghost use Rattle.cc_ast.specs.Source.{source};
 ghost use Rattle.cc_types.specs.Typed.{defined_names};
@@ -30,7 +30,7 @@ pub struct Refusal {
     fault: PieceFault,
 }
 
-// By hand, so that crates above call it and do not prove anew how each part is dropped.
+// Written by hand, so that crates above call it and need not prove again how each part is dropped.
 impl Drop for Refusal {
     fn drop(self) {
         let Refusal {
@@ -55,7 +55,7 @@ impl Model for Refusal {
     ghost invariant = { λ r. IsRefusedAt r.mode (source (arc_value r.unit)).text r.function r.fault };
 }
 
-// What is answered for a function of a unit in a mode: None where memory ran out.
+// The answer for a function of a unit in a mode; None if memory ran out.
 pub(crate) fn answered(
     alloc: Global,
     mode: Mode,

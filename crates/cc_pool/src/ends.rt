@@ -1,9 +1,9 @@
 // The queue's two ends, and a pass of it. Only these functions call the channel.
 //
-// Whoever holds the one end holds the other: a worker that waits on the queue keeps it open itself, so its receive ends with an item
-// and never because all senders are gone.
+// Whoever holds one end holds the other. A worker that waits on the queue keeps it open itself, so its receive ends with an item and never
+// because all senders are gone.
 
-ghost use Rattle.std.specs.Prelude.{◌≡◌, [], IfOk, OnErr, OnOk, IfSome, IfNone};
+ghost use Rattle.std.specs.Prelude.{◌≡◌, OnErr, OnOk, IfSome, IfNone};
 ghost use Rattle.cc_pool.specs.declared.rule.Role.TheVariants.{Owner, Out};
 ghost use Rattle.cc_pool.specs.Rule.{sends_one, takes_one, splits_one, joins_one, new_hand, first_hand, is_live};
 ghost use Rattle.cc_pool.specs.internal.AllTaken.{AllTaken};
@@ -18,7 +18,7 @@ use std::sync::Wait;
 
 type Place = crossbeam_channel::Pass<Item, Hand>;
 
-/// How many items the queue holds at most.
+/// The queue holds at most this many items.
 pub const PLACES: usize = 64;
 
 // The ends of a queue that no type names.
@@ -28,13 +28,13 @@ struct Queue {
     receiver: RuledReceiver<Item, Hand, Law>,
 }
 
-/// A queue with nothing in it, for one pool, that no type names yet. Contracts see its name.
+/// An empty queue for one pool, which no type names yet. Contracts see its name.
 pub struct FreshQueue {
     queue: Queue,
     pass: Place,
 }
 
-// By hand, so that crates above call it and do not prove anew how each part is dropped.
+// Written by hand, so that crates above call it and need not prove again how each part is dropped.
 impl Drop for FreshQueue {
     fn drop(self) {
         let FreshQueue { queue, pass } = self;
@@ -72,7 +72,7 @@ impl<N: Queued> Model for Seat<N> {
     ghost invariant = { λ s. IsSeatOf N.queue s.pass };
 }
 
-/// The end that items go in at, and the end that they come out of.
+/// The end where items go in, and the end where they come out.
 #[derive(Drop)]
 pub struct Ends<N: Queued> {
     queue: Queue,
@@ -92,7 +92,7 @@ impl<N: Queued> Model for Ends<N> {
 }
 
 impl FreshQueue {
-    /// A queue with nothing in it.
+    /// An empty queue. Err: memory ran out.
     pub fn new(alloc: Global) -> Result<FreshQueue, AllocError> {
         let (sender, receiver, pass) = bounded_with::<Item, Hand, Law, Global>(alloc, PLACES)?;
         Ok(FreshQueue {
@@ -129,7 +129,7 @@ impl<N: Queued> Ends<N> {
         })
     }
 
-    // Puts an item behind all others. It waits while the queue is full, and fails only where all receivers are gone.
+    // Puts an item after all others. It waits while the queue is full, and fails only if all receivers are gone.
     pub(crate) fn send<R: Wait>(&self, rt: &R, seat: &mut Seat<N>, item: Item) -> Result<(), Item>
         requires { is_live seat.old.role ≡ 1 }
         ensures ok { OnOk result (seat.new ≡ sends_one seat.old item) }
@@ -145,7 +145,7 @@ impl<N: Queued> Ends<N> {
         }
     }
 
-    // Takes the first item. It waits while there is none, and answers None only where all senders are gone.
+    // Takes the first item. It waits while there is none, and answers None only if all senders are gone.
     pub(crate) fn take<R: Wait>(&self, rt: &R, seat: &mut Seat<N>) -> Option<Item>
         requires { is_live seat.old.role ≡ 1 }
         ensures some { IfSome result (λ item. seat.new ≡ takes_one seat.old item) }
@@ -157,7 +157,7 @@ impl<N: Queued> Ends<N> {
             .ok()
     }
 
-    // Takes the first item if there is one. With none, where no pass but the pool's own is out, all that was sent was taken.
+    // Takes the first item, if there is one. If there is none and no pass but the pool's own is out, all that was sent has been taken.
     pub(crate) fn try_take<R: Wait>(&self, rt: &R, seat: &mut Seat<N>) -> Option<Item>
         requires { is_live seat.old.role ≡ 1 }
         ensures some { IfSome result (λ item. seat.new ≡ takes_one seat.old item) }
@@ -173,7 +173,7 @@ impl<N: Queued> Ends<N> {
         }
     }
 
-    // One more pass.
+    // Splits one more pass off the pool's own.
     pub(crate) fn split(&self, own: &mut Seat<N>) -> Seat<N>
         requires { own.old.role ≡ Owner }
         ensures own { own.new ≡ splits_one own.old }
@@ -185,7 +185,7 @@ impl<N: Queued> Ends<N> {
         }
     }
 
-    // Takes a pass in.
+    // Joins a pass into the pool's own.
     pub(crate) fn join(&self, own: &mut Seat<N>, other: Seat<N>)
         requires own { own.old.role ≡ Owner }
         requires other { other.role ≡ Out }

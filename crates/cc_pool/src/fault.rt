@@ -6,14 +6,14 @@ ghost use Rattle.cc_pool.specs.Fault.{pool_fault_number};
 use cc_link::PieceFault;
 use thiserror::Error;
 
-/// Why a job has no pieces, or a pool did not start or end as it should.
+/// Why a job has no pieces, or why a pool did not start or end as it should.
 #[derive(Clone, Copy, Debug, Error)]
 pub enum PoolFault {
     /// 22, 24: a worker refused the function with this number.
     #[error("{fault}")]
     Piece { function: usize, fault: PieceFault },
-    /// 41: a thread could not be started, the queue is closed, there are no more numbers, a job's results ended early, or a pool's passes
-    /// did not all come back.
+    /// 41: a thread could not be started, the queue is closed, there are no more job numbers, a job's answers ended early, or a pool's
+    /// passes did not all come back.
     #[error("WorkersGone")]
     WorkersGone,
     /// 40: memory ran out.

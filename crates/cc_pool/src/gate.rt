@@ -1,8 +1,8 @@
 // A gate that workers pass.
 
-/// What a worker calls between taking a piece and compiling it. The worker holds no lock then.
+/// A call that each worker makes between taking a piece and compiling it. The worker holds no lock then.
 pub trait Gate {
-    /// Comes before the piece of a function, from 0 in the order of definitions, of the job with a number.
+    /// Called before the piece of a function (its number from 0, in the order of definitions) of the job with a number.
     fn before(&self, job: u64, piece: u32);
 }
 

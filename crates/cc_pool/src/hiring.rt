@@ -1,7 +1,7 @@
 // How workers start and end.
 //
-// A worker that ends hands its pass back over a channel with a place for each. The handle of its thread is let go: a thread's handle
-// stays with the thread that made it, and the pool is shared by many.
+// A worker that ends hands its pass back over a channel that has a place for each worker. The handle of its thread is dropped: a handle
+// stays with the thread that made it, and the pool is shared by many threads.
 
 ghost use Rattle.std.specs.Prelude.{◌≡◌, ◌+◌, ◌++◌, length, OnOk};
 ghost use Rattle.cc_pool.specs.declared.rule.Role.TheVariants.{Owner};
@@ -19,10 +19,10 @@ use std::alloc::{AllocError, Global};
 use std::sync::{Arc, Wait};
 use std::thread::{Builder, Threads};
 
-/// A worker's stack in bytes: as much as a main thread usually has, so that what can be done there can be done here.
+/// A worker's stack in bytes: as much as a main thread usually has, so that a worker can do what the main thread can.
 const STACK: usize = 8 << 20;
 
-// Starts this many workers, which hand their passes back there. Answers how many were started: all, where there is no fault.
+// Starts this many workers, which hand their passes back over `back`. Answers how many were started: all, if there is no fault.
 pub(crate) fn hire<N, R, G>(
     rt: &R,
     alloc: Global,
@@ -78,7 +78,7 @@ fn another<N: Queued>(back: &Sender<Taker<N>>) -> Result<Sender<Taker<N>>, Alloc
     Ok(back.clone()?)
 }
 
-// Whether a thread was made that works so.
+// Starts a thread that works so. Answers whether it was started.
 fn spawned<N, R, G>(
     rt: R,
     alloc: Global,
@@ -98,7 +98,7 @@ where
         .is_ok()
 }
 
-// Sends each of this many workers the word to stop, and takes the pass of each in.
+// Tells each of this many workers to stop, and takes the pass of each back.
 pub(crate) fn dismiss<N: Queued, R: Wait>(
     rt: &R,
     ends: &Ends<N>,
@@ -116,7 +116,7 @@ pub(crate) fn dismiss<N: Queued, R: Wait>(
     take_back(rt, ends, seat, back, count)
 }
 
-// Takes the passes of this many workers in.
+// Takes the passes of this many workers back.
 fn take_back<N: Queued, R: Wait>(
     rt: &R,
     ends: &Ends<N>,
@@ -139,7 +139,7 @@ fn take_back<N: Queued, R: Wait>(
     Ok(())
 }
 
-// Sends this many words to stop.
+// Tells this many workers to stop, by one item each.
 fn stop<N: Queued, R: Wait>(
     rt: &R,
     ends: &Ends<N>,
@@ -161,7 +161,7 @@ fn stop<N: Queued, R: Wait>(
     Ok(())
 }
 
-// Takes the passes in.
+// Joins these passes into the pool's own.
 pub(crate) fn take_in<N: Queued>(ends: &Ends<N>, seat: &mut Seat<N>, passes: Vec<Pass<N>>)
     requires { seat.old.role ≡ Owner }
     ensures role { seat.new.role ≡ Owner }

@@ -15,14 +15,14 @@ use std::alloc::{AllocError, Global};
 use std::marker::Model;
 use std::sync::{Arc, Wait};
 
-/// What stands on the queue: a piece that is to be made, or the word that a worker is to stop.
+/// An item of the queue: a piece to be made, or the word that makes a worker stop.
 #[derive(Drop)]
 pub enum Item {
     Piece(Order),
     Stop,
 }
 
-/// A function of a unit that is to be compiled in a mode, and where the answer goes. Contracts see the job's number and the function's.
+/// A function of a unit that has to be compiled in a mode, and where the answer goes. Contracts see the job's number and the function's.
 #[derive(Drop)]
 pub struct Order {
     job: u64,
@@ -48,7 +48,7 @@ impl Model for Order {
 }
 
 impl Order {
-    // The order of a function of a job.
+    // The order for a function of a job. Err: memory ran out.
     pub(crate) fn new(
         job: u64,
         function: usize,
@@ -72,7 +72,7 @@ impl Order {
         })
     }
 
-    // Compiles the function and answers. Where memory ran out nothing is answered, and the job's answers end early.
+    // Compiles the function and sends the answer. If memory runs out, no answer is sent, and the job's answers end early.
     pub(crate) fn fill<R: Wait, G: Gate>(self, rt: &R, alloc: Global, gate: &G) {
         let Order {
             job,

@@ -1,7 +1,7 @@
 // How a job's answers are put in order.
 //
-// A plain channel says nothing of which job a message is from. So an answer is told by its mode and its text, compared when it runs, and its
-// function's number: what the answer for another text or mode may be stays out.
+// A plain channel does not say from which job a message is. So an answer is recognised by its mode, its text (compared at run time) and its
+// function's number. An answer for another text or mode is left out.
 
 ghost use Rattle.std.specs.Prelude.{◌≡◌, ◌<◌, length, All, HoldsAt, IfOk, IfErr, IfSome};
 ghost use Rattle.cc_link.specs.Made.{IsCompiled};
@@ -25,7 +25,7 @@ pub(crate) struct Came {
     refusals: Vec<Refusal>,
 }
 
-// So many answers, or those that came before they ended.
+// This many answers, or those that came before they ended. Err: memory ran out.
 pub(crate) fn gather<R: Wait>(
     rt: &R,
     alloc: Global,
@@ -44,7 +44,7 @@ pub(crate) fn gather<R: Wait>(
     Ok(Came { pieces, refusals })
 }
 
-// What is told of a function of which no piece came: the reason that came for it, else 41.
+// The fault for a function whose piece did not come: the reason that came for it, else 41.
 fn reason(mode: Mode, text: &[u8], function: usize, refusals: &[Refusal]) -> PoolFault
     ensures { IsReason mode text.now function result }
 {
@@ -59,7 +59,7 @@ fn reason(mode: Mode, text: &[u8], function: usize, refusals: &[Refusal]) -> Poo
     PoolFault::WorkersGone
 }
 
-// Where the piece of a function of a text in a mode stands.
+// The index of the piece of a function of a text in a mode.
 fn place_of(pieces: &[Piece], mode: Mode, text: &[u8], function: usize) -> Option<usize>
     ensures within { IfSome result (λ at. at < length pieces.now) }
     ensures some { IfSome result (λ at. HoldsAt (IsOf mode text.now function) pieces.now at) }
@@ -75,7 +75,7 @@ fn place_of(pieces: &[Piece], mode: Mode, text: &[u8], function: usize) -> Optio
     None
 }
 
-// The piece of a function of a text in a mode, taken out.
+// Takes out the piece of a function of a text in a mode.
 fn piece_of(pieces: &mut Vec<Piece>, mode: Mode, text: &[u8], function: usize) -> Option<Piece>
     ensures { IfSome result (IsOf mode text.now function) }
 {
@@ -83,7 +83,7 @@ fn piece_of(pieces: &mut Vec<Piece>, mode: Mode, text: &[u8], function: usize) -
     Some(pieces.swap_remove(at))
 }
 
-// The pieces of this many functions of a text in a mode, in their order. Else what is told of the first function of which none came.
+// The pieces of this many functions of a text in a mode, in their order. Else the fault for the first function whose piece did not come.
 pub(crate) fn in_order(
     alloc: Global,
     mode: Mode,
@@ -105,7 +105,7 @@ pub(crate) fn in_order(
         let Some(piece) = piece_of(&mut made, mode, text, function) else {
             return Err(reason(mode, text, function, refusals.as_slice()));
         };
-        // What its type and that of its unit keep.
+        // What the types of the piece and of its unit keep.
         let _kept = piece.items();
         let other: &TypedUnit = piece.unit();
         let _kept = other.externals();

@@ -29,7 +29,7 @@ use std::sync::atomic::{AtomicU64, Ordering};
 use std::sync::{Arc, Mutex, Wait};
 use std::thread::Threads;
 
-/// Workers that compile the functions of units. Contracts see the pool's own number of workers, by which `finish` counts.
+/// Workers that compile the functions of units. Contracts see the pool's own number of workers, from which `finish` counts.
 pub struct Pool<N: Queued> {
     ends: Ends<N>,
     own: Mutex<Own<N>>,
@@ -38,7 +38,7 @@ pub struct Pool<N: Queued> {
     jobs: AtomicU64,
 }
 
-// By hand, so that crates above call it and do not prove anew how each part is dropped.
+// Written by hand, so that crates above call it and need not prove again how each part is dropped.
 impl<N: Queued> Drop for Pool<N> {
     fn drop(self) {
         let Pool {
@@ -60,10 +60,10 @@ impl<N: Queued> Model for Pool<N> {
 }
 
 impl<N: Queued + Send + Sync + 'static> Pool<N> {
-    /// Starts this many workers, which pass the gate before each piece. Each has a stack of 8 MiB. Promised is the pool's own number of
-    /// workers, by which `finish` counts.
+    /// Starts this many workers, which call the gate before each piece. Each has a stack of 8 MiB. The contract promises the pool's own
+    /// number of workers, from which `finish` counts.
     ///
-    /// Refusals: 40; 41 where a thread could not be started. The workers that were started have been told to stop then.
+    /// Refusals: 40 if memory ran out; 41 if a thread could not be started. The workers that were started have then been told to stop.
     pub fn start<R, G>(
         rt: &R,
         alloc: Global,
@@ -100,7 +100,7 @@ impl<N: Queued + Send + Sync + 'static> Pool<N> {
         }
     }
 
-    /// A pass to hand in jobs with. It has sent and taken nothing.
+    /// A pass for handing in jobs. It has sent and taken nothing.
     pub fn pass<R: Wait>(&self, rt: &R) -> Pass<N>
         ensures sent { result.sent ≡ [] }
         ensures taken { result.taken ≡ [] }
@@ -108,7 +108,7 @@ impl<N: Queued + Send + Sync + 'static> Pool<N> {
         self.own.lock(rt).pass(&self.ends)
     }
 
-    /// Hands in a unit for plain pieces: `submit_in`.
+    /// Hands in a unit for plain pieces, as `submit_in` does.
     pub fn submit<R: Wait>(
         &self,
         rt: &R,
@@ -126,11 +126,11 @@ impl<N: Queued + Send + Sync + 'static> Pool<N> {
         self.submit_in(rt, alloc, pass, Mode::Plain, unit)
     }
 
-    /// Hands in a unit for pieces in a mode: an item for each of its functions, in the order of their definitions and with the job's number,
-    /// goes behind what the pass has sent. It waits while the queue is full.
+    /// Hands in a unit for pieces in a mode: an item for each of its functions, in the order of their definitions and with the job's
+    /// number, is put after what the pass has sent. It waits while the queue is full.
     ///
-    /// Refusals: 40; 41 where the queue is closed or 2^64 - 1 jobs were handed in. Some of the items may have gone then: the first ones,
-    /// of one job, and nothing else.
+    /// Refusals: 40 if memory ran out; 41 if the queue is closed or 2^64 - 1 jobs were handed in. Some of the items may have been sent
+    /// then: the first ones of one job, and nothing else.
     pub fn submit_in<R: Wait>(
         &self,
         rt: &R,
@@ -191,11 +191,12 @@ impl<N: Queued + Send + Sync + 'static> Pool<N> {
         Ok(())
     }
 
-    /// Waits for the pieces of a job: one compiled piece of its text and mode for each function, in the order of their definitions. While memory
-    /// is short the pieces that came are let go.
+    /// Waits for the pieces of a job: one compiled piece of its text and mode for each function, in the order of their definitions. If
+    /// memory runs out, the pieces that came are dropped.
     ///
-    /// Refusals, of the first function of which no piece came: 22 or 24 where a worker refused it, else 41; 40. Each function before that
-    /// of a 22 or 24 has a piece. For 22 its definition is too long; no clause says that a function of 24 has no piece.
+    /// Refusals are for the first function whose piece did not come: 22 or 24 if a worker refused it, else 41; and 40 if memory ran out.
+    /// Each function before one that was refused by 22 or 24 has a piece. 22 means that the function is too long; no clause says that a
+    /// function with 24 has no piece.
     pub fn collect<R: Wait>(
         &self,
         rt: &R,
@@ -210,11 +211,11 @@ impl<N: Queued + Send + Sync + 'static> Pool<N> {
         ticket.collect(rt, alloc)
     }
 
-    /// Ends the pool: sends each worker the word to stop, behind all that was sent, waits until the workers have handed their passes back,
-    /// and takes in these and the passes given. All that was sent, by these passes and to stop the workers, was taken, each item once, so
+    /// Ends the pool. It tells each worker to stop, after all that was sent, waits until the workers have handed their passes back, and
+    /// takes in these and the given passes. All that was sent, by these passes and to stop the workers, has been taken, each item once, so
     /// none is left on the queue.
     ///
-    /// Refusals: 41 where the passes are not all that were made, or an item is left.
+    /// Refusal: 41 if the passes are not all that were made, or if an item is left.
     pub fn finish<R: Wait>(self, rt: &R, passes: Vec<Pass<N>>) -> Result<Drained<N>, PoolFault>
         ensures { IfOk result (λ all. IsDrained self passes.items all) }
     {

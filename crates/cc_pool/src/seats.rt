@@ -11,12 +11,12 @@ use crate::named::Queued;
 use std::marker::Model;
 use std::sync::Wait;
 
-/// A pass for whoever hands in jobs. Contracts see what it has sent and taken.
+/// A pass for a caller that hands in jobs. Contracts see what it has sent and taken.
 pub struct Pass<N: Queued> {
     seat: Seat<N>,
 }
 
-// By hand, so that crates above call it and do not prove anew how each part is dropped.
+// Written by hand, so that crates above call it and need not prove again how each part is dropped.
 impl<N: Queued> Drop for Pass<N> {
     fn drop(self) {
         let Pass { seat } = self;
@@ -53,7 +53,7 @@ impl<N: Queued> Model for Taker<N> {
     ghost invariant = { λ p. (p.seat.role ≡ Out) × (p.seat.sent ≡ []) };
 }
 
-/// The pool's own pass, and how many passes are out, where they can be counted. Until the pool ends it has sent and taken nothing.
+/// The pool's own pass, and how many passes are out, if they can be counted. Until the pool ends it has sent and taken nothing.
 #[derive(Drop)]
 pub(crate) struct Own<N: Queued> {
     seat: Seat<N>,
@@ -71,12 +71,12 @@ impl<N: Queued> Model for Own<N> {
     ghost invariant = { λ o. (o.seat.role ≡ Owner) × (o.seat.joins ≡ 0) × (o.seat.sent ≡ []) × (o.seat.taken ≡ []) × IfSome o.out (λ n. o.seat.splits ≡ n) };
 }
 
-/// What is left of a pool: its own pass, which has taken in all others. Contracts see all that was sent and taken.
+/// What is left of a pool: its own pass, into which all others were joined. Contracts see all that was sent and taken.
 pub struct Drained<N: Queued> {
     seat: Seat<N>,
 }
 
-// By hand, so that crates above call it and do not prove anew how each part is dropped.
+// Written by hand, so that crates above call it and need not prove again how each part is dropped.
 impl<N: Queued> Drop for Drained<N> {
     fn drop(self) {
         let Drained { seat } = self;
@@ -96,7 +96,7 @@ impl<N: Queued> Model for Drained<N> {
 }
 
 impl<N: Queued> Pass<N> {
-    // Puts an order behind what was sent.
+    // Adds an order to what was sent.
     pub(crate) fn send<R: Wait>(&mut self, rt: &R, ends: &Ends<N>, order: Order) -> Result<(), Item>
         ensures ok { OnOk result (self.new.sent ≡ self.old.sent ++ Piece order ∷ []) }
         ensures err { OnErr result (self.new.sent ≡ self.old.sent) }
@@ -166,7 +166,7 @@ impl<N: Queued> Own<N> {
         ends.split(&mut self.seat)
     }
 
-    // The pass itself, and how many are out.
+    // The pass itself, and how many passes are out.
     pub(crate) fn into_seat(self) -> (Seat<N>, Option<u64>)
         ensures role { result.0.role ≡ Owner }
         ensures joins { result.0.joins ≡ 0 }

@@ -27,7 +27,7 @@ pub struct Ticket {
     answers: Receiver<Answer>,
 }
 
-// By hand, so that crates above call it and do not prove anew how each part is dropped.
+// Written by hand, so that crates above call it and need not prove again how each part is dropped.
 impl Drop for Ticket {
     fn drop(self) {
         let Ticket {
@@ -71,7 +71,8 @@ impl Ticket {
         }
     }
 
-    /// The job's number, which its items on the queue have. A pool counts its jobs from 0 as they are handed in; no clause says so.
+    /// The job's number, which its items on the queue have. A pool numbers its jobs from 0 in the order in which they are handed in; no
+    /// clause says so.
     pub fn number(&self) -> u64
         ensures { result ≡ self.now.number }
     {

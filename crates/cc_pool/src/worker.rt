@@ -9,7 +9,8 @@ use crossbeam_channel::Sender;
 use std::alloc::Global;
 use std::sync::Wait;
 
-// Makes pieces until it is told to stop, and ends by nothing else: a receive that fails is tried again. Then it hands its pass back.
+// Makes pieces until it gets the item that makes it stop. Nothing else ends it: a receive that fails is tried again. Then it hands its pass
+// back.
 pub(crate) fn work<N: Queued, G: Gate, R: Wait>(
     rt: &R,
     alloc: Global,

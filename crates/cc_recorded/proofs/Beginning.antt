@@ -68,7 +68,7 @@ abbrev pub honest_kind : {Disk : Type 0} → Ghosts Disk → Ghosts Disk
 honest_kind D = record D { honest = true }
 
 module _ {Disk P : Type 0} (D : Ghosts Disk) where
-  -- on an honest disk it is a beginning of the core, where the units found are right
+  -- on an honest disk it is a beginning of the core, if the units that were found are right
   pub begins : (book : BookView Disk) → book.history ≡ [] → book.failed ≡ [] → book.library.closed ≡ false → book.base ≡ book.library.units → StandFor book.library.bodies book.library.units
       → HoldsRecords (D.seen book.library.disk) book.library.area book.library.bodies → LeavesAlone (D.seen book.library.disk) (D.may_leave book.library.disk)
       → (s : Contents P) × Shows (honest_kind D) book s × IsOpened s
@@ -126,7 +126,7 @@ module _ {Disk P : Type 0} (D : Ghosts Disk) where
       moved : (old new : List ℕ) (area : ℕ) (bodies : List (List ℕ)) → old ≡ new → (h : HoldsRecords old area bodies) → (k : HoldsRecords new area bodies) × (k.area_byte ≡ h.area_byte)
       moved old new area bodies is h = subst (λ (l : List ℕ). (k : HoldsRecords l area bodies) × (k.area_byte ≡ h.area_byte)) is (h, refl)
 
--- ---- what goes on beside commits
+-- ---- what happens besides commits
 
 pub same_core : {Disk P : Type 0} (D : Ghosts Disk) (book : BookView Disk) (old new : Contents P) → new.core ≡ old.core → Shows D book old → Shows D book new
 same_core D book old new same shows = record {
@@ -136,7 +136,7 @@ same_core D book old new same shows = record {
   disk = subst (λ (c : Core). ShowsDisk D book.library c.store) (sym same) shows.disk;
 }
 
--- handing in a job, taking a piece and its result leave the core, and so what a book shows
+-- handing in a job, taking a piece and handing in its result leave the core as it is, and so also what a book shows
 pub beside : {Disk P : Type 0} (rules : Rules P) (D : Ghosts Disk) (book : BookView Disk) (old new : Contents P) (event : Event P) (reply : Option Reply)
     → IsBeside event → Step rules old event reply new → Shows D book old → Shows D book new
 beside rules D book old new (events.Submit client call request) reply is step shows = same_core D book old new (ap (λ (s : Contents _). s.core) step.new_is) shows

@@ -1,4 +1,4 @@
--- How it is kept that the changes that failed did so with the device: only a call of it that fails adds one.
+-- How it is kept that the changes that failed did so with the device: only a device call that fails adds one.
 use Rattle.std.proofs.Common.{◌≡◌, ◌+◌, ◌≤◌, ℕ, List, [], ◌∷◌, length, Result, Ok, Err, refl, sym, ap, subst, arith}
 use Rattle.cc_disk.specs.declared.disk.Disk.{Ghosts}
 use Rattle.cc_library.specs.declared.command.LibraryCommand.{LibraryCommand}
@@ -24,11 +24,11 @@ module _ {Disk : Type 0} (D : Ghosts Disk) (failures : ℕ) where
     same : after_it ≡ before → FailedByDevice D failures after_it
     same stays = subst (λ (b : BookView Disk). FailedByDevice D failures b) (sym stays) kept
 
-    -- no change failed, nor a call of the device
+    -- no change failed, and no device call did
     as_many : after_it.failed ≡ before.failed → D.failures after_it.library.disk ≡ D.failures before.library.disk → FailedByDevice D failures after_it
     as_many failed device = let few = ap (λ (l : List LibraryCommand). length l) failed in omega (arith, few, device, kept)
 
-    -- a call of the device failed, and so a change, or none
+    -- a device call failed, and with it a change, or none
     one_more : (c : LibraryCommand) → after_it.failed ≡ c ∷ [] → D.failures after_it.library.disk ≡ D.failures before.library.disk + 1 → FailedByDevice D failures after_it
     one_more c failed device = let few = ap (λ (l : List LibraryCommand). length l) failed in omega (arith, few, device, kept)
 

@@ -1,4 +1,4 @@
--- What each exit of a commit owes, over what contracts see of a book: that its type keeps what it keeps, and the answer.
+-- What each exit of a commit owes, in terms of what contracts see of a book: that its type keeps what it keeps, and the answer.
 use Rattle.std.proofs.Common.{◌≡◌, ◌≢◌, ℕ, zero, suc, ◌+◌, inl, inr, Bool, true, false, IsTrue, List, [], ◌∷◌, ◌++◌, length, Result, Ok, Err, refl, sym, ap, ◌∙◌, subst, arith, length-append}
 use Rattle.std.specs.Prelude.{◌==◌, IsOk, if◌then◌else◌}
 use Rattle.cc_disk.specs.declared.disk.Disk.{Ghosts}
@@ -34,11 +34,11 @@ agreed-push history entry old new k found at =
     elim (snoc_cases history entry found k at) [ inl a ↦ old k found a.1 | inr b ↦ subst (λ (e : Entry). HasAgreedUnit e.asked) (sym b.1) new ]
 
 module _ {Disk : Type 0} where
-  -- the book with one entry more, over this library
+  -- the book with one more entry, over this library
   abbrev pub entered : BookView Disk → View Disk → Receipt → BookView Disk
   entered before library receipt = record before { library = library; history = before.history ++ receipt.entry ∷ [] }
 
-  -- the entry of a call is put behind the history: with the library's new map, all is as the call leaves it
+  -- the entry of a call is put at the end of the history: with the library's new map, everything is as the call leaves it
   pub enters : RecordsKeep → (before : BookView Disk) (library : View Disk) (old : MemberView) (asked : Asked) (answer : Reply) (receipt : Receipt)
       → Replays (chronicle_of before) → IsOwn old → LastStands before.history old.receipts → answer ≡ reply_of before.library.units asked
       → receipt.number ≡ length before.history + 1 → receipt.entry ≡ entry_of old asked answer → library.units ≡ after_all before.library.units (changes_of asked answer)
@@ -86,7 +86,7 @@ still D disk units units' only_now alone = record {
   before = λ t image le left. inl left;
 }
 
--- while idle every image recovers to the map
+-- while the book is idle, every image recovers to the map
 pub alone_of : {Disk : Type 0} (D : Ghosts Disk) (named : Units) (total : ℕ) (book : BookView Disk)
     → IsRecordedLibrary D named total book → book.library.closed ≡ false → IsTrue D.honest → (image : List ℕ) → D.may_leave book.library.disk image → RecoversAlone image book.library.units
 alone_of D named total book kept idle h image left =
@@ -105,7 +105,7 @@ untouched change old new fault.OutOfMemory away leaves = leaves
 untouched change old new fault.Damaged away leaves = leaves
 untouched change old new fault.NotALibrary away leaves = leaves
 
--- a change that is answered so is accepted
+-- a change with this answer is accepted
 not_done : (b : Bool) → (if b then reply.Exists else reply.Absent) ≡ reply.Done → ⊥
 not_done true is = cc
 not_done false is = cc
@@ -116,7 +116,7 @@ done_is_ok (Err number) is = absurd (not_done (number == 31) is)
 
 -- ---- an exit with an entry
 
--- The book and the client after a call whose entry was put, over this library: their types keep what they keep, and the call is
+-- The book and the client after a call whose entry was put in, over this library: their types keep what they keep, and the call is
 -- recorded.
 pub entering : RecordsKeep → {Disk : Type 0} (D : Ghosts Disk) (named : Units) (total total' : ℕ) (before : BookView Disk) (new_library : View Disk) (old : MemberView) (parts amount parts' amount' : ℕ)
     (asked : Asked) (answer : Reply) (history : List Entry) (receipts : List Receipt) (receipt : Receipt)
@@ -179,7 +179,7 @@ keeps_failed D named total before new_library history failed command change book
       },
     )
 
--- without a call of the device, while the library is usable, every image has the map alone
+-- without a device call, while the library is usable, every image has the map and no other
 pub no_call_between : {Disk : Type 0} (D : Ghosts Disk) (book : BookView Disk) (next : Units)
     → (IsTrue D.honest → (image : List ℕ) → D.left_since book.library.disk (D.moment book.library.disk) image → D.may_leave book.library.disk image) → AllRecover D book
     → (book.library.closed ≡ false → book.failed ≡ []) → IsTrue D.honest → book.library.closed ≡ false
@@ -190,7 +190,7 @@ no_call_between D book next only_now images idle h usable = record {
   before = λ t image earlier left. inl left;
 }
 
--- ---- a look
+-- ---- a look-up
 
 -- it hands in no unit and changes nothing
 pub look_agrees : (asked : Asked) → IsLook asked → HasAgreedUnit asked

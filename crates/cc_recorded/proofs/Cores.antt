@@ -1,5 +1,5 @@
--- What a commit answers is what the core does for a job with that command: Begin to Ack, or to a refusal or Fail, and the book
--- afterwards shows the state that is reached.
+-- What a commit answers is what the core does for a job with that command: the steps from Begin to Ack, or to a refusal or a Fail, and the
+-- book afterwards shows the state that is reached.
 use Rattle.std.proofs.Common.{◌≡◌, ◌⊎◌, ℕ, ◌+◌, ◌<◌, ◌≤◌, inl, inr, Bool, true, false, IsTrue, List, [], ◌∷◌, ◌++◌, length, length-drop, take, drop, map, get_or, Option, Some, None, Result, Ok, Err, refl, sym, ap, ◌∙◌, subst, arith, append_assoc, length-append}
 use Rattle.std.specs.Prelude.{IsOk, if◌then◌else◌}
 use Rattle.std.specs.FinMap.{contains_key, insert, remove}
@@ -52,9 +52,9 @@ use Rattle.cc_recorded.specs.Disk.{ChangesDisk}
 use Rattle.cc_recorded.specs.Core.{Shows, ShowsDisk, ShowsOrder, Has, IsPhase, Steps, IsCommitOf, done_steps, refused_steps, failed_first, failed_last}
 use Rattle.cc_recorded.proofs.Disks.{begin_most, begin_least, within_is_image, within_is_written, written_same, committed_same, first_byte_kept}
 
--- ---- what the core's Begin comes to
+-- ---- the result of the core's Begin
 
--- the refusal that a reply of the map is
+-- the refusal for a reply of the map
 abbrev pub refusal_of : history.Reply → Option Refusal
 refusal_of reply.Done = None
 refusal_of reply.Exists = Some refusal.Exists
@@ -112,12 +112,12 @@ module _ {Disk : Type 0} where
     failed = shows.failed ∙ sym failed;
   }
 
-  -- where none failed, all of the order is acknowledged
+  -- if none failed, the whole order is acknowledged
   all_acked : (before : BookView Disk) (order acknowledged : List Numbered) → ShowsOrder before order acknowledged → before.failed ≡ [] → order ≡ acknowledged
   all_acked before order acknowledged shows none =
       shows.in_order ∙ ap (λ (l : List Numbered). acknowledged ++ l) (no_commands shows.failing (shows.failed ∙ none)) ∙ nothing_behind acknowledged
 
-  -- a command more that is acknowledged
+  -- one more command that is acknowledged
   order_done : (before after : BookView Disk) (order acknowledged : List Numbered) (one : Numbered) → ShowsOrder before order acknowledged → before.failed ≡ [] → after.base ≡ before.base
       → changes after.history ≡ changes before.history ++ one.command ∷ [] → after.failed ≡ [] → ShowsOrder after (order ++ one ∷ []) (acknowledged ++ one ∷ [])
   order_done before after order acknowledged one shows none base more still = record {
@@ -134,7 +134,7 @@ module _ {Disk : Type 0} where
     failed = sym still;
   }
 
-  -- one in which the device failed
+  -- one more command, in which the device failed
   order_failed : (before after : BookView Disk) (order acknowledged : List Numbered) (one : Numbered) → ShowsOrder before order acknowledged → before.failed ≡ [] → after.base ≡ before.base
       → changes after.history ≡ changes before.history → after.failed ≡ one.command ∷ [] → ShowsOrder after (order ++ one ∷ []) acknowledged
   order_failed before after order acknowledged one shows none base same failed = record {
@@ -208,7 +208,7 @@ module _ {Disk : Type 0} (D : Ghosts Disk) where
             (new, sym is ∙ kept ∙ was ∙ old.1);
       }
 
-  -- a commit fits the disk
+  -- a commit fits on the disk
   fits_disk : (view : View Disk) (store : StoreState) (c : LibraryCommand) (h : HoldsRecords (D.seen view.disk) view.area view.bodies) → store.area ≡ view.area → store.used ≡ length (records view.bodies) → bytes_of store.cells ≡ D.seen view.disk
       → room_with view c ≤ view.area → ((append_of store c).offset + length (append_of store c).bytes ≤ length store.cells) × ((append_of store c).deciding_offset + 1 ≤ length store.cells)
   fits_disk view store c h area used bytes room =
@@ -305,7 +305,7 @@ module _ {Disk P : Type 0} (rules : Rules P) (D : Ghosts Disk) where
       → job.verdict rules s.core.phase s.core.library s.core.store has.its ≡ job.unless why (Ok c)
   verdict_is s client c has why is = ap (job.accepted s.core.phase s.core.library s.core.store) has.gives ∙ ap (λ (w : Option Refusal). job.unless w (Ok c)) is
 
-  -- a refused beginning
+  -- a Begin that is refused
   abbrev refused_state : Contents P → ClientId → Contents P
   refused_state s client = record s { core = ticked s.core; jobs = remove s.jobs client.number }
 
@@ -326,7 +326,7 @@ module _ {Disk P : Type 0} (rules : Rules P) (D : Ghosts Disk) where
         refl,
       )
 
-  -- a beginning that is not refused, and the states of its commit
+  -- a Begin that is not refused, and the states of its commit
   abbrev begun_state : Contents P → ClientId → LibraryCommand → Contents P
   begun_state s client c = record s { core = record (ticked s.core) { order = s.core.order ++ numbered_now s.core c ∷ []; phase = Committing client (numbered_now s.core c) due.WriteBody } }
 
@@ -441,7 +441,7 @@ module _ {Disk P : Type 0} (rules : Rules P) (D : Ghosts Disk) where
   accepted_here : (book : BookView Disk) (s : Contents P) (c : LibraryCommand) → Shown book s → IsOk (apply book.library.units c) → job.map_refusal s.core.library c ≡ None
   accepted_here book s c shows ok = ap (λ (u : Units). job.map_refusal u c) shows.library ∙ map_refuses book.library.units c ∙ ok_is_done (apply book.library.units c) ok
 
-  -- a refused call changes nothing but the history, in which it changes nothing
+  -- a refused call changes nothing but the history, and none of the history's changes
   refused_shown : (before after : BookView Disk) (s : Contents P) (client : ClientId) → Shown before s → after.library ≡ before.library → after.failed ≡ before.failed → after.base ≡ before.base → changes after.history ≡ changes before.history
       → Shown after (refused_state s client)
   refused_shown before after s client shows library failed base same = record {
@@ -451,7 +451,7 @@ module _ {Disk P : Type 0} (rules : Rules P) (D : Ghosts Disk) where
     disk = subst (λ (v : View Disk). ShowsDisk D v s.core.store) (sym library) shows.disk;
   }
 
-  -- one that is done
+  -- a call that is done
   done_shown : (before after_it : BookView Disk) (old new : MemberView) (command : Command) (receipt : Receipt) (s : Contents P) (client : ClientId) → Shown before s → IsDone before old command after_it new receipt
       → (IsTrue D.honest → HoldsRecords (D.seen after_it.library.disk) after_it.library.area after_it.library.bodies
       × ((area_byte : ℕ) → HasAreaByte (D.seen before.library.disk) area_byte before.library.area → IsCommitted (commit_of area_byte before.library (change_of command)) (D.seen before.library.disk) (D.seen after_it.library.disk) × LeavesAlone (D.seen after_it.library.disk) (D.may_leave after_it.library.disk)))
@@ -474,7 +474,7 @@ module _ {Disk P : Type 0} (rules : Rules P) (D : Ghosts Disk) where
             (λ h. (subst (λ (v : View Disk). HoldsRecords (D.seen after_it.library.disk) v.area v.bodies) done.library (disk h).0, (disk h).1)));
       }
 
-  -- one in which the device failed
+  -- a call in which the device failed
   failed_shown : (before : BookView Disk) (command : Command) (disk : Disk) (s : Contents P) (client : ClientId) (store : StoreState) → Shown before s → before.library.closed ≡ false
       → ShowsDisk D (failed_view D before.library disk) store → Shown (failed_in before command disk) (failed_state s client (change_of command) store)
   failed_shown before command disk s client store shows idle here =
@@ -487,7 +487,7 @@ module _ {Disk P : Type 0} (rules : Rules P) (D : Ghosts Disk) where
         disk = here;
       }
 
-  -- a refused call changes nothing in the history's changes
+  -- a refused call does not change the changes of the history
   refused_changes : (before after_it : BookView Disk) (old new : MemberView) (command : Command) (answer : history.Reply) (receipt : Receipt) → done_by command answer ≡ [] → IsRefused before old command answer after_it new receipt → changes after_it.history ≡ changes before.history
   refused_changes before after_it old new command answer receipt nothing refused =
       ap changes refused.recorded.history ∙ changes-push before.history receipt.entry

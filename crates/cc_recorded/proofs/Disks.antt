@@ -1,4 +1,4 @@
--- A store of the core that shows a library's disk shows it after the steps of a commit, done or failed.
+-- A store of the core that shows a library's disk still shows it after the steps of a commit, done or failed.
 use Rattle.std.proofs.Common.{◌≡◌, ℕ, zero, suc, ◌+◌, ◌*◌, ◌%◌, ◌<◌, ◌≤◌, List, [], ◌∷◌, ◌++◌, length, take, drop, map, get_or, sym, ap, ◌∙◌, subst, arith, length-append, length-drop}
 use Rattle.std.proofs.lemmas.Nat.{mod_below}
 use Rattle.std.proofs.lemmas.List.{length-map, length-take-le, take-append-drop, drop-drop, take-map, drop-map}
@@ -8,7 +8,7 @@ use Rattle.cc_disk.specs.internal.Laws.{bytes_are_image}
 use Rattle.cc_disk.proofs.Images.{bytes_of-written, bytes_of-synced}
 use Rattle.cc_journal.specs.Commit.{Commit, IsCommitted, area_begin}
 
--- ---- where an area begins: behind the header, or behind the first area
+-- ---- where an area begins: after the header, or after the first area
 
 part_most : (b n : ℕ) → b < 2 → b * n ≤ n
 part_most zero n below = omega arith
@@ -38,7 +38,7 @@ any_image (x ∷ bytes) (b ∷ image) long = ((λ settled. absurd (cc settled)),
 length-bytes : (cells : List Cell) → length (bytes_of cells) ≡ length cells
 length-bytes cells = length-map cells (λ (c : Cell). c.byte)
 
--- what differs from the bytes in a range alone is an image of the disk with that range unsettled, whatever is written there
+-- bytes that differ only in a range are an image of the disk with that range unsettled, whatever is written there
 pub within_is_image : (cells : List Cell) (offset : ℕ) (bytes image : List ℕ) → offset + length bytes ≤ length cells → DiffersWithin offset (length bytes) (bytes_of cells) image → IsImage (written cells offset bytes) image
 within_is_image cells offset bytes image fits differs =
     let n = length bytes in
@@ -56,7 +56,7 @@ within_is_image cells offset bytes image fits differs =
     (joined (map unsettled bytes) (drop (offset + n) cells) (take n (drop offset image)) (drop (offset + n) image) (any_image bytes (take n (drop offset image)) middle)
     (subst (λ (l : List ℕ). IsImage (drop (offset + n) cells) l) (sym behind) (bytes_are_image (drop (offset + n) cells)))))
 
--- and so what differs in a range alone is the bytes with these written there
+-- and so they are the bytes with these written there
 pub within_is_written : (old new : List ℕ) (offset n : ℕ) → offset + n ≤ length old → DiffersWithin offset n old new → (bytes : List ℕ) × (length bytes ≡ n) × IsWritten old offset bytes new
 within_is_written old new offset n fits differs =
     let bytes = take n (drop offset new) in
@@ -88,7 +88,7 @@ committed_same c cells old new same done =
     bytes_of-synced (written (synced (written cells c.offset c.bytes)) c.deciding_offset (c.deciding_byte ∷ []))
     ∙ written_same (synced (written cells c.offset c.bytes)) done.0 new c.deciding_offset (c.deciding_byte ∷ []) first done.2
 
--- the first byte stays under a write behind it
+-- the first byte stays the same under a write after it
 first_byte : (old new bytes : List ℕ) (offset : ℕ) → 1 ≤ offset → 1 ≤ length old → IsWritten old offset bytes new → get_or new 0 0 ≡ get_or old 0 0
 first_byte [] new bytes offset some long is = absurd (omega (arith, long))
 first_byte (b ∷ old) new bytes zero some long is = absurd (omega (arith, some))

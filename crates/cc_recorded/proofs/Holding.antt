@@ -11,17 +11,17 @@ use Rattle.cc_history.specs.History.{MemberView}
 use Rattle.cc_history.proofs.Closings.{at_most}
 use Rattle.cc_recorded.specs.internal.Apart.{HaveOwnNumbers}
 
--- all receipts stand, and are not as many as the entries: so the history has more
+-- if all receipts match and there are not as many as entries, the history has more entries
 pub more_entries : (history : List Entry) (clients : List MemberView) → AreOwn clients → AreApart clients → ReceiptsStand history clients → receipts_of clients ≢ length history
     → receipts_of clients < length history
 more_entries history clients own apart stand differ = omega (arith, at_most history clients own apart stand, differ)
 
 module _ {A : Type 0} (who : A → MemberView) where
-  -- who stands there
+  -- the member at a place
   pub member_at : (clients : List A) (i : ℕ) (c : A) → slice_get clients i ≡ Some c → slice_get (map who clients) i ≡ Some (who c)
   member_at clients i c at = slice_get-map who clients i ∙ ap (option_map who) at
 
-  -- whose place it is
+  -- the client of a member's place
   pub client_at : (clients : List A) (i : ℕ) (h : MemberView) → slice_get (map who clients) i ≡ Some h → (c : A) × (slice_get clients i ≡ Some c) × (who c ≡ h)
   client_at clients i h at = by (slice_get clients i) refl
     where
@@ -29,7 +29,7 @@ module _ {A : Type 0} (who : A → MemberView) where
       by None e = absurd (let none : ◌≡◌ {A = Option MemberView} None (Some h) = sym (slice_get-map who clients i ∙ ap (option_map who) e) ∙ at in cc)
       by (Some c) e = (c, e, (let some : ◌≡◌ {A = Option MemberView} (Some (who c)) (Some h) = sym (member_at clients i c e) ∙ at in cc))
 
-  -- clients with numbers of their own are apart, and clients that are apart have such
+  -- clients have different numbers exactly if they are apart
   pub apart : (clients : List A) → HaveOwnNumbers who clients → AreApart (map who clients)
   apart clients own i j one other at at' same =
       let a = client_at clients i one at in
@@ -39,11 +39,11 @@ module _ {A : Type 0} (who : A → MemberView) where
   pub own_numbers : (clients : List A) → AreApart (map who clients) → HaveOwnNumbers who clients
   own_numbers clients apart i j one other at at' same = apart i j (who one) (who other) (member_at clients i one at) (member_at clients j other at') same
 
-  -- clients of which two have one number are not apart
+  -- if two clients have the same number, the clients are not apart
   pub not_apart : (clients : List A) → (HaveOwnNumbers who clients → ⊥) → ¬ AreApart (map who clients)
   not_apart clients none apart = none (own_numbers clients apart)
 
-  -- these are not all: not as many, or not apart
+  -- these are not all: there are not as many, or they are not apart
   pub not_all : (clients : List A) (made : ℕ) → (length clients ≡ made → HaveOwnNumbers who clients → ⊥) → (length (map who clients) ≢ made) ⊎ (¬ AreApart (map who clients))
   not_all clients made none = by (length clients == made) refl
     where

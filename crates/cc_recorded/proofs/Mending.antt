@@ -1,4 +1,4 @@
--- A commit behind a compaction: what was between is what the compaction left, so 34 does not come.
+-- A commit after a compaction: the book in between is what the compaction leaves, so 34 does not come.
 use Rattle.std.proofs.Common.{◌≡◌, ◌≢◌, inl, inr, ℕ, ◌<◌, ◌≤◌, Bool, IsTrue, List, [], ◌∷◌, ◌++◌, Result, Ok, Err, refl, sym, ap, ◌∙◌, subst, arith, append_assoc}
 use Rattle.cc_disk.specs.declared.disk.Disk.{Ghosts}
 use Rattle.cc_library.specs.declared.command.LibraryCommand.{LibraryCommand}
@@ -21,7 +21,7 @@ not_within n m not = omega (arith, not)
 module _ {Disk : Type 0} (D : Ghosts Disk) where
   -- ---- without a compaction
 
-  -- 34 comes only where a compaction makes no room
+  -- 34 comes only if a compaction makes no room
   no_room : (before after_it : BookView Disk) (old new : MemberView) (command : Command) → (IsMended before.library (change_of command) → ⊥) → CommitAnswers D.failures before old command after_it new (Err Full) → before.library.area < room_compacted before.library.units (change_of command)
   no_room before after_it old new command not answers =
       not_within (room_compacted before.library.units (change_of command)) before.library.area (λ fits. not ((answers.0.idle, answers.0.accepted), answers.1, fits))
@@ -32,7 +32,7 @@ module _ {Disk : Type 0} (D : Ghosts Disk) where
   commits_at_once before after_it old new command result not answers disk =
       inl (answers, λ is. no_room before after_it old new command not (subst (λ (r : Result Receipt BookFault). CommitAnswers D.failures before old command after_it new r) is answers), disk)
 
-  -- ---- behind a compaction
+  -- ---- after a compaction
 
   -- the record fits there
   fits_behind : (before between : BookView Disk) (change : LibraryCommand) → IsMended before.library change → CompactAnswers {T = Unit {0}} D.failures before between (Ok tt) → room_with between.library change ≤ between.library.area
@@ -59,14 +59,14 @@ module _ {Disk : Type 0} (D : Ghosts Disk) where
         commits = (answers, not_full between after_it old new command result (fits_behind before between (change_of command) mended compacted) answers, disk);
       })
 
-  -- where it is refused
+  -- if the compaction is refused
   pub not_compacted : (before after_it : BookView Disk) (client : MemberView) (command : Command) (fault : BookFault) → IsMended before.library (change_of command) → LastStands before.history client.receipts
       → CompactAnswers {T = Unit {0}} D.failures before after_it (Err fault) → (IsTrue D.honest → CompactsDisk {T = Unit {0}} D before.library after_it.library (Err fault))
       → CompactingAnswers D before client command after_it client (Err Full)
   not_compacted before after_it client command fault mended stands refused rewritten =
       inr (record { mended = mended; stands = stands; compacted = Err fault; between = after_it; answers = refused; rewritten = rewritten; commits = (refl, refl, refl) })
 
--- ---- the books that were
+-- ---- the earlier books
 
 pub noted_twice : {A : Type 0} (since one two : List A) (between after_it : A) → one ≡ since ++ between ∷ [] → two ≡ one ++ after_it ∷ [] → two ≡ since ++ (between ∷ [] ++ after_it ∷ [])
 noted_twice since one two between after_it first second = second ∙ ap (λ (l : List _). l ++ after_it ∷ []) first ∙ append_assoc since (between ∷ []) (after_it ∷ [])

@@ -1,4 +1,4 @@
--- Pieces give the unit of a command: what the type of a compiled unit keeps, as the core's run asks for it.
+-- Pieces give the unit of a command: what the type of a compiled unit keeps, in the form that the core's run asks for.
 use Rattle.cc_core.specs.Rules.{HasBuilt}
 use Rattle.cc_headline.specs.Built.{MadeUnitsAreBuilt}
 use Rattle.cc_headline.specs.Compiling.{compiling, Keeps}

@@ -144,7 +144,7 @@ module _ {Disk P : Type 0} (rules : Rules P) (D : Ghosts Disk) where
     };
   }
 
-  -- the rewrite fits the disk
+  -- the rewrite fits on the disk
   fits_disk : (before : BookView Disk) (s : Contents P) → Shown before s → before.library.closed ≡ false → IsTrue D.honest → room_of (compacted s.core.library) ≤ s.core.store.area
       → ((rewrite_of s.core.store s.core.library).offset + length (rewrite_of s.core.store s.core.library).bytes ≤ length s.core.store.cells) × (1 ≤ length s.core.store.cells)
   fits_disk before s shows idle h room =

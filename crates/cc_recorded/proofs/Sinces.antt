@@ -1,4 +1,4 @@
--- How it is kept that whatever a crash left since an earlier call holds the calls until then.
+-- How it is kept that whatever a crash has left since an earlier call has the calls up to then.
 use Rattle.std.proofs.Common.{◌≡◌, ◌⊎◌, ℕ, ◌≤◌, inl, inr, false, List, [], ◌∷◌, ◌++◌, length, take, Result, Ok, Err, refl, sym, ap, ◌∙◌, subst, arith, append_assoc, length-append}
 use Rattle.std.proofs.lemmas.Bool.{cases_lt}
 use Rattle.std.proofs.lemmas.List.{take-append-le, take_all}
@@ -37,7 +37,7 @@ module _ {Disk : Type 0} (D : Ghosts Disk) where
       let cut : take (length prefix) book.history ≡ prefix = ap (take (length prefix)) is ∙ take-append-le (length prefix) prefix rest (omega arith) ∙ take_all (length prefix) prefix (omega arith) in
       inl (length prefix, few, omega (arith, long), subst (λ (u : Units). RecoversAlone image u) (map ∙ (λ i. units_after (sym same i) (sym cut i))) recovers)
 
-  -- what held of a shorter history holds of a longer one
+  -- what held for a shorter history holds for a longer one
   still_holds : (before after_it : BookView Disk) (more : List Entry) (n : ℕ) (image : List ℕ) → after_it.base ≡ before.base → after_it.history ≡ before.history ++ more
       → ((c : LibraryCommand) → before.failed ≡ c ∷ [] → (after_it.failed ≡ before.failed) × (after_it.library.units ≡ before.library.units)) → HoldsFrom before n image → HoldsFrom after_it n image
   still_holds before after_it more n image base history failed (inl (j, few, within, recovers)) =
@@ -57,7 +57,8 @@ module _ {Disk : Type 0} (D : Ghosts Disk) where
 
   -- ---- what a call does to the book
 
-  -- The history has one entry more, or stays. The library stays; or the disk is written, and each image that it then leaves holds all calls before.
+  -- The history has one more entry, or stays. The library stays; or the disk is written, and each image that it then leaves has all earlier
+  -- calls.
   pub record Goes (before after_it : BookView Disk) : Type 0 where
     pub more : List Entry
     pub one : length more ≤ 1
@@ -93,7 +94,7 @@ module _ {Disk : Type 0} (D : Ghosts Disk) where
       longer before after_it [] (omega arith) (ap (λ (b : BookView Disk). b.base) is) (ap (λ (b : BookView Disk). b.history) is ∙ sym (nothing_behind before.history))
       (ap (λ (b : BookView Disk). b.library) is) (ap (λ (b : BookView Disk). b.failed) is)
 
-  -- ---- what holds of what was left since a moment before holds after the call
+  -- ---- what holds for what was left since an earlier moment holds after the call
 
   goes_on : (before after_it : BookView Disk) → Goes before after_it → (from n : ℕ) (left : List ℕ → Type 0) → from ≤ D.moment before.library.disk → n ≤ length before.history
       → ((image : List ℕ) → D.left_since before.library.disk from image → left image ⊎ HoldsFrom before n image)
@@ -139,7 +140,7 @@ module _ {Disk : Type 0} (D : Ghosts Disk) where
       let on = goes_on before after_it goes from 0 left was.past (omega arith) was.holds in
       record { past = on.0; holds = on.1 }
 
-  -- as it was opened
+  -- after the opening
   pub opening_now : (book : BookView Disk) (from : ℕ) (left : List ℕ → Type 0) → IsPast D from left book.library.disk → IsSinceOpening D from left book
   opening_now book from left named = record { past = named.past; holds = λ image was. inl (named.all image was) }
 
@@ -255,7 +256,7 @@ module _ {Disk : Type 0} (D : Ghosts Disk) where
       by (c ∷ []) is one (inr recovers) all = inr (c, is, recovers)
       by (c ∷ d ∷ others) is one recovers all = absurd (omega (arith, one))
 
-  -- what is known of the book as it is now
+  -- what is known about the book as it is now
   module _ (book : BookView Disk) (replays : Replays (chronicle_of book)) (one : length book.failed ≤ 1)
       (only_now : (image : List ℕ) → D.left_since book.library.disk (D.moment book.library.disk) image → D.may_leave book.library.disk image)
       (images : (image : List ℕ) → D.may_leave book.library.disk image → RecoversTo book.library.units book.failed image) where
@@ -280,7 +281,7 @@ module _ {Disk : Type 0} (D : Ghosts Disk) where
         let all : length book.history ≡ entries = omega (arith, ap length none, few) in
         (book.library.disk, subst (λ (n : ℕ). StoodWith D book n book.library.disk) all stood_now)
 
--- reading changes nothing of what a crash has left since an earlier moment
+-- reading changes nothing about what a crash has left since an earlier moment
 pub past_on : {Disk : Type 0} (D : Ghosts Disk) (from : ℕ) (left : List ℕ → Type 0) (old new : Disk)
     → IsPast D from left old → OnlyReads D.seen D.may_leave D.moment D.left_since old new → IsPast D from left new
 past_on D from left old new named reads = record {

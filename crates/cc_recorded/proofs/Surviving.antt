@@ -1,4 +1,4 @@
--- The core's theorem, at the state that a book shows.
+-- The core's theorem, for the state that a book shows.
 use Rattle.std.proofs.Common.{◌≡◌, ◌⊎◌, ℕ, zero, suc, inl, inr, List, [], ◌∷◌, ◌++◌, take, Some, None, refl, sym, ap, subst, ◌∙◌, append_assoc}
 use Rattle.std.specs.Prelude.{slice_get}
 use Rattle.std.proofs.lemmas.List.{map-append}
@@ -79,7 +79,7 @@ pub map_agrees : {Disk : Type 0} → ((base : Units) (history : List Entry) → 
     → EachAgrees book.base book.library.units
 map_agrees law book replays agreed = subst (λ (u : Units). EachAgrees book.base u) (sym replays.units) (law book.base book.history agreed)
 
--- what holds a prefix of the calls, with its units
+-- an image that has a prefix of the calls, with its units
 pub or_prefix : {Disk : Type 0} (book : BookView Disk) (left : List ℕ → Type 0) (image : List ℕ)
     → ((library : Units) → HoldsFrom book 0 image → Recovers image library → EachUnit (IsRightOr is_right book.base) library) → left image ⊎ HoldsFrom book 0 image → left image ⊎ HoldsPrefix book image
 or_prefix book left image right (inl early) = inl early

@@ -1,5 +1,5 @@
 -- How the tie between a book and the core is kept: a commit hands in its job with the pieces that gave its unit, and then takes the core's
--- steps; a compaction takes those of a rewrite. That a run goes on so is the core's own law.
+-- steps; a compaction takes those of a rewrite. The core's own law says that a run can go on in this way.
 use Rattle.std.proofs.Common.{◌≡◌, ℕ, ◌+◌, ◌^◌, ◌<◌, ◌≤◌, length, inl, inr, Bool, true, false, List, [], ◌∷◌, ◌++◌, map, Option, Some, None, Result, Ok, Err, refl, sym, ap, ◌∙◌, subst, arith}
 use Rattle.std.specs.FinMap.{FinMap, get, get-empty}
 use Rattle.std.specs.Ordering.{nat_cmp}
@@ -46,7 +46,7 @@ use Rattle.cc_recorded.proofs.Committing.{look_changes_nothing}
 
 -- ---- how a run goes on
 
--- what the core's law says of turns
+-- what the core's law says about turns
 pub record TurnLaw {P : Type 0} (rules : Rules P) (keeps : P → Type 0) : Type 0 where
   pub turn : (old new : Contents P) (event : Event P) (reply : Option Reply) → Step rules old event reply new → HandsIn keeps event → BeginsSpelled rules old event → Turn rules keeps old event new
   pub goes_on : (old mid new : Contents P) (events later : List (Event P)) → Run rules keeps old events mid → Run rules keeps mid later new → Run rules keeps old (events ++ later) new
@@ -89,13 +89,13 @@ module _ {P : Type 0} where
   no_begin rules old e plain client job command is held comes = let k : kind e ≡ 3 = ap kind is in absurd (omega (arith, plain, k))
 
 module _ {P : Type 0} (rules : Rules P) (keeps : P → Type 0) (law : TurnLaw rules keeps) where
-  -- The command of a state's job can be spelled where its record fits, and the area of a state in which no device step failed is no larger
-  -- than any area.
+  -- The command of a state's job can be spelled if its record fits, and the area of a state in which no device step failed is no larger
+  -- than the greatest area.
   pub record CanSpell (old : Contents P) (c : made.LibraryCommand) : Type 0 where
     pub command : length (body_of c) < 2 ^ 32 → IsCommand c
     pub area : closed old.core.phase ≡ None → old.core.store.area ≤ 2 ^ 30
 
-  -- the beginning of a job whose command has a spelling
+  -- the Begin of a job whose command has a spelling
   spelled : (old : Contents P) (client : ClientId) (c : made.LibraryCommand) → Has rules old client c → CanSpell old c → BeginsSpelled rules old (event.Begin client)
   spelled old client c has can other job command is held comes open' fits =
       let same : client ≡ other = cc in
@@ -148,7 +148,7 @@ not_open : (failed : List made.LibraryCommand) (phase : Phase) → IsPhase true 
 not_open [] phase is open' = let h : ◌≡◌ {A = Option Refusal} (Some refusal.Closed) None = ap closed (sym is) ∙ open' in cc
 not_open (c ∷ failed) phase is open' = let h : ◌≡◌ {A = Option Refusal} (Some refusal.Closed) None = ap closed (sym is.2) ∙ open' in cc
 
--- what becomes of the disk's bytes does not depend on what the kind says of itself
+-- what becomes of the disk's bytes does not depend on whether the kind of disk calls itself honest
 changes_too : {Disk T : Type 0} (D : Ghosts Disk) (command : made.LibraryCommand) (old new : View Disk) (result : Result T BookFault) → ChangesDisk D command old new result → ChangesDisk (honest_kind D) command old new result
 changes_too D command old new (Ok done) is = is
 changes_too D command old new (Err DiskFault) is = is
@@ -179,7 +179,7 @@ module _ {Disk P : Type 0} (rules : Rules P) (keeps : P → Type 0) (D : Ghosts 
   same_book : (before after_it : BookView Disk) → Tied before → after_it ≡ before → Tied after_it
   same_book before after_it tied same = subst Tied (sym same) tied
 
-  -- ---- a look, which changes nothing shown
+  -- ---- a look-up, which changes nothing that is shown
 
   shown_same : (before after_it : BookView Disk) (s : Contents P) → Shown before s → after_it.library ≡ before.library → after_it.failed ≡ before.failed → after_it.base ≡ before.base → changes after_it.history ≡ changes before.history → Shown after_it s
   shown_same before after_it s shows library failed base same = record {

@@ -1,11 +1,13 @@
--- When a commit has which answer, and what it leaves. In this order: 36 exactly where the device has failed before, 39 exactly
--- where the client's last receipt does not stand, 31 and 32 exactly where the map refuses, 34 exactly where the record does not
--- fit, 35 exactly where the device failed in the call.
+-- Which answer a commit gives, when, and what it leaves. In this order: 36 exactly if the device has failed before, 39 exactly if the
+-- client's last receipt does not match the history, 31 and 32 exactly if the map refuses, 34 exactly if the record does not fit, 35 exactly
+-- if the device failed in the call.
 use Rattle.std.specs.Prelude.{◌≡◌, ◌≢◌, ◌⊎◌, length, slice_get, Some, None, ℕ, ◌+◌, ◌<◌, ◌≤◌, true, false, IsOk, List, [], ◌∷◌, ◌++◌, Result, Ok, Err}
 use Rattle.cc_library.specs.Apply.{apply, after}
 use Rattle.cc_library.specs.Body.{body_of}
 use Rattle.cc_library.specs.Answers.{room_with}
 use Rattle.cc_library.specs.Recovered.{View}
+use Rattle.cc_library.specs.Space.{IsSpace}
+use Rattle.cc_library.specs.declared.space.SpaceUse.{SpaceUse}
 use Rattle.cc_history.specs.declared.command.Command.{Command}
 use Rattle.cc_history.specs.declared.command.Asked.{Asked}
 use Rattle.cc_history.specs.declared.command.Asked.TheVariants.{Change, Fetch, Names}
@@ -32,7 +34,7 @@ IsLook (Change command) = ⊥
 IsLook (Fetch name) = Unit {0}
 IsLook Names = Unit {0}
 
--- why a service is not ended: no memory, or a receipt, the first, that does not stand, or that these are not all clients
+-- why a service is not ended: lack of memory; or the first receipt that does not match the history; or that these are not all clients
 abbrev pub IsNotClosed : (history : List Entry) (made : ℕ) → List MemberView → BookFault → Type 0
 IsNotClosed history made clients fault =
     (fault ≡ OutOfMemory)
@@ -48,7 +50,7 @@ module _ {D : Type 0} where
     pub history : book.history ≡ []
     pub failed : book.failed ≡ []
 
-  -- the call reaches the library: the device has not failed, the client's last receipt stands, and the map accepts the command
+  -- the call reaches the library: the device has not failed, the client's last receipt matches, and the map accepts the command
   pub record IsAsked (before : BookView D) (old : MemberView) (command : Command) : Type 0 where
     pub idle : before.library.closed ≡ false
     pub stands : LastStands before.history old.receipts
@@ -66,7 +68,7 @@ module _ {D : Type 0} where
   done_in library command disk =
       record { disk = disk; area = library.area; bodies = library.bodies ++ body_of (change_of command) ∷ []; units = after library.units (change_of command); closed = false }
 
-  -- the command is done: the call is in the history so, and the library has its record
+  -- the command is done: the call is in the history with that answer, and the library has its record
   pub record IsDone (before : BookView D) (old : MemberView) (command : Command) (after : BookView D) (new : MemberView) (receipt : Receipt) : Type 0 where
     pub asked : IsAsked before old command
     pub fits : room_with before.library (change_of command) ≤ before.library.area
@@ -94,8 +96,8 @@ module _ {D : Type 0} where
       × (failures after.library.disk ≡ failures before.library.disk + 1) × (after ≡ failed_in before command after.library.disk) × (new ≡ old)
   CommitAnswers failures before old command after new (Err OutOfMemory) = (before.library.closed ≡ false) × (after ≡ before) × (new ≡ old)
 
-  -- the answer to a look, and what it leaves: the call is in the history with the reply that one thread gets there, and nothing else
-  -- changes; 39 exactly where the client's last receipt does not stand. No other fault comes
+  -- the answer to a look-up, and what it leaves: the call is in the history with the reply that a single thread gets there, and nothing
+  -- else changes; 39 exactly if the client's last receipt does not match. No other fault comes
   abbrev pub LookAnswers : (before : BookView D) (old : MemberView) → Asked → (after : BookView D) (new : MemberView) → Result Receipt BookFault → Type 0
   LookAnswers before old asked after new (Ok receipt) =
       IsRecorded (chronicle_of before) old asked (reply_of before.library.units asked) (chronicle_of after) new receipt
@@ -109,8 +111,8 @@ module _ {D : Type 0} where
   LookAnswers before old asked after new (Err Closed) = ⊥
   LookAnswers before old asked after new (Err DiskFault) = ⊥
 
-  -- the answer to a rewrite, and what it leaves: history and map stay. 36 exactly where the device has failed before, then 34
-  -- exactly where the new records do not fit, then 35 exactly where the device failed in the call
+  -- the answer to a compaction, and what it leaves: history and map stay. 36 exactly if the device has failed before, then 34 exactly if
+  -- the new records do not fit, then 35 exactly if the device failed in the call
   abbrev pub CompactAnswers : {T : Type 0} → (failures : D → ℕ) (before after : BookView D) → Result T BookFault → Type 0
   CompactAnswers failures before after (Ok done) =
       (before.library.closed ≡ false) × (room_of (compacted before.library.units) ≤ before.library.area) × (failures after.library.disk ≡ failures before.library.disk)
@@ -125,3 +127,8 @@ module _ {D : Type 0} where
   CompactAnswers failures before after (Err (Exists receipt)) = ⊥
   CompactAnswers failures before after (Err (Absent receipt)) = ⊥
   CompactAnswers failures before after (Err (Estranged number found)) = ⊥
+
+  -- the answer to how much of its area the library takes: 36 exactly if the device has failed before
+  abbrev pub SpaceAnswers : BookView D → Result SpaceUse BookFault → Type 0
+  SpaceAnswers book (Ok space) = (book.library.closed ≡ false) × IsSpace book.library.area book.library.bodies book.library.units space
+  SpaceAnswers book (Err fault) = (fault ≡ Closed) × (book.library.closed ≡ true)

@@ -10,8 +10,8 @@ use Rattle.cc_library.specs.Recovered.{View, RecoversAlone, RecoversOneOf, view_
 use Rattle.cc_history.specs.declared.entry.Entry.{Entry}
 use Rattle.cc_history.specs.History.{Chronicle, Replays, HaveAgreed}
 
--- the map that the service began with, the library (its disk, its records, its map, whether it is closed), the history of
--- the calls, and the change in whose call the device failed, where one did
+-- the map with which the service began, the library (its disk, its records, its map, whether it is closed), the history of the calls, and
+-- the change in whose call the device failed, if there was one
 pub record BookView (D : Type 0) : Type 0 where
   pub base : Units
   pub library : View D
@@ -29,7 +29,7 @@ module _ {D : Type 0} where
   abbrev pub chronicle_of : BookView D → Chronicle
   chronicle_of book = record { base = book.base; units = book.library.units; history = book.history }
 
--- the unit of a change, where it has one, was compiled
+-- the unit of a change, if it has one, was compiled
 abbrev pub HasAgreedUnit : LibraryCommand → Type 0
 HasAgreedUnit (change.Add name unit) = Agree unit.source unit.image
 HasAgreedUnit (change.Replace name unit) = Agree unit.source unit.image

@@ -1,4 +1,4 @@
--- What a change of a book, and a compaction, promise whole, on this kind of disk.
+-- The whole promise of a change of a book, and of a compaction, on this kind of disk.
 use Rattle.std.specs.Prelude.{◌≡◌, ℕ, false, IsTrue, List, Result}
 use Rattle.cc_disk.specs.declared.disk.Disk.{Ghosts}
 use Rattle.cc_disk.specs.Images.{LeavesOnly}
@@ -18,7 +18,7 @@ module _ {Disk : Type 0} (D : Ghosts Disk) where
   abbrev pub AllRecover : BookView Disk → Type 0
   AllRecover book = IsTrue D.honest → (image : List ℕ) → D.may_leave book.library.disk image → RecoversTo book.library.units book.failed image
 
-  -- a crash at any moment from the one book to the other leaves the map before it or the map after the command
+  -- a crash at any moment between the one book and the other leaves the earlier map or the map after the command
   abbrev pub ChangesAtOnce : Command → (before after : BookView Disk) → Type 0
   ChangesAtOnce command before after = IsTrue D.honest → before.library.closed ≡ false
       → LeavesOnly D.moment D.left_since before.library.disk after.library.disk (RecoversOneOf before.library.units (library.after before.library.units (change_of command)))
@@ -29,7 +29,7 @@ module _ {Disk : Type 0} (D : Ghosts Disk) where
     -- what becomes of the disk's bytes
     pub disk : IsTrue D.honest → ChangesDisk D (change_of command) before.library after.library result
     pub moments : ChangesAtOnce command before after
-    -- at Ok it is the map after the command, alone
+    -- after Ok it is the map after the command, and no other
     pub kept : AllRecover after
 
   -- a compaction

@@ -1,5 +1,5 @@
--- What a commit answers that compacts where this makes room, and what it leaves: 34 is its answer only where the record does not fit behind
--- the compacted records either, or where the compaction was refused.
+-- What a commit answers that compacts if this makes room, and what it leaves: 34 is its answer only if the record does not fit after the
+-- compacted records either, or if the compaction was refused.
 use Rattle.std.specs.Prelude.{◌≡◌, ◌≢◌, ◌⊎◌, ◌<◌, IsTrue, Result, Ok, Err}
 use Rattle.cc_disk.specs.declared.disk.Disk.{Ghosts}
 use Rattle.cc_library.specs.Answers.{IsMended}
@@ -15,15 +15,15 @@ use Rattle.cc_recorded.specs.declared.fault.BookFault.{BookFault}
 use Rattle.cc_recorded.specs.declared.fault.BookFault.TheVariants.{Full}
 
 module _ {Disk : Type 0} (D : Ghosts Disk) where
-  -- What comes behind a compaction: the commit, on the book that the compaction leaves, and 34 is not its answer. Where the compaction was
-  -- refused nothing comes, and 34 is the answer.
+  -- What comes after a compaction: the commit, on the book that the compaction leaves, and its answer is not 34. If the compaction was
+  -- refused, nothing comes after it, and 34 is the answer.
   abbrev pub CommitsBehind : Command → (between : BookView Disk) (old : MemberView) (after : BookView Disk) (new : MemberView) → Result (Unit {0}) BookFault → Result Receipt BookFault → Type 0
   CommitsBehind command between old after new (Ok done) result =
       CommitAnswers D.failures between old command after new result × (result ≢ Err Full)
       × (IsTrue D.honest → ChangesDisk D (change_of command) between.library after.library result)
   CommitsBehind command between old after new (Err fault) result = (result ≡ Err Full) × (after ≡ between) × (new ≡ old)
 
-  -- 34 would refuse the change, and would not behind a compaction: so the library is compacted, which makes no entry and leaves the map.
+  -- 34 would refuse the change now, but not after a compaction, so the library is compacted, which makes no entry and leaves the map.
   pub record IsCompactedFor (before : BookView Disk) (old : MemberView) (command : Command) (after : BookView Disk) (new : MemberView) (result : Result Receipt BookFault) : Type 0 where
     pub mended : IsMended before.library (change_of command)
     pub stands : LastStands before.history old.receipts
@@ -33,7 +33,7 @@ module _ {Disk : Type 0} (D : Ghosts Disk) where
     pub rewritten : IsTrue D.honest → CompactsDisk D before.library between.library compacted
     pub commits : CommitsBehind command between old after new compacted result
 
-  -- the answer: as a commit has it, and 34 only where a compaction would make no room; or a compaction comes first
+  -- the answer: that of a commit, and 34 only if a compaction would make no room; or a compaction comes first
   abbrev pub CompactingAnswers : (before : BookView Disk) (old : MemberView) → Command → (after : BookView Disk) (new : MemberView) → Result Receipt BookFault → Type 0
   CompactingAnswers before old command after new result =
       (CommitAnswers D.failures before old command after new result

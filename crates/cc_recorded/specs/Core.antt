@@ -1,6 +1,6 @@
--- How a book shows a state of the protocol core, and what a commit is on it. No such state is made at run time: a book shows every
--- state that has its map, an order that leads to it, its phase, and a disk that reads as its disk does and leaves all that its
--- disk may leave.
+-- How a book shows a state of the protocol core, and what a commit is on it. No such state is made at run time. A book shows every state
+-- that has its map, an order that leads to it, its phase, and a disk that reads as its disk does and that leaves everything that its disk
+-- may leave.
 use Rattle.std.specs.Prelude.{◌≡◌, ◌⊎◌, ℕ, Bool, true, false, IsTrue, List, [], ◌∷◌, ◌++◌, length, Option, Some, None, Result, Ok, Err}
 use Rattle.std.specs.FinMap.{empty, get}
 use Rattle.cc_disk.specs.declared.disk.Disk.{Ghosts}
@@ -31,8 +31,8 @@ use Rattle.cc_history.specs.declared.entry.Receipt.{Receipt}
 use Rattle.cc_recorded.specs.declared.fault.BookFault.{BookFault}
 use Rattle.cc_recorded.specs.declared.fault.BookFault.TheVariants.{Exists, Absent, Full, DiskFault, Closed, Estranged, OutOfMemory}
 
--- Acknowledged are some commands that lead to the base, all that were there at the opening, and then the changes of the history, each of
--- which was answered Ok. The order has these, and behind them the change that failed, where one did.
+-- The acknowledged commands are some that lead to the base, which were all there at the opening, and then the changes of the history, each
+-- of which was answered Ok. The order has these, and after them the change that failed, if there was one.
 pub record ShowsOrder {D : Type 0} (book : BookView D) (order acknowledged : List Numbered) : Type 0 where
   pub earlier : List LibraryCommand
   pub base : library_of earlier ≡ book.base
@@ -42,14 +42,14 @@ pub record ShowsOrder {D : Type 0} (book : BookView D) (order acknowledged : Lis
   pub in_order : order ≡ acknowledged ++ failing
   pub failed : commands failing ≡ book.failed
 
--- idle; once the device has failed, failed, with the change that failed, where one did
+-- idle; once the device has failed, failed, with the change that failed, if there was one
 abbrev pub IsPhase : (closed : Bool) (failed : List LibraryCommand) → Phase → Type 0
 IsPhase false failed phase = (failed ≡ []) × (phase ≡ Idle)
 IsPhase true [] phase = phase ≡ Failed None
 IsPhase true (change ∷ others) phase = (last : Numbered) × (last.command ≡ change) × (phase ≡ Failed (Some last))
 
--- A store that leaves all that the disk may leave. While no device call has failed, it reads as the disk does, and its records are
--- those of the disk, in the same area. (After that nobody reads before the disk is opened again.)
+-- A store that leaves everything that the disk may leave. While no device call has failed, it reads as the disk does, and its records are
+-- those of the disk, in the same area. (After a failure nobody reads the disk before it is opened again.)
 pub record ShowsDisk {Disk : Type 0} (D : Ghosts Disk) (view : View Disk) (store : StoreState) : Type 0 where
   pub area : store.area ≡ view.area
   pub used : view.closed ≡ false → store.used ≡ length (records view.bodies)
@@ -77,11 +77,11 @@ module _ {P : Type 0} (rules : Rules P) where
       (event.Begin client, None) ∷ (event.WriteBody, None) ∷ (event.SyncBody, None) ∷ (event.WriteGate, None) ∷ (event.SyncGate, None)
       ∷ (event.Ack client, Some replies.Done) ∷ []
 
-  -- one that is refused
+  -- a commit that is refused
   abbrev pub refused_steps : ClientId → Refusal → List (Event P × Option Reply)
   refused_steps client why = (event.Begin client, Some (replies.Refused why)) ∷ []
 
-  -- one whose first or second device step fails, and one whose third or fourth does
+  -- a commit whose first or second device step fails, and one whose third or fourth does
   abbrev pub failed_first : ClientId → List (Event P × Option Reply)
   failed_first client = (event.Begin client, None) ∷ (event.Fail, Some (replies.Refused refusal.DiskFault)) ∷ []
 
@@ -96,8 +96,8 @@ module _ {P : Type 0} (rules : Rules P) where
     pub there : IsTrue (all_there its.pieces)
     pub gives : command_of rules its its.request ≡ Ok c
 
-  -- what a commit with this answer is for the client that has the job: Begin to Ack, or to a refusal or Fail. One that is refused by
-  -- 39 or 40 never begins
+  -- what a commit with this answer is, for the client that has the job: the steps from Begin to Ack, or to a refusal or a Fail. A commit
+  -- that is refused by 39 or 40 never begins
   abbrev pub IsCommitOf : (Contents P → Type 0) → Contents P → ClientId → Result Receipt BookFault → Type 0
   IsCommitOf Shown s client (Ok receipt) = (new : Contents P) × Steps s (done_steps client) new × Shown new
   IsCommitOf Shown s client (Err (Exists receipt)) = (new : Contents P) × Steps s (refused_steps client refusal.Exists) new × Shown new
@@ -109,7 +109,7 @@ module _ {P : Type 0} (rules : Rules P) where
   IsCommitOf Shown s client (Err (Estranged number found)) = Shown s
   IsCommitOf Shown s client (Err OutOfMemory) = Shown s
 
--- what happens beside commits, rewrites, failures and crashes: a job is handed in, a piece is taken, its result comes
+-- what happens besides commits, rewrites, failures and crashes: a job is handed in, a piece is taken, its result comes
 abbrev pub IsBeside : {P : Type 0} → Event P → Type 0
 IsBeside (event.Submit client call request) = Unit {0}
 IsBeside (event.Take worker client part) = Unit {0}
@@ -128,7 +128,7 @@ module _ {P : Type 0} where
   abbrev pub rewrite_failed_last : List (Event P × Option Reply)
   rewrite_failed_last = (event.RewriteAll, None) ∷ (event.SyncAll, None) ∷ (event.Fail, None) ∷ []
 
--- what a compaction with this answer is; one that is refused otherwise never begins
+-- what a compaction with this answer is; one that is refused for another reason never begins
 abbrev pub IsRewriteOf : {P : Type 0} (rules : Rules P) → (Contents P → Type 0) → Contents P → Result (Unit {0}) BookFault → Type 0
 IsRewriteOf rules Shown s (Ok done) = (new : Contents _) × Steps rules s rewritten_steps new × Shown new
 IsRewriteOf rules Shown s (Err DiskFault) =

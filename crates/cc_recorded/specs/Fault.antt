@@ -1,4 +1,4 @@
--- The numbers of the book's faults, and what receipts that do not stand are to it.
+-- The numbers of the book's faults, and its fault for receipts that do not match the history.
 use Rattle.std.specs.Prelude.{ℕ}
 use Rattle.cc_history.specs.declared.standing.StandingFault.{StandingFault}
 use Rattle.cc_history.specs.declared.standing.StandingFault.TheVariants as standing

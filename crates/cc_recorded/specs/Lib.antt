@@ -7,13 +7,13 @@ pub mod Member
 pub mod Book
 -- what a library is like after its opening
 pub mod Opened
--- when a call has which answer, and what it leaves
+-- which answer a call gives, when, and what it leaves
 pub mod Answers
 -- what a call does to the bytes of the disk
 pub mod Disk
--- what a change of a book, and a compaction, promise whole
+-- the whole promise of a change of a book, and of a compaction
 pub mod Changed
--- what a commit answers that compacts where this makes room
+-- what a commit answers that compacts if this makes room
 pub mod Compacting
 -- how a book shows a state of the protocol core, and what a call is on it
 pub mod Core
@@ -23,5 +23,5 @@ pub mod Since
 pub mod Tie
 -- what the type of a book keeps, and what follows for whatever a crash leaves
 pub mod Promise
--- what serves private contracts
+-- for private contracts
 pub mod internal

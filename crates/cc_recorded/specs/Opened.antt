@@ -1,12 +1,12 @@
--- What a library is like after its opening.
+-- A library after its opening.
 use Rattle.std.specs.Prelude.{◌≡◌, ℕ, false, IsTrue, List}
 use Rattle.cc_disk.specs.declared.disk.Disk.{Ghosts}
 use Rattle.cc_disk.specs.Images.{LeavesAlone}
 use Rattle.cc_journal.specs.Format.{HoldsRecords}
 use Rattle.cc_library.specs.Recovered.{RecoversAlone, StandFor, View}
 
--- It is open, and its records stand for its map. An honest disk has these records and nothing that is not settled, and whatever a crash
--- leaves of it recovers to the map, and to no other.
+-- It is open, and its records represent its map. An honest disk has these records and nothing unsettled, and whatever a crash leaves of it
+-- recovers to the map, and to no other.
 pub record IsOpened {Disk : Type 0} (D : Ghosts Disk) (library : View Disk) : Type 0 where
   pub usable : library.closed ≡ false
   pub stand : StandFor library.bodies library.units

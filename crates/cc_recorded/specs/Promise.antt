@@ -14,13 +14,14 @@ use Rattle.cc_recorded.specs.Book.{AllAgreed, BookView, RecoversTo}
 use Rattle.cc_recorded.specs.Since.{AreSince, BookSince, HoldsFrom, IsInOrder, IsSinceOpening}
 use Rattle.cc_recorded.specs.Tie.{IsTied}
 
--- Of any disk: so many calls of the device had failed once, and since then one at least for each change that failed. So if none has failed since, no change has:
--- then whatever a crash leaves recovers to the map alone.
+-- On any disk: this many calls of the device had failed at some time, and since then at least one more for each change that failed. So if
+-- none has failed since, no change has failed, and whatever a crash leaves recovers to the map and to no other.
 abbrev pub FailedByDevice : {Disk : Type 0} (D : Ghosts Disk) (failures : ℕ) → BookView Disk → Type 0
 FailedByDevice D failures book = failures + length book.failed ≤ D.failures book.library.disk
 
--- The changes that failed did so with the device. On an honest disk: the tie to the core's theorem, what a crash at any moment since each earlier call has left, and
--- what one has left since the moment that the service's parameter names, for which it had left this until the opening; and that the entries came one by one.
+-- The changes that failed did so with the device. On an honest disk also: the tie to the core's theorem; what a crash at any moment since
+-- each earlier call has left; what one has left since the moment that the service's parameter names, for which the parameter also says what
+-- one had left until the opening; and that the entries came one by one.
 pub record IsBook {Disk : Type 0} (D : Ghosts Disk) (failures from : ℕ) (left : List ℕ → Type 0) (b : BookSince Disk) : Type 0 where
   pub blamed : FailedByDevice D failures b.book
   pub tied : IsTrue D.honest → IsTied compiling Keeps D b.book
@@ -28,9 +29,10 @@ pub record IsBook {Disk : Type 0} (D : Ghosts Disk) (failures from : ℕ) (left 
   pub opened : IsTrue D.honest → IsSinceOpening D from left b.book
   pub ordered : IsTrue D.honest → IsInOrder D b.book
 
--- What a crash leaves of a book's disk recovers, to the library of a prefix of the commands in commit order. These are some that led to
--- the base, then the changes of the history, then the one in which the device failed. The prefix holds each that was acknowledged, as often as
--- it was: those of the base, and those of the history. Each unit in it is one that was found at the opening, or its image agrees with its source.
+-- What a crash leaves of a book's disk recovers to the library of a prefix of the commands in commit order. These are some that led to the
+-- base, then the changes of the history, then the one in which the device failed. The prefix has each command that was acknowledged, as
+-- often as it was: those of the base, and those of the history. Each unit in it was found at the opening, or its image agrees with its
+-- source.
 pub record SurvivesCrash {D : Type 0} (book : BookView D) (image : List ℕ) : Type 0 where
   pub earlier : List LibraryCommand
   pub base : library_of earlier ≡ book.base
@@ -41,17 +43,17 @@ pub record SurvivesCrash {D : Type 0} (book : BookView D) (image : List ℕ) : T
   pub survives : Survives image order acknowledged
   pub right : (library : Units) → Recovers image library → EachUnit (IsRightOr is_right book.base) library
 
--- What a crash left at some moment while the service ran recovers to the base after a prefix of the history, or to the map with the change in
--- which the device failed. Each unit in it is one that was found at the opening, or its image agrees with its source.
+-- What a crash left at some moment while the service ran recovers to the base after a prefix of the history, or to the map with the change
+-- in which the device failed. Each unit in it was found at the opening, or its image agrees with its source.
 pub record HoldsPrefix {D : Type 0} (book : BookView D) (image : List ℕ) : Type 0 where
   pub holds : HoldsFrom book 0 image
   pub right : (library : Units) → Recovers image library → EachUnit (IsRightOr is_right book.base) library
 
--- What holds of a book at any time, whatever order the calls of all threads took the lock in. The parameter of its service names the base, a
--- moment up to the opening, and what a crash from that moment until the opening had left.
+-- What holds for a book at any time, in whatever order the calls of all threads took the lock. The parameter of its service names the base,
+-- a moment up to the opening, and what a crash from that moment until the opening had left.
 pub record IsSound {Disk : Type 0} (D : Ghosts Disk) (base : Units) (from : ℕ) (left : List ℕ → Type 0) (book : BookView Disk) : Type 0 where
   pub base_is : IsTrue D.honest → book.base ≡ base
-  -- each answer is the one that one thread gets there, and the map is the base with the changes; each unit was found or was compiled
+  -- each answer is the one that a single thread gets there, and the map is the base with the changes; each unit was found or was compiled
   pub legal : IsLegal book.base book.history
   pub map : book.library.units ≡ units_after book.base book.history
   pub agrees : EachAgrees book.base book.library.units
@@ -61,12 +63,12 @@ pub record IsSound {Disk : Type 0} (D : Ghosts Disk) (base : Units) (from : ℕ)
   pub images : IsTrue D.honest → (image : List ℕ) → D.may_leave book.library.disk image → RecoversTo book.library.units book.failed image
   pub survives : IsTrue D.honest → (image : List ℕ) → D.may_leave book.library.disk image → SurvivesCrash book image
   pub since : IsTrue D.honest → (image : List ℕ) → D.left_since book.library.disk from image → left image ⊎ HoldsPrefix book image
-  -- From when the history had the entry of a call on, a crash leaves that call.
+  -- Once the history has the entry of a call, a crash leaves that call.
   pub ordered : IsTrue D.honest → IsInOrder D book
 
--- What is left of a service that was given up with these clients: its book lay on this disk, and each has receipts of its own calls, in their
--- order. Where it is said that these are all its clients, every receipt of theirs stands in its history, and every entry has one; where it is
--- said that they are not, this shows why.
+-- What is left of a service that was given up with these clients: its book was on this disk, and each client has receipts of its own calls,
+-- in their order. If the answer is that these are all its clients, every receipt of theirs is in its history, and every entry has one; if
+-- the answer is that they are not, this shows why.
 pub record IsGivenUp {Disk : Type 0} (D : Ghosts Disk) (failures : ℕ) (base : Units) (from : ℕ) (left : List ℕ → Type 0) (clients : List MemberView) (are_all : Bool) (disk : Disk) : Type 0 where
   pub book : BookView Disk
   pub disk_is : book.library.disk ≡ disk

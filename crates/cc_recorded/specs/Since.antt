@@ -1,4 +1,4 @@
--- What a crash at any moment since an earlier call has left, the opening among them.
+-- What a crash at any moment since an earlier call, or since the opening, has left.
 use Rattle.std.specs.Prelude.{◌≡◌, ◌⊎◌, ℕ, ◌≤◌, List, [], ◌∷◌, ◌++◌, length, take, Some, slice_get, refl}
 use Rattle.std.specs.Coded.{Coded, code_by, coded×, coded_list}
 use Rattle.cc_disk.specs.declared.disk.Disk.{Ghosts}
@@ -9,7 +9,7 @@ use Rattle.cc_history.specs.declared.entry.Entry.{Entry}
 use Rattle.cc_history.specs.History.{units_after}
 use Rattle.cc_recorded.specs.Book.{BookView}
 
--- what contracts see of the value of the lock: the book, and the books as they were, at the opening and after each call, the newest last
+-- what contracts see of the value of the lock: the book, and the book as it was at the opening and after each call, the newest last
 pub record BookSince (D : Type 0) : Type 0 where
   pub book : BookView D
   pub since : List (BookView D)
@@ -20,22 +20,22 @@ since_code {D} book =
     code_by (BookView D × List (BookView D)) (coded× book (coded_list book)) (λ b. (b.book, b.since)) (λ p. record { book = p.0; since = p.1 }) (λ _. refl)
 
 module _ {Disk : Type 0} where
-  -- The image recovers to the base after a prefix of the history, which has this many entries at least; or to the map with the change in
+  -- The image recovers to the base after a prefix of the history that has at least this many entries; or to the map with the change in
   -- which the device failed.
   abbrev pub HoldsFrom : BookView Disk → ℕ → List ℕ → Type 0
   HoldsFrom book entries image =
       ((j : ℕ) × (entries ≤ j) × (j ≤ length book.history) × RecoversAlone image (units_after book.base (take j book.history)))
       ⊎ ((c : LibraryCommand) × (book.failed ≡ c ∷ []) × RecoversAlone image (after book.library.units c))
 
-  -- An image of the disk as it was when the history had this many entries: it recovers to the base after these; or to the map with the change in which
-  -- the device failed.
+  -- An image of the disk as it was when the history had this many entries: it recovers to the base after these; or to the map with the
+  -- change in which the device failed.
   abbrev pub HoldsJust : BookView Disk → ℕ → List ℕ → Type 0
   HoldsJust book entries image =
       RecoversAlone image (units_after book.base (take entries book.history))
       ⊎ ((c : LibraryCommand) × (book.failed ≡ c ∷ []) × RecoversAlone image (after book.library.units c))
 
 module _ {Disk : Type 0} (D : Ghosts Disk) where
-  -- Whatever a crash left since the book was as `old` says holds all calls that were in the history then.
+  -- Whatever a crash has left since the book was `old` has all calls that were in the history then.
   pub record IsSince (book old : BookView Disk) : Type 0 where
     pub rest : List Entry
     pub grows : book.history ≡ old.history ++ rest
@@ -47,7 +47,7 @@ module _ {Disk : Type 0} (D : Ghosts Disk) where
     pub past : from ≤ D.moment disk
     pub all : (image : List ℕ) → D.left_since disk from image → left image
 
-  -- Whatever a crash left since that moment it left before the opening, or it holds a prefix of the calls.
+  -- Whatever a crash has left since that moment was left before the opening, or has a prefix of the calls.
   pub record IsSinceOpening (from : ℕ) (left : List ℕ → Type 0) (book : BookView Disk) : Type 0 where
     pub past : from ≤ D.moment book.library.disk
     pub holds : (image : List ℕ) → D.left_since book.library.disk from image → left image ⊎ HoldsFrom book 0 image
@@ -55,8 +55,8 @@ module _ {Disk : Type 0} (D : Ghosts Disk) where
   abbrev pub AreSince : BookView Disk → List (BookView Disk) → Type 0
   AreSince book since = (k : ℕ) (old : BookView Disk) → slice_get since k ≡ Some old → IsSince book old
 
-  -- This was the disk when the history had so many entries, each of them answered: a crash then left these, and whatever one has left from then on
-  -- holds them.
+  -- This was the disk when the history had this many entries, each of them answered: a crash then left these, and whatever one has left
+  -- since then has them.
   pub record StoodWith (book : BookView Disk) (entries : ℕ) (disk : Disk) : Type 0 where
     pub past : D.moment disk ≤ D.moment book.library.disk
     pub just : (image : List ℕ) → D.may_leave disk image → HoldsJust book entries image

@@ -1,7 +1,7 @@
--- What serves private contracts.
--- the reply that an answer to a change is
+-- Definitions for private contracts.
+-- the reply for an answer to a change
 pub mod Decide
--- what is looked for in clients
+-- what is looked for among clients
 pub mod Apart
--- what is refused before a change looks for room
+-- the refusals before a change looks for room
 pub mod Early

@@ -3,7 +3,7 @@
 ghost use Rattle.std.specs.Prelude.{◌≡◌, ◌≤◌, ◌⊎◌, ℕ, List, [], ◌∷◌, ◌++◌, true, false, IsTrue, IfErr, IfOk, MatchResult, OnOk, Some, slice_get, length, map};
 ghost use Rattle.std.specs.FinMap.{empty};
 ghost use Rattle.cc_disk.specs.Images.{OnlyReads};
-ghost use Rattle.cc_journal.specs.Format.{HoldsRecords};
+ghost use Rattle.cc_journal.specs.Format.{AllHold, HoldsRecords};
 ghost use Rattle.cc_core.specs.Run.{EachUnit, IsRightOr};
 ghost use Rattle.cc_library.specs.Answers.{IsMended, OpenFaults};
 ghost use Rattle.cc_library.specs.Apply.{Units};
@@ -13,7 +13,7 @@ ghost use Rattle.cc_history.specs.Calls.{change_of};
 ghost use Rattle.cc_history.specs.Closing.{AreApart, AreOwn, IsClosed, IsNotWhole, ReceiptsStand};
 ghost use Rattle.cc_history.specs.History.{LastStands};
 ghost use Rattle.cc_recorded.specs.Book.{BookView};
-ghost use Rattle.cc_recorded.specs.Answers.{IsBegun, IsLook, IsNotClosed, LookAnswers};
+ghost use Rattle.cc_recorded.specs.Answers.{IsBegun, IsLook, IsNotClosed, LookAnswers, SpaceAnswers};
 ghost use Rattle.cc_recorded.specs.Changed.{AllRecover, ChangesAtOnce, IsBookChanged, IsBookCompacted};
 ghost use Rattle.cc_recorded.specs.Compacting.{CompactingAnswers};
 ghost use Rattle.cc_recorded.specs.Opened.{IsOpened};
@@ -30,23 +30,23 @@ use cc_core::laws::{crash_law, turn_law, units_law};
 use cc_disk::{Disk, History};
 use cc_headline::{CcBuild, made_units_are_built};
 use cc_history::{Asked, Command, Receipt, units_agree};
-use cc_library::{Library, LibraryFault, UnitMap};
+use cc_library::{Library, LibraryFault, SpaceUse, UnitMap};
 use std::alloc::Global;
 use std::marker::Model;
 use std::sync::ledger::{self, Share};
 
 /// The value of a service's lock: the library with the history of its calls.
 ///
-/// Its type keeps the tie to the crash theorem: on an honest disk some run of the protocol core, from an opened disk on, leads to a state
-/// that this book shows. It keeps too what a crash at any moment since the opening, or since any call, has left. A clause sees the
-/// book, and the books as they were: at the opening and after each call.
+/// Its type keeps the tie to the crash theorem: on an honest disk some run of the protocol core, starting from an opened disk, leads to a
+/// state that this book shows. It also keeps what a crash at any moment since the opening, or since any call, has left. Contracts see the
+/// book, and the book as it was at the opening and after each call.
 pub struct Book<N: Based, D: Disk> {
     pub(crate) recorded: RecordedLibrary<N, D>,
-    // How it was at the opening and after each call, for contracts alone.
+    // The book at the opening and after each call, for contracts only.
     pub(crate) since: History<RecordedLibrary<N, D>>,
 }
 
-// By hand, so that crates above call it and do not prove anew how each part is dropped.
+// Written by hand, so that crates above call it and need not prove again how each part is dropped.
 impl<N: Based, D: Disk + Drop> Drop for Book<N, D> {
     fn drop(self) {
         let Book { recorded, since } = self;
@@ -74,17 +74,18 @@ impl<N: Based, D: Disk> Model for Book<N, D> {
 impl<N: Based, D: Disk> Book<N, D> {
     /// Opens the library on a disk, and begins a history over it: the map that was found is the base.
     ///
-    /// Refusals, with the disk handed back: those of the library's opening, in its order, 35 where the device failed in the call, 38
-    /// where there is no right header, 37 where an open record does not fit its area or the records are no list of accepted commands.
-    /// 40 where memory ran out. No refusal changes a byte.
+    /// Refusals, with the disk handed back: those of the library's opening, in its order: 35 if the device failed in the call, 38 if there
+    /// is no valid header, 37 if an open record does not fit its area or the records are not a list of accepted commands. 40 if memory ran
+    /// out. No refusal changes a byte.
     pub fn open(
         alloc: Global,
         disk: D,
         calls: ledger::Book<N>,
     ) -> Result<Book<N, D>, (LibraryFault, D)>
-        // The base that the service's parameter names, where an honest disk's bytes recover to one.
+        // The base that the service's parameter names, if an honest disk's bytes recover to one.
         requires named { IsTrue D.honest → (units : Units) → Recovers (D.seen disk) units → units ≡ N.base }
-        // The moment that it names, and what a crash has left since then; and how many calls had failed, or fewer.
+        // The moment that it names, and what a crash has left since then; and a number of failed device calls, no larger than how many had
+        // failed.
         requires past { IsTrue D.honest → IsPast D.Disk N.from N.left disk }
         requires failures { N.failures ≤ D.failures disk }
         requires counted { calls.total ≡ 0 }
@@ -119,16 +120,15 @@ impl<N: Based, D: Disk> Book<N, D> {
         }
     }
 
-    /// Begins a history over a library as its opening left it, which is not read again: its map is the base.
-    ///
-    /// The library is handed back where memory ran out.
+    /// Begins a history over a library as its opening left it. The library is not read again: its map is the base. The library is handed
+    /// back if memory ran out.
     pub fn over(
         alloc: Global,
         library: Library<D>,
         calls: ledger::Book<N>,
     ) -> Result<Book<N, D>, Library<D>>
         requires opened { IsOpened D.Disk library }
-        // The base, the moment and the failures that the service's parameter names.
+        // The base, the moment and the number of failures that the service's parameter names.
         requires named { IsTrue D.honest → library.units ≡ N.base }
         requires past { IsTrue D.honest → IsPast D.Disk N.from N.left library.disk }
         requires failures { N.failures ≤ D.failures library.disk }
@@ -168,13 +168,12 @@ impl<N: Based, D: Disk> Book<N, D> {
         Book { recorded, since }
     }
 
-    /// Makes a change, and puts the call into the history with its answer. At Ok it is kept: every crash from then on leaves it.
+    /// Makes a change, and puts the call into the history with its answer. After Ok it is kept: every crash leaves it.
     ///
-    /// Refusals, in this order: 36 where the device has failed before; 39 where the client's last receipt does not stand; 31
-    /// where the name to be added has a unit, 32 where the one to be replaced or withdrawn has none, both of them in the history
-    /// with a receipt; 34 where the record does not fit; 35 where the device failed. 40 where memory ran out, before the first
-    /// device call. After 34, 36, 39 and 40 all is as before; after 35 history and map are, and the disk has the map with or
-    /// without the change.
+    /// Refusals, in this order: 36 if the device has failed before; 39 if the client's last receipt does not match the history; 31 if the
+    /// name to be added has a unit, 32 if the one to be replaced or withdrawn has none, both of them in the history with a receipt; 34 if
+    /// the record does not fit; 35 if the device failed. 40 if memory ran out, before the first device call. After 34, 36, 39 and 40
+    /// everything is as before; after 35 history and map are, and the disk has the map with or without the change.
     pub fn commit(
         &mut self,
         alloc: Global,
@@ -194,12 +193,12 @@ impl<N: Based, D: Disk> Book<N, D> {
         result
     }
 
-    /// Makes a change as `commit` does; but where 34 would refuse it, and would not behind a `compact`, that comes first. It makes no
-    /// entry in the history, and the map stays.
+    /// Makes a change as `commit` does. But if 34 would refuse it now and would not after a `compact`, it compacts first. That makes no
+    /// entry in the history, and the map stays the same.
     ///
-    /// Refusals as `commit` has them. 34 comes where the record does not fit behind compacted records either, without a call of the
-    /// device; and where `compact` was refused: then nothing of the change was begun, and every crash leaves the map as it was, though
-    /// the library is closed where the device failed, and answers 36 from then on.
+    /// Refusals as those of `commit`. 34 comes if the record does not fit after compacted records either, without a device call. It also
+    /// comes if `compact` was refused: the change was then not begun, and every crash leaves the map as it was; but if the device failed,
+    /// the library is closed, and answers 36 from then on.
     pub fn commit_compacting(
         &mut self,
         alloc: Global,
@@ -211,7 +210,7 @@ impl<N: Based, D: Disk> Book<N, D> {
         ensures since { (self.new ≡ self.old) ⊎ ((between : List (BookView D)) × (self.new.since ≡ self.old.since ++ (between ++ self.new.book ∷ []))) }
 
         ensures moments { ChangesAtOnce D.Disk command self.old.book self.new.book }
-        // From then on, too: at Ok the map after it, alone.
+        // The same holds afterwards: after Ok every crash leaves the map with the change, and no other.
         ensures kept { AllRecover D.Disk self.new.book }
     {
         self.kept();
@@ -226,7 +225,7 @@ impl<N: Based, D: Disk> Book<N, D> {
         }
     }
 
-    // Whether 34 would refuse a change of this client now, and would not behind a `compact`.
+    // Whether 34 would refuse a change of this client now, but not after a `compact`.
     fn is_mended_by_compact(&self, client: &Member<N>, command: &Command) -> Result<bool, BookFault>
         ensures mended { IfOk result (λ mended. IsTrue mended → IsMended self.now.book.library (change_of command.now)) }
         ensures stands { IfOk result (λ mended. IsTrue mended → LastStands self.now.book.history client.now.receipts) }
@@ -237,18 +236,18 @@ impl<N: Based, D: Disk> Book<N, D> {
         self.recorded.is_mended_by_compact(client, command)
     }
 
-    // What its type keeps of what a crash leaves now. It does nothing.
-    fn kept(&self)
+    /// What its type keeps of what a crash leaves now. It does nothing.
+    pub fn kept(&self)
         ensures images { AllRecover D.Disk self.now.book }
         ensures idle { self.now.book.library.closed ≡ false → self.now.book.failed ≡ [] }
     {
         self.recorded.kept();
     }
 
-    /// Looks at a name or at all names, and puts the call into the history with its answer, which is in the receipt's entry.
+    /// Looks up a name or all names, and puts the call into the history with its answer, which is in the receipt's entry.
     ///
-    /// 39 where the client's last receipt does not stand; 40 where memory ran out. After both all is as before. Whether the
-    /// device has failed does not matter.
+    /// 39 if the client's last receipt does not match the history; 40 if memory ran out. After both everything is as before. It does not
+    /// matter whether the device has failed.
     pub fn look(
         &mut self,
         alloc: Global,
@@ -266,10 +265,10 @@ impl<N: Based, D: Disk> Book<N, D> {
         result
     }
 
-    /// Writes the library's records anew, one Add per name. It makes no entry in the history, and the map stays, at every moment.
+    /// Writes the library's records again, one Add per name. It makes no entry in the history, and the map stays the same at every moment.
     ///
-    /// Refusals, in this order: 36 where the device has failed before, 34 where the new records do not fit, 35 where the device
-    /// failed. 40 where memory ran out, before the first device call. After 34, 36 and 40 all is as before.
+    /// Refusals, in this order: 36 if the device has failed before, 34 if the new records do not fit, 35 if the device failed. 40 if memory
+    /// ran out, before the first device call. After 34, 36 and 40 everything is as before.
     pub fn compact(&mut self, alloc: Global) -> Result<(), BookFault>
         ensures compacted { IsBookCompacted D.Disk self.old.book self.new.book result }
         ensures since { self.new.since ≡ self.old.since ++ self.new.book ∷ [] }
@@ -282,6 +281,19 @@ impl<N: Based, D: Disk> Book<N, D> {
         result
     }
 
+    /// How much of its area the library takes. It makes no entry in the history, takes no memory and makes no device call; it looks at
+    /// each unit.
+    ///
+    /// 36 if the device has failed before: then the disk may have other records.
+    pub fn space(&self) -> Result<SpaceUse, BookFault>
+        ensures answers { SpaceAnswers self.now.book result }
+        // Every crash leaves these records alone.
+        ensures kept { IfOk result (λ _. IsTrue D.honest
+            → AllHold (D.may_leave self.now.book.library.disk) self.now.book.library.area self.now.book.library.bodies) }
+    {
+        self.recorded.space()
+    }
+
     /// Whether the device has failed before: then every change and `compact` answer 36. It takes no memory.
     pub fn is_closed(&self) -> bool
         ensures { result ≡ self.now.book.library.closed }
@@ -289,7 +301,7 @@ impl<N: Based, D: Disk> Book<N, D> {
         self.recorded.library.is_closed()
     }
 
-    /// The disk, which no call reaches any more.
+    /// The disk; no call reaches it any more.
     pub fn into_disk(self) -> D
         ensures { result ≡ self.book.library.disk }
     {
@@ -298,10 +310,10 @@ impl<N: Based, D: Disk> Book<N, D> {
         recorded.into_disk()
     }
 
-    /// That it can be ended with these clients, as many as were made.
+    /// Whether the book can be ended with these clients, as many as were made.
     ///
-    /// 39 for the first receipt that does not stand; 39 with the history's length and no entry where these are not all the clients that
-    /// were made; 40 where memory ran out.
+    /// 39 for the first receipt that does not match the history; 39 with the history's length and no entry if these are not all the clients
+    /// that were made; 40 if memory ran out.
     pub fn ready<C: HasReceipts>(&self, made: u64, clients: &[C]) -> Result<(), BookFault>
         ensures many { OnOk result (length clients.now ≡ made) }
         ensures apart { OnOk result (AreApart (map C.member clients.now)) }
@@ -311,13 +323,13 @@ impl<N: Based, D: Disk> Book<N, D> {
         self.recorded.ready(made, clients)
     }
 
-    /// Ends it, with a share that is the whole ledger: what that share counts is then all of the history.
+    /// Ends the book, with a share that is the whole ledger: this share counts as many calls as the history has.
     pub fn end(self, whole: Share<N>) -> Ended<D>
         requires parts { whole.parts ≡ N.parts }
         ensures sound { IsSound D.Disk N.base N.from N.left (record { base = result.base; library = result.library; history = result.history.items; failed = result.failed.items }) }
         ensures blamed { FailedByDevice D.Disk N.failures (record { base = result.base; library = result.library; history = result.history.items; failed = result.failed.items }) }
         ensures counted { length result.history.items ≡ whole.amount }
-        // It is the book's library, with what was known of it.
+        // It is the book's library, with what was known about it.
         ensures of_book { ◌≡◌ {A = BookView D} (record { base = result.base; library = result.library; history = result.history.items; failed = result.failed.items }) self.book }
     {
         self.survives();
@@ -326,13 +338,13 @@ impl<N: Based, D: Disk> Book<N, D> {
         recorded.end(whole)
     }
 
-    /// The disk, and whether these are all clients of its history. It takes no memory.
+    /// The disk, and whether these are all clients of the history. It takes no memory.
     pub fn give_up<C: HasReceipts>(self, clients: &[C]) -> (D, bool)
         ensures disk { result.0 ≡ self.book.library.disk }
         ensures sound { IsSound D.Disk N.base N.from N.left self.book }
         ensures blamed { FailedByDevice D.Disk N.failures self.book }
         ensures own { AreOwn (map C.member clients.now) }
-        // If so, every receipt of theirs stands in its history, and every entry has one; if not, why.
+        // If so, every receipt of theirs is in the history, and every entry has a receipt; if not, the reason.
         ensures closed { IsTrue result.1 → IsClosed self.book.history (map C.member clients.now) }
         ensures why { result.1 ≡ false → IsNotWhole self.book.history (map C.member clients.now) }
     {
@@ -341,23 +353,23 @@ impl<N: Based, D: Disk> Book<N, D> {
         (self.into_disk(), are_all)
     }
 
-    /// What is known of a book at any time, whatever order the calls of all threads took the lock in: a law, which does nothing.
+    /// What is known about a book at any time, in whatever order the calls of all threads took the lock: a law, which does nothing.
     pub fn survives(&self)
         // Some run of the core leads from an opened disk to a state that the book shows.
         ensures reached { IsTrue D.honest → IsTied compiling Keeps D.Disk self.now.book }
 
-        // The history is legal, the map is the base with its changes; what a crash leaves now holds each acknowledged command, what it has
-        // left since the opening a prefix of the calls, and the units in it are right.
+        // The history is legal, and the map is the base with its changes. What a crash leaves now has each acknowledged command, what it
+        // has left since the opening has a prefix of the calls, and the units in both are right.
         ensures sound { IsSound D.Disk N.base N.from N.left self.now.book }
 
         // Each change that failed did so in a call of the device that failed since the opening.
         ensures blamed { FailedByDevice D.Disk N.failures self.now.book }
 
-        // Whatever a crash has left since the end of the opening, or since any call, holds all calls until then.
+        // Whatever a crash has left since the end of the opening, or since any call, has all calls up to then.
         ensures since { IsTrue D.honest → (k : ℕ) (then' : BookView D) → slice_get self.now.since k ≡ Some then' → (image : List ℕ)
             → D.left_since self.now.book.library.disk (D.moment then'.library.disk) image → HoldsFrom self.now.book (length then'.history) image }
 
-        // Each unit of what is recovered so is one that was found at the opening, or its image agrees with its source.
+        // Each unit that is recovered from it was found at the opening, or its image agrees with its source.
         ensures units { (entries : ℕ) (image : List ℕ) (library : Units) → HoldsFrom self.now.book entries image → Recovers image library
             → EachUnit (IsRightOr is_right self.now.book.base) library }
     {

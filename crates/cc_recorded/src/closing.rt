@@ -12,7 +12,7 @@ use crate::recorded::RecordedLibrary;
 use cc_disk::Disk;
 use cc_history::{SharedEntry, all_stand, receipts_count_up};
 
-// Whether no two clients have one number.
+// Whether all clients have different numbers.
 fn are_apart<C: HasReceipts>(clients: &[C]) -> bool
     ensures { IsTrue result ↔ HaveOwnNumbers C.member clients.now }
 {
@@ -26,7 +26,7 @@ fn are_apart<C: HasReceipts>(clients: &[C]) -> bool
     true
 }
 
-// That all receipts of all these clients stand.
+// Ok if all receipts of all these clients match the history; else as `all_stand` refuses.
 fn stand_in<C: HasReceipts>(history: &[SharedEntry], clients: &[C]) -> Result<(), BookFault>
     ensures stand { OnOk result (ReceiptsStand history.now (map C.member clients.now)) }
     ensures err { IfErr result (λ f. (made : ℕ) → IsNotClosed history.now made (map C.member clients.now) f) }
@@ -41,7 +41,7 @@ fn stand_in<C: HasReceipts>(history: &[SharedEntry], clients: &[C]) -> Result<()
     Ok(())
 }
 
-// How many receipts all these clients have.
+// The number of receipts of all these clients.
 fn count_receipts<C: HasReceipts>(clients: &[C]) -> u128
     ensures count { result ≡ receipts_of (map C.member clients.now) }
     // The receipts of each are of its own calls.
@@ -55,7 +55,7 @@ fn count_receipts<C: HasReceipts>(clients: &[C]) -> u128
 }
 
 impl<N: Based, D: Disk> RecordedLibrary<N, D> {
-    // That all receipts of all these clients stand.
+    // Ok if all receipts of all these clients match the history; else as `all_stand` refuses.
     fn stands<C: HasReceipts>(&self, clients: &[C]) -> Result<(), BookFault>
         ensures stand { OnOk result (ReceiptsStand self.now.history (map C.member clients.now)) }
         ensures err { IfErr result (λ f. (made : ℕ) → IsNotClosed self.now.history made (map C.member clients.now) f) }
@@ -64,14 +64,14 @@ impl<N: Based, D: Disk> RecordedLibrary<N, D> {
         stand_in(self.history.as_slice(), clients)
     }
 
-    // How many entries its history has.
+    // The number of entries in its history.
     fn entries(&self) -> u64
         ensures { result ≡ length self.now.history }
     {
         self.history.len() as u64
     }
 
-    // That it can be ended with these clients, as many as were made: these are all, and their receipts stand.
+    // Ok if it can be ended with these clients, as many as were made: these are all clients, and their receipts match.
     pub(crate) fn ready<C: HasReceipts>(&self, made: u64, clients: &[C]) -> Result<(), BookFault>
         ensures many { OnOk result (length clients.now ≡ made) }
         ensures apart { OnOk result (AreApart (map C.member clients.now)) }
@@ -91,8 +91,8 @@ impl<N: Based, D: Disk> RecordedLibrary<N, D> {
         Ok(())
     }
 
-    // Whether these are all clients of its history: all their receipts stand, no two have one number, and the receipts are as many as the
-    // entries.
+    // Whether these are all clients of its history: all their receipts match, no two have the same number, and there are as many receipts
+    // as entries.
     pub(crate) fn is_whole<C: HasReceipts>(&self, clients: &[C]) -> bool
         ensures own { AreOwn (map C.member clients.now) }
         ensures closed { IsTrue result → IsClosed self.now.history (map C.member clients.now) }

@@ -1,6 +1,6 @@
-// An entry is put into the history and its receipt into its client, after the room for both has been taken.
+// Puts an entry into the history and its receipt to its client, after the memory for both has been taken.
 
-ghost use Rattle.std.specs.Prelude.{◌≡◌, ◌+◌, ◌<◌, ◌++◌, [], ◌∷◌, length, vec_len, OnOk, OnErr, IfOk};
+ghost use Rattle.std.specs.Prelude.{◌≡◌, ◌+◌, ◌<◌, ◌++◌, [], ◌∷◌, length, vec_len, OnOk, IfOk};
 ghost use Rattle.std.specs.Vec.{vec_capacity};
 
 use crate::named::Based;
@@ -8,7 +8,7 @@ use cc_history::{Entry, Receipt, SharedEntry};
 use std::alloc::{AllocError, Global};
 use std::sync::ledger;
 
-// The three owners of an entry: the history, its client, and who called.
+// The three owners of an entry: the history, its client, and the caller.
 #[derive(Drop)]
 pub(crate) struct Owners {
     pub(crate) history: SharedEntry,
@@ -16,7 +16,7 @@ pub(crate) struct Owners {
     pub(crate) caller: SharedEntry,
 }
 
-// Takes the room for an entry and its receipt.
+// Takes the memory for an entry and its receipt.
 pub(crate) fn prepare(
     alloc: Global,
     history: &mut Vec<SharedEntry>,

@@ -1,4 +1,4 @@
-// Who calls, as the book knows it.
+// The caller, as the book knows it.
 
 ghost use Rattle.std.specs.Prelude.{◌≡◌, ◌+◌, [], length};
 ghost use Rattle.cc_history.specs.History.{IsOwn};
@@ -9,7 +9,7 @@ use std::alloc::Global;
 use std::marker::Model;
 use std::sync::ledger::Share;
 
-/// Whoever has a number, and the receipts of its calls: a member, or what holds one.
+/// Anything that has a number and the receipts of its calls: a member, or what holds one.
 pub trait HasReceipts {
     ghost use Rattle.cc_history.specs.History.{MemberView};
 
@@ -26,15 +26,15 @@ pub trait HasReceipts {
         ensures own { IsOwn (member self.now) };
 }
 
-/// What the book knows of a client: its number, the receipts of its calls, and its share of the ledger, which counts them. A clause
-/// sees its number and its receipts.
+/// What the book knows about a client: its number, the receipts of its calls, and its share of the ledger, which counts them. Contracts see
+/// its number and its receipts.
 pub struct Member<N: Based> {
     pub(crate) number: u64,
     pub(crate) receipts: Vec<Receipt>,
     pub(crate) share: Share<N>,
 }
 
-// By hand, so that crates above call it and do not prove anew how each part is dropped.
+// Written by hand, so that crates above call it and need not prove again how each part is dropped.
 impl<N: Based> Drop for Member<N> {
     fn drop(self) {
         let Member {
@@ -70,7 +70,7 @@ impl<N: Based> Member<N> {
         }
     }
 
-    /// Puts its share to the rest of the ledger, and hands out its receipts.
+    /// Adds its share to the rest of the ledger, and hands out its receipts.
     pub fn leave(self, rest: &mut Share<N>) -> Vec<Receipt>
         ensures receipts { result.items ≡ self.receipts }
         ensures parts { rest.new.parts ≡ rest.old.parts + 1 }

@@ -3,7 +3,7 @@
 use std::marker::Brand;
 use std::sync::ledger::Ledger;
 
-/// The ledger of a book, the library that it began with, and what a crash had left before. Whoever opens a book picks them.
+/// The ledger of a book, the map with which it began, and what a crash had left before. Whoever opens a book chooses them.
 pub trait Based: Ledger {
     ghost use Rattle.std.specs.Prelude.{ℕ, List};
     ghost use Rattle.cc_library.specs.Apply.{Units};
@@ -11,10 +11,11 @@ pub trait Based: Ledger {
     /// The map that an honest disk's library had when the book was opened.
     ghost base: { Units };
 
-    /// How many calls of the device had failed at the opening, or fewer: each change that failed did so in one that failed later.
+    /// A number no larger than that of the device calls that had failed at the opening: each change that failed did so in a call that
+    /// failed later.
     ghost failures: { ℕ };
 
-    /// A moment of that disk, no later than the opening: the book tells what a crash has left since then.
+    /// A moment of that disk, no later than the opening: the book says what a crash has left since then.
     ghost from: { ℕ };
 
     /// What a crash from that moment until the opening may have left.

@@ -1,13 +1,14 @@
 // The library with the history of its calls.
 
 ghost use Rattle.std.specs.Prelude.{◌≡◌, ◌≤◌, ℕ, List, [], false, IsTrue, IfErr, IfOk, length};
+ghost use Rattle.cc_journal.specs.Format.{AllHold};
 ghost use Rattle.cc_library.specs.Answers.{IsMended};
 ghost use Rattle.cc_library.specs.Apply.{apply};
 ghost use Rattle.cc_library.specs.Recovered.{RecoversAlone};
 ghost use Rattle.cc_history.specs.Calls.{change_of, reply_of, reply_of_change};
 ghost use Rattle.cc_history.specs.History.{HaveAgreed, LastStands, Replays};
 ghost use Rattle.cc_recorded.specs.Book.{AllAgreed, BookView, chronicle_of};
-ghost use Rattle.cc_recorded.specs.Answers.{IsLook, LookAnswers};
+ghost use Rattle.cc_recorded.specs.Answers.{IsLook, LookAnswers, SpaceAnswers};
 ghost use Rattle.cc_recorded.specs.Changed.{AllRecover, IsBookChanged, IsBookCompacted};
 ghost use Rattle.cc_recorded.specs.internal.Decide.{answer_reply};
 ghost use Rattle.cc_recorded.specs.internal.Early.{IsRefusedEarly};
@@ -20,21 +21,21 @@ use cc_disk::{Disk, History};
 use cc_history::{
     Asked, Command, Entry, NameList, Receipt, Reply, SharedEntry, calls_are_recorded, last_stands,
 };
-use cc_library::{Library, LibraryCommand, LibraryFault, SharedUnit, UnitMap};
+use cc_library::{Library, LibraryCommand, LibraryFault, SharedUnit, SpaceUse, UnitMap};
 use std::alloc::{AllocError, Global};
 use std::marker::Model;
 use std::sync::Arc;
 use std::sync::ledger::{self, Share};
 
-/// What lies under a service's lock: the library, and the history of the calls. A clause sees the map that the service began
-/// with, the library, the history, and the change in whose call the device failed, where one did.
+/// What a service's lock protects: the library, and the history of the calls. Contracts see the map with which the service began, the
+/// library, the history, and the change in whose call the device failed, if there was one.
 #[derive(Drop)]
 pub struct RecordedLibrary<N: Based, D: Disk> {
     pub(crate) base: UnitMap,
     pub(crate) library: Library<D>,
     pub(crate) history: Vec<SharedEntry>,
     pub(crate) calls: ledger::Book<N>,
-    // For contracts alone.
+    // For contracts only.
     pub(crate) failed: History<LibraryCommand>,
 }
 
@@ -54,18 +55,18 @@ impl<N: Based, D: Disk> Model for RecordedLibrary<N, D> {
     ghost invariant = { λ b. IsRecordedLibrary D.Disk N.base b.calls.total (record { base = b.base; library = b.library; history = b.history.items; failed = b.failed.items }) };
 }
 
-/// What is left of a library with its history: the map that it began with, the library, and the history.
+/// What is left of a library with its history: the map with which it began, the library, and the history.
 #[derive(Drop)]
 pub struct Ended<D: Disk> {
     pub base: UnitMap,
     pub library: Library<D>,
     pub history: Vec<SharedEntry>,
-    /// The change in whose call the device failed, where one did. For contracts alone.
+    /// The change in whose call the device failed, if there was one. For contracts only.
     pub failed: History<LibraryCommand>,
 }
 
 impl<N: Based, D: Disk> RecordedLibrary<N, D> {
-    /// The book of a service that begins: over a library that was opened, whose map is the base.
+    /// The book of a service that begins, over a library that was opened and whose map is the base.
     pub(crate) fn new(
         alloc: Global,
         base: UnitMap,
@@ -95,7 +96,7 @@ impl<N: Based, D: Disk> RecordedLibrary<N, D> {
         library.into_disk()
     }
 
-    /// What its type keeps. It does nothing.
+    /// States what its type keeps, for proofs; it does nothing.
     pub(crate) fn kept(&self)
         ensures base { IsTrue D.honest → self.now.base ≡ N.base }
         ensures replays { Replays (chronicle_of self.now) }
@@ -108,13 +109,7 @@ impl<N: Based, D: Disk> RecordedLibrary<N, D> {
         let _ = &self.base;
     }
 
-    /// Makes a change, and puts the call into the history with its answer. At Ok it is kept: every crash from then on leaves it.
-    ///
-    /// Refusals, in this order: 36 where the device has failed before; 39 where the client's last receipt does not stand; 31
-    /// where the name to be added has a unit, 32 where the one to be replaced or withdrawn has none, both of them in the history
-    /// with a receipt; 34 where the record does not fit; 35 where the device failed. 40 where memory ran out, before the first
-    /// device call. After 34, 36, 39 and 40 all is as before; after 35 history and map are, and the disk has the map with or
-    /// without the change.
+    /// Makes a change, and puts the call into the history with its answer: `Book::commit` has the refusals and what each leaves.
     pub fn commit(
         &mut self,
         alloc: Global,
@@ -178,9 +173,9 @@ impl<N: Based, D: Disk> RecordedLibrary<N, D> {
         }
     }
 
-    /// Whether 34 would refuse the change now, and would not behind a compaction.
+    /// Whether 34 would refuse the change now, but not after a compaction.
     ///
-    /// 39 where the client's last receipt does not stand; 40 where memory ran out.
+    /// 39 if the client's last receipt does not match the history; 40 if memory ran out.
     pub(crate) fn is_mended_by_compact(
         &self,
         client: &Member<N>,
@@ -198,7 +193,7 @@ impl<N: Based, D: Disk> RecordedLibrary<N, D> {
         let Ok(change) = command.change() else {
             return Err(BookFault::OutOfMemory);
         };
-        // The library is asked first: receipts are compared by their units.
+        // The library is asked first, since comparing receipts compares whole units.
         if !self.library.is_mended_by_compact(&change) {
             return Ok(false);
         }
@@ -208,10 +203,7 @@ impl<N: Based, D: Disk> RecordedLibrary<N, D> {
         }
     }
 
-    /// Looks at a name or at all names, and puts the call into the history with its answer, which is in the receipt's entry.
-    ///
-    /// 39 where the client's last receipt does not stand; 40 where memory ran out. After both all is as before. Whether the
-    /// device has failed does not matter.
+    /// Looks up a name or all names, and puts the call into the history with its answer: `Book::look` has the refusals.
     pub fn look(
         &mut self,
         alloc: Global,
@@ -252,6 +244,17 @@ impl<N: Based, D: Disk> RecordedLibrary<N, D> {
         Ok(enter(history, calls, receipts, share, owners))
     }
 
+    /// How much of its area the library takes; 36 if the device has failed before.
+    pub(crate) fn space(&self) -> Result<SpaceUse, BookFault>
+        ensures answers { SpaceAnswers self.now result }
+        ensures kept { IfOk result (λ _. IsTrue D.honest → AllHold (D.may_leave self.now.library.disk) self.now.library.area self.now.library.bodies) }
+    {
+        if self.library.is_closed() {
+            return Err(BookFault::Closed);
+        }
+        Ok(self.library.space())
+    }
+
     /// Writes the library's records anew, one Add per name. It makes no entry in the history, and the map stays, at every moment.
     ///
     /// Refusals, in this order: 36 where the device has failed before, 34 where the new records do not fit, 35 where the device
@@ -269,11 +272,11 @@ impl<N: Based, D: Disk> RecordedLibrary<N, D> {
         Ok(())
     }
 
-    /// Ends it, with a share that is the whole ledger: what that share counts is then all of the history.
+    /// Ends it, with a share that is the whole ledger: this share counts as many calls as the history has.
     pub(crate) fn end(self, mut whole: Share<N>) -> Ended<D>
         requires parts { whole.parts ≡ N.parts }
         ensures counted { length result.history.items ≡ whole.amount }
-        // It is the book's library, with what was known of it.
+        // It is the book's library, with what was known about it.
         ensures of_book { ◌≡◌ {A = BookView D} (record { base = result.base; library = result.library; history = result.history.items; failed = result.failed.items }) self }
     {
         let RecordedLibrary {
@@ -293,13 +296,13 @@ impl<N: Based, D: Disk> RecordedLibrary<N, D> {
     }
 }
 
-// The reply to a look.
+// The reply to a look-up.
 fn looked<D: Disk>(alloc: Global, library: &Library<D>, asked: &Asked) -> Result<Reply, AllocError>
     requires { IsLook asked.now }
     ensures { IfOk result (λ reply. reply ≡ reply_of library.now.units asked.now) }
 {
     match asked {
-        // It is none.
+        // Unreachable: a change is not a look-up.
         Asked::Change(_) => Err(AllocError),
         Asked::Fetch(name) => match library.get(name) {
             Some(unit) => Ok(Reply::Unit(SharedUnit::new(Arc::try_clone(unit)?))),

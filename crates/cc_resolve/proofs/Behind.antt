@@ -1,4 +1,4 @@
--- Objects, parameters and external declarations, one after the other: what is done and what is left make the whole.
+-- Objects, parameters and external declarations, one after another: what is done and what is left make the whole.
 use Rattle.std.proofs.Common.{◌≡◌, ℕ, suc, ◌+◌, ◌-◌, ◌<◌, ◌≤◌, List, [], ◌∷◌, ◌++◌, length, map, replicate, Some, None, refl, sym, ap, ◌∙◌, append_assoc, arith}
 use Rattle.cc_ast.specs.scalar.Scalar.{Scalar}
 use Rattle.cc_ast.specs.Tree.{Name, Parameter, Object, External, Declaration, Definition, Objects}
@@ -22,7 +22,7 @@ one-more done done' x rest whole e is = ap (λ l. l ++ rest) is ∙ append_assoc
 pub some-more : {A : Type 0} (done done' xs rest whole : List A) → done ++ (xs ++ rest) ≡ whole → done' ≡ done ++ xs → done' ++ rest ≡ whole
 some-more done done' xs rest whole e is = ap (λ l. l ++ rest) is ∙ append_assoc done xs rest ∙ e
 
--- one more of some numbers that are the same
+-- one more of several equal numbers
 pub one-more-zero : (done done' whole : List ℕ) (n k : ℕ) → k < n → done ++ replicate (n - k) 0 ≡ whole → done' ≡ done ++ 0 ∷ [] → done' ++ replicate (n - (k + 1)) 0 ≡ whole
 one-more-zero done done' whole n k h e is =
     let left : n - k ≡ suc (n - (k + 1)) = omega arith in
@@ -108,7 +108,7 @@ Finding-next all p w at e rest p' w' at' before ep ew ea h =
 
 -- ---- the names of objects
 
--- after some names of a declaration of objects
+-- after some names in a declaration of objects
 pub record Naming (t : Scalar) (v0 : Environment) (all : List Object) (v : Environment) (rest : List Object) : Type 0 where
   pub inner : v.visible.inner ≡ []
   pub names : record v { visible = file_level (with_objects t rest (file_of v.visible)).bindings } ≡ record v0 { visible = file_level (with_objects t all (file_of v0.visible)).bindings }
@@ -123,7 +123,7 @@ Naming-next t v0 all v o rest v' before e = record {
       ∙ before.names;
 }
 
--- an environment in file scope
+-- an environment in which only file scope is open
 pub in-file : (v : Environment) → v.visible.inner ≡ [] → v ≡ record v { visible = file_level v.visible.outer }
 in-file v e i = record { visible = record { inner = e i; outer = v.visible.outer }; locals = v.locals; layout = v.layout }
 

@@ -1,4 +1,4 @@
--- The functions that a unit defines, one by one, until the one of a number.
+-- The functions that a unit defines, one by one, up to the one with a given number.
 use Rattle.std.proofs.Common.{◌≡◌, ℕ, suc, ◌<◌, List, [], ◌∷◌, length, Some, slice_get, Result, Ok, Err, OnOk, refl, sym, ap, ◌∙◌, subst, arith}
 use Rattle.cc_ast.specs.scalar.Scalar.{Scalar}
 use Rattle.cc_ast.specs.Erase.{external_trees}
@@ -11,7 +11,7 @@ use Rattle.cc_types.proofs.FileScopes.{with_objects-same}
 use Rattle.cc_resolve.specs.Layout.{Layout, layout_of}
 use Rattle.cc_resolve.specs.Environment.{Environment, environment_of, environments_from, environments}
 
--- what is declared in file scope after an external declaration depends on what was declared there before it
+-- what file scope has declared after an external declaration depends only on what it had declared before it
 pub behind-bindings : (e : External) (g h : FileScope) → g.bindings ≡ h.bindings → (file_scope_behind e g).bindings ≡ (file_scope_behind e h).bindings
 behind-bindings (Declaration s) g h same = ap (λ bs. (with_function s (record { bindings = bs; defined = [] })).bindings) same
 behind-bindings (Definition s body) g h same = ap (λ bs. (with_function s (record { bindings = bs; defined = [] })).bindings) same
@@ -31,7 +31,7 @@ length-environments p (Declaration s ∷ es) f = length-environments p es (file_
 length-environments p (Definition s body ∷ es) f = ap suc (length-environments p es (file_scope_behind (Definition s body) f))
 length-environments p (Objects t os ∷ es) f = length-environments p es (file_scope_behind (Objects t os) f)
 
--- after some external declarations of a unit, with this many functions left before the one of the number
+-- after some external declarations of a unit, with this many functions still to come before the one with the number
 pub record Entering (all : List External) (function : ℕ) (v : Environment) (left : ℕ) (rest : List External) : Type 0 where
   pub inner : v.visible.inner ≡ []
   pub locals : v.locals ≡ []
@@ -87,13 +87,13 @@ Entering-definition all function v left left' s body rest v' before next ev = re
   bound = omega (arith, before.bound, next);
 }
 
--- at the function of the number
+-- at the function with the number
 pub Entering-found : (all : List External) (function : ℕ) (v : Environment) (s : Signature) (body : Stmts) (rest : List External) (v' : Environment)
     → Entering all function v 0 (Definition s body ∷ rest) → v' ≡ environment_of v.layout s (file_of v.visible) → slice_get (environments all) function ≡ Some v'
 Entering-found all function v s body rest v' before ev =
     sym before.found ∙ ap Some (sym (ev ∙ ap (λ p. environment_of p s (file_of v.visible)) before.layout))
 
--- ---- as the code has it
+-- ---- the same in terms of the code
 
 pub Entering-at : (all : List External) (function : ℕ) (v : Environment) (left : ℕ) (x y : declared.External) (rest : List declared.External)
     → x ≡ y → Entering all function v left (external_trees (x ∷ rest)) → Entering all function v left (external_trees (y ∷ rest))

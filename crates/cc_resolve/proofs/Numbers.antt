@@ -1,4 +1,4 @@
--- Where names lead: the number of a name's first place in a list, and of the newest local of a name.
+-- What names refer to: the number of a name's first place in a list, and of the newest local of a name.
 use Rattle.std.proofs.Common.{◌≡◌, ℕ, suc, ◌+◌, ◌<◌, Bool, true, false, cond, List, [], ◌∷◌, ◌++◌, length, Option, Some, None, is_some, option_map, Result, Ok, Err, OnOk, is_err, refl, sym, ap, ◌∙◌, Bor, get_or, nat_eq, arith}
 use Rattle.std.proofs.lemmas.List.{map-append}
 use Rattle.std.specs.Cmp.Lexicographic.{bytes_decides}
@@ -14,9 +14,9 @@ use Rattle.cc_resolve.specs.Layout.{LaidObject, extent_of, object_number, names_
 use Rattle.cc_resolve.specs.Environment.{number_in}
 use Rattle.cc_resolve.specs.declared.layout.Extent.{Extent}
 
--- ---- one name more
+-- ---- one more name
 
--- the number of a name, where there is one, else that of the last name, where it is that
+-- the number of a name if it has one, else the last number if the name is the last one
 abbrev pub or_last : Option ℕ → ℕ → Bool → Option ℕ
 or_last None n b = cond b (Some n) None
 or_last (Some i) n b = Some i
@@ -48,7 +48,7 @@ pushed names y x =
     ap (λ l. first_of l x) (map-append (λ (k : Bor (List ℕ)). k.now) names (y ∷ [])) ∙ first_of-push (names_in names) y.now x
     ∙ ap (λ n. or_last (first_of (names_in names) x) n (same_name y.now x)) (length-names_in names)
 
--- with one name more that has a number, the table is as it was
+-- the table stays right when one more name gets a number
 pub ArePlaces-numbered : (list : List (Bor (List ℕ))) (old new : List (List ℕ × ℕ)) (x : List ℕ) (n : ℕ) (table : ℕ → Option ℕ) → ArePlaces list old table → IsNumbered old new x n → ArePlaces list new table
 ArePlaces-numbered list old new x n table before is = record {
   numbers = is.numbers;
@@ -57,7 +57,7 @@ ArePlaces-numbered list old new x n table before is = record {
 }
 
 module _ (list : List (Bor (List ℕ))) (y : Bor (List ℕ)) (names : List (List ℕ × ℕ)) (n : ℕ) (own : number_of_name names y.now ≡ Some n) where
-  -- the table has at the name's number where it stands first
+  -- the table has the name's first place at the name's number
   place-is : (table : ℕ → Option ℕ) → ArePlaces list names table → table n ≡ first_of (names_in list) y.now
   place-is table before = sym (ap (at_number table) own) ∙ before.found y.now
 
@@ -92,7 +92,7 @@ module _ (list : List (Bor (List ℕ))) (y : Bor (List ℕ)) (names : List (List
 
 -- ---- functions
 
--- the number of a function, and how many there are where the name is of none
+-- the number of a function, or how many functions there are if none has the name
 abbrev pub or_length : Option ℕ → ℕ → ℕ
 or_length None n = n
 or_length (Some i) n = i
@@ -120,7 +120,7 @@ laid_objects-push [] (k ∷ es) x e h = absurd (omega arith)
 laid_objects-push (y ∷ xs) [] x e h = absurd (omega arith)
 laid_objects-push (y ∷ xs) (k ∷ es) x e h = ap (λ (l : List LaidObject). record { name = y; extent = k } ∷ l) (laid_objects-push xs es x e (omega arith))
 
--- the words of the object with a number
+-- the words of the object with this number
 abbrev pub extent_at : List Extent → Option ℕ → Extent
 extent_at es None = record { offset = 0; length = 0; width = Word }
 extent_at es (Some i) = get_or es i (record { offset = 0; length = 0; width = Word })
@@ -141,7 +141,7 @@ extent_of-first (y ∷ xs) (e ∷ es) x h = by (same_name y x) (extent_of-first 
 pub extent_of-is : (xs : List (List ℕ)) (es : List Extent) (x : List ℕ) (r : Option ℕ) → length xs ≡ length es → r ≡ first_of xs x → extent_at es r ≡ extent_of (laid_objects xs es) x
 extent_of-is xs es x r h e = ap (extent_at es) e ∙ sym (extent_of-first xs es x h)
 
--- the names alone say the number of an object
+-- the number of an object depends only on the names
 pub object_number-is : (xs : List (List ℕ)) (es : List Extent) (x : List ℕ) → length xs ≡ length es → first_of xs x ≡ object_number (laid_objects xs es) x
 object_number-is [] es x h = refl
 object_number-is (y ∷ xs) [] x h = absurd (omega arith)
@@ -161,7 +161,7 @@ extent-inside xs es x i h e = let below : i < length xs = first_of-below xs x i 
 
 -- ---- locals
 
--- the locals' numbers depend on their names alone
+-- the numbers of the locals depend only on their names
 pub number_in-names : (bs : List scope.Binding) (x : List ℕ) → bindings.number_in bs x ≡ number_in (local_names bs) x
 number_in-names [] x = refl
 number_in-names (b ∷ bs) x = by (same_name b.name x) (number_in-names bs x)
@@ -174,7 +174,7 @@ number_in-names (b ∷ bs) x = by (same_name b.name x) (number_in-names bs x)
     by true e = ap Some (long bs)
     by false e = e
 
--- a result that is no error
+-- a result that is not an error
 pub when_ok : {A E : Type 0} {P : Type 0} (r : Result A E) → OnOk r P → is_err r ≡ false → P
 when_ok (Ok a) p h = p
 when_ok (Err e) p h = absurd (let no : true ≡ false = h in cc)

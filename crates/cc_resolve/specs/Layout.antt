@@ -1,5 +1,5 @@
--- Where the names of file scope lead: the objects lie one after the other as one list of words, and a word's number is its
--- offset in that list; the functions are numbered in the order of their definitions.
+-- What the names of file scope refer to. The objects form one list of words, one object after another, and a word's number is its
+-- offset in that list. The functions are numbered in the order of their definitions.
 use Rattle.std.specs.Prelude.{ℕ, suc, ◌+◌, List, [], ◌∷◌, ◌++◌, map, Option, Some, None, if◌then◌else◌, option_map, codes}
 use Rattle.cc_words.specs.declared.operators.Width.TheVariants.{Word}
 use Rattle.cc_ast.specs.Tree.{Name, Object, External}
@@ -15,23 +15,23 @@ pub record LaidObject : Type 0 where
   pub name : List ℕ
   pub extent : Extent
 
--- the objects, of which the first begins at an offset
+-- the objects, with the first one at this offset
 abbrev pub laid_from : ℕ → List Object → List LaidObject
 laid_from at [] = []
 laid_from at (o ∷ rest) =
     record { name = (object_name o).text; extent = record { offset = at; length = object_elements o; width = object_width o } } ∷ laid_from (at + object_elements o) rest
 
--- the words of the object of a name
+-- where the words of the named object are
 abbrev pub extent_of : List LaidObject → List ℕ → Extent
 extent_of [] x = record { offset = 0; length = 0; width = Word }
 extent_of (p ∷ rest) x = if same_name p.name x then p.extent else extent_of rest x
 
--- the number of the object of a name, where it is one: how many objects stand before it
+-- the number of the named object, if there is one: how many objects precede it
 abbrev pub object_number : List LaidObject → List ℕ → Option ℕ
 object_number [] x = None
 object_number (p ∷ rest) x = if same_name p.name x then Some 0 else option_map suc (object_number rest x)
 
--- how many names stand before a name
+-- how many names precede a name
 abbrev pub names_before : List (List ℕ) → List ℕ → ℕ
 names_before [] x = 0
 names_before (y ∷ rest) x = if same_name y x then 0 else 1 + names_before rest x
@@ -41,15 +41,15 @@ pub record Layout : Type 0 where
   pub objects : List LaidObject
   pub functions : List (List ℕ)
 
--- the same of a unit
+-- the layout of a unit
 abbrev pub layout_of : List External → Layout
 layout_of externals = record { objects = laid_from 0 (objects externals); functions = map (λ (x : Name). x.text) (function_names externals) }
 
--- what a name that is called leads to: a builtin, else the function of its number
+-- what a called name refers to: a builtin, else the function with its number
 abbrev pub callee : Layout → List ℕ → Callee
 callee p x = if same_name (codes "write_word") x then WriteWord else (if same_name (codes "read_word") x then ReadWord else Defined (names_before p.functions x))
 
--- the words of some objects before the run
+-- the initial words of some objects
 abbrev pub all_words : List Object → List ℕ
 all_words [] = []
 all_words (o ∷ rest) = initial_words o ++ all_words rest

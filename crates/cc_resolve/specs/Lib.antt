@@ -1,13 +1,14 @@
--- where objects lie, and the numbers of functions
+-- the positions of objects, and the numbers of functions
 pub mod Layout
--- which local a name is, and the environment of a statement
+-- which local a name refers to, and the environment of a statement
 pub mod Environment
--- the operation on words that an operator is in its type
+-- the operation on words that an operator performs in its type
 pub mod Operations
--- how the code keeps numbers of names
+-- how the code keeps the numbers of names
 pub mod Numberings
+-- definitions that only private contracts and proofs use
 pub mod internal
--- Pages of crates below that clauses here cite, handed on.
+-- Modules of the crates below that clauses here use, passed on.
 pub use Rattle.cc_ast.specs.Tree
 pub use Rattle.cc_ast.specs.declared.ast
 pub use Rattle.cc_ast.specs.scalar

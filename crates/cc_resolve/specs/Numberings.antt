@@ -1,4 +1,4 @@
--- How the code keeps where names lead: the names of the objects and of the functions of a unit.
+-- How the code keeps the names of the objects and of the functions of a unit.
 use Rattle.std.specs.Prelude.{ℕ, suc, ◌≡◌, ◌≤◌, List, [], ◌∷◌, length, map, Option, Some, None, if◌then◌else◌, option_map}
 use Rattle.std.specs.Borrow.{Bor}
 use Rattle.cc_types.specs.Names.{same_name}
@@ -8,18 +8,18 @@ use Rattle.cc_resolve.specs.Layout.{LaidObject}
 use Rattle.cc_types.specs.Scope as scope
 use Rattle.cc_resolve.specs.declared.layout.Extent.{Extent}
 
--- how many names stand before a name, where it is one of them
+-- how many names precede a name in a list that has it
 abbrev pub first_of : List (List ℕ) → List ℕ → Option ℕ
 first_of [] x = None
 first_of (y ∷ rest) x = if same_name y x then Some 0 else option_map suc (first_of rest x)
 
--- the table has at the number of each name where it stands first, and nothing at a number that no name has
+-- the table has each name's first place at the name's number, and nothing at a number that no name has
 pub record ArePlaces (list : List (Bor (List ℕ))) (names : List (List ℕ × ℕ)) (table : ℕ → Option ℕ) : Type 0 where
   pub numbers : AreNumbers names
   pub found : (x : List ℕ) → at_number table (number_of_name names x) ≡ first_of (names_in list) x
   pub rest : (n : ℕ) → length names ≤ n → table n ≡ None
 
--- objects, of their names and where their words are
+-- objects made of their names and of where their words are
 abbrev pub laid_objects : List (List ℕ) → List Extent → List LaidObject
 laid_objects (x ∷ names) (e ∷ extents) = record { name = x; extent = e } ∷ laid_objects names extents
 laid_objects names extents = []

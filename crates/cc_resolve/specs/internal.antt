@@ -1,2 +1,3 @@
--- What only private contracts and proofs speak of.
+-- Definitions that only private contracts and proofs use.
+-- offsets while objects are laid out
 pub mod Laying

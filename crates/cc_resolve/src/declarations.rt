@@ -1,4 +1,4 @@
-// The names that declarations of locals bring into scope.
+// Names that declarations of locals bring into scope.
 
 ghost use Rattle.std.specs.Prelude.{◌≡◌, OnOk};
 ghost use Rattle.cc_ast.specs.Erase.{declarator_trees, beginning_tree, statement_tree};
@@ -8,7 +8,7 @@ use super::environment::Environment;
 use cc_ast::{Beginning, Declarator, Scalar, Statement};
 use std::alloc::AllocError;
 
-/// Brings the names of a declaration into scope.
+/// Brings the names of a declaration into scope. `AllocError` if memory runs out; nothing is known of the environment then.
 pub fn declare_locals<'a>(
     names: &mut Environment<'a>,
     scalar: Scalar,
@@ -22,7 +22,8 @@ pub fn declare_locals<'a>(
     Ok(())
 }
 
-/// Brings the names of the first part of a `for` header into scope.
+/// Brings the names of the first part of a `for` header into scope. `AllocError` if memory runs out; nothing is known of the
+/// environment then.
 pub fn declare_beginning<'a>(
     names: &mut Environment<'a>,
     tree: &'a Beginning,
@@ -37,7 +38,8 @@ pub fn declare_beginning<'a>(
     }
 }
 
-/// Brings the names that a statement declares in the scope around it into scope.
+/// Brings the names that a statement declares into the scope around it. `AllocError` if memory runs out; nothing is known of the
+/// environment then.
 pub fn declare_statement<'a>(
     names: &mut Environment<'a>,
     tree: &'a Statement,

@@ -1,4 +1,4 @@
-// Where a statement stands: the names in scope with their types, the numbers of the locals in scope, and file scope.
+// The environment of a statement: the names in scope with their types, the numbers of the locals in scope, and file scope.
 
 ghost use Rattle.std.specs.Prelude.{◌≡◌, ◌≤◌, [], ◌∷◌, length, drop, None, Some, IfOk, OnOk};
 ghost use Rattle.cc_ast.specs.Erase.{parameter_tree};
@@ -17,7 +17,7 @@ use std::marker::Model;
 
 const UNNAMED: &[u8] = b"";
 
-/// The names in scope, the locals among them with their numbers, and where the names of file scope lead.
+/// The names in scope, the numbers of the locals among them, and what the names of file scope refer to.
 #[derive(Drop)]
 pub struct Environment<'a> {
     visible: Scope<'a>,
@@ -35,7 +35,7 @@ impl<'a> Model for Environment<'a> {
 }
 
 impl<'a> Environment<'a> {
-    /// File scope at the start of a text: the builtins, and no local.
+    /// Returns file scope at the start of a text: the builtins, and no locals. `AllocError` if memory runs out.
     pub fn new(alloc: Global, layout: Layout<'a>) -> Result<Environment<'a>, AllocError>
         ensures { IfOk result (λ v. v ≡ record { visible = file_level first_file_scope.bindings; locals = []; layout = layout.entry }) }
     {
@@ -47,7 +47,7 @@ impl<'a> Environment<'a> {
         })
     }
 
-    /// Declares a name in file scope, where it is new; else what stands there stays.
+    /// Declares a name in file scope if it is new; an earlier declaration stays as it is.
     pub(crate) fn declare_in_file(
         &mut self,
         name: &'a [u8],
@@ -60,7 +60,8 @@ impl<'a> Environment<'a> {
         Ok(())
     }
 
-    /// Begins an inner scope, and answers how many names the one around it had declared, for the `close` that ends it.
+    /// Opens an inner scope, and returns how many names the scope around it has declared. The `close` that ends the inner scope
+    /// takes that number.
     pub fn open(&mut self) -> usize
         ensures scope { self.new ≡ inner self.old }
         ensures around { result ≡ length self.old.visible.inner }
@@ -68,7 +69,8 @@ impl<'a> Environment<'a> {
         self.visible.open()
     }
 
-    /// Ends a scope, whose names go, inside one that had declared this many. The locals stay.
+    /// Closes the innermost scope and removes its names. The scope around it has declared `around` names. The locals keep their
+    /// numbers.
     pub fn close(&mut self, around: usize)
         requires { around ≤ length self.old.visible.outer }
         ensures { self.new ≡ record self.old { visible = closed around self.old.visible } }
@@ -85,7 +87,7 @@ impl<'a> Environment<'a> {
         Ok(())
     }
 
-    /// Declares a parameter, which gets the next number, whether it has a name or not.
+    /// Declares a parameter, which gets the next number whether it has a name or not.
     pub(crate) fn declare_parameter(&mut self, parameter: &'a Parameter) -> Result<(), AllocError>
         ensures { OnOk result (self.new ≡ record self.old {
           visible = parameter_declared parameter.now.scalar (parameter_tree parameter.now).name self.old.visible;
@@ -102,7 +104,7 @@ impl<'a> Environment<'a> {
         }
     }
 
-    /// Takes the newest local back, where the innermost scope has one.
+    /// Removes the newest local, if the innermost scope has one.
     pub fn undeclare(&mut self)
         ensures { self.new ≡ record self.old { visible = record self.old.visible { inner = drop 1 self.old.visible.inner }; locals = drop 1 self.old.locals } }
     {
@@ -110,7 +112,7 @@ impl<'a> Environment<'a> {
         self.locals.pop();
     }
 
-    /// Takes all locals back, which are in no scope any more.
+    /// Removes all locals, once no scope has them any more.
     pub(crate) fn forget_locals(&mut self)
         ensures { self.new ≡ record self.old { locals = [] } }
     {
@@ -119,7 +121,7 @@ impl<'a> Environment<'a> {
         }
     }
 
-    /// Gives the memory of the names back: one call for the crates above, which need not prove how each part is dropped.
+    /// Frees the names. It is one call so that the crates above need not show how each part is dropped.
     pub fn release(self) {}
 
     /// How many locals are in scope.
@@ -129,7 +131,7 @@ impl<'a> Environment<'a> {
         self.locals.len()
     }
 
-    /// The type of a variable's value; a name that is no variable counts as one of type `int`.
+    /// The type of a variable's value. A name that is not a variable counts as one of type `int`.
     pub fn variable_type(&self, name: &[u8]) -> Scalar
         ensures { result ≡ variable_type (found (types_in self.now) name.now) }
     {
@@ -139,7 +141,7 @@ impl<'a> Environment<'a> {
         }
     }
 
-    /// The type of an array's elements; a name that is no array counts as one of type `int`.
+    /// The type of an array's elements. A name that is not an array counts as one of type `int`.
     pub fn element_type(&self, name: &[u8]) -> Scalar
         ensures { result ≡ element_type (found (types_in self.now) name.now) }
     {
@@ -149,7 +151,7 @@ impl<'a> Environment<'a> {
         }
     }
 
-    /// The type of a call's value, `int` for a void one; a name that is no function counts as one that gives `int`.
+    /// The type of a call's value: `int` for a void function, or for a name that is not a function.
     pub fn call_type(&self, name: &[u8]) -> Scalar
         ensures { result ≡ or_int (result_type (found (types_in self.now) name.now)) }
     {
@@ -162,7 +164,8 @@ impl<'a> Environment<'a> {
         }
     }
 
-    /// The number of the local that a name is, where it is one: how many were in scope when it was declared.
+    /// The number of the local that a name refers to, or `None` if it refers to no local. The number is how many locals were in
+    /// scope when it was declared.
     pub fn local(&self, name: &[u8]) -> Option<usize>
         ensures { result ≡ number_in self.now.locals name.now }
     {
@@ -172,22 +175,23 @@ impl<'a> Environment<'a> {
         }
     }
 
-    /// Where the words of the object of a name are; of another name none, at offset 0. A local of that name does not hide it.
+    /// Where the words of the named object are. A name that no object has gets no words, at offset 0. A local of the same name
+    /// does not hide the object.
     pub fn object(&self, name: &[u8]) -> Extent
         ensures { result ≡ extent_of self.now.layout.objects name.now }
     {
         self.layout.extent(name)
     }
 
-    /// The number of the object of a name, where it is one, in the order of declarations.
+    /// The number of the named object in the order of declarations, or `None` if no object has the name.
     pub fn object_number(&self, name: &[u8]) -> Option<usize>
         ensures { result ≡ object_number self.now.layout.objects name.now }
     {
         self.layout.object_number(name)
     }
 
-    /// What a name that is called leads to: a builtin, or the number of a function, in the order of definitions; of a name that no
-    /// function has, how many functions there are.
+    /// What a called name refers to: a builtin, or the number of a function in the order of definitions. A name that no function
+    /// has gets the number of functions.
     pub fn callee(&self, name: &[u8]) -> Callee
         ensures { result ≡ callee self.now.layout name.now }
     {

@@ -1,4 +1,4 @@
-// Where the names of file scope lead: the objects' words, and the functions' numbers.
+// What the names of file scope refer to: the objects' words, and the functions' numbers.
 
 ghost use Rattle.std.specs.Prelude.{◌≡◌, [], ◌∷◌, ◌++◌, length, OnOk};
 ghost use Rattle.cc_resolve.specs.Layout.{callee, extent_of, names_before, object_number};
@@ -9,8 +9,8 @@ use cc_words::Width;
 use std::alloc::{AllocError, Global};
 use std::marker::Model;
 
-/// Where an object's words, one for each element, are among those of all objects: the number of the first one, how many there are, and how
-/// wide the elements are.
+/// Where an object's words are in the list of all objects' words, with one word for each element: the index of the first, how
+/// many there are, and how wide the elements are.
 #[derive(Clone, Copy)]
 pub struct Extent {
     pub offset: usize,
@@ -18,14 +18,14 @@ pub struct Extent {
     pub width: Width,
 }
 
-/// What a name that is called leads to.
+/// What a called name refers to.
 #[derive(Clone, Copy)]
 pub enum Callee {
     /// The builtin `write_word`.
     WriteWord,
     /// The builtin `read_word`.
     ReadWord,
-    /// The function with a number, in the order of definitions; of a name that no function has, how many functions there are.
+    /// The function with this number, in the order of definitions. A name that no function has gets the number of functions.
     Defined(usize),
 }
 
@@ -35,14 +35,14 @@ const NOWHERE: Extent = Extent {
     width: Width::Word,
 };
 
-/// The objects of a unit, and the functions in the order of their definitions.
+/// The objects of a unit, and its functions in the order of their definitions.
 pub struct Layout<'a> {
     objects: Places<'a>,
     extents: Vec<Extent>,
     functions: Places<'a>,
 }
 
-// By hand, so that crates above call it and do not prove anew how each part is dropped.
+// Written by hand, so that the crates above use this proof and need not show again how each part is dropped.
 impl Drop for Layout<'_> {
     fn drop(self) {
         let Layout {
@@ -66,7 +66,7 @@ impl<'a> Model for Layout<'a> {
 }
 
 impl<'a> Layout<'a> {
-    /// The layout of a unit without objects and functions.
+    /// Returns the layout of a unit without objects and functions.
     pub(crate) fn new(alloc: Global) -> Layout<'a>
         ensures { result ≡ record { objects = []; functions = [] } }
     {
@@ -77,7 +77,7 @@ impl<'a> Layout<'a> {
         }
     }
 
-    /// Adds an object after the others; of two with one name the first stays.
+    /// Adds an object after the others. If two have the same name, the name refers to the first.
     pub(crate) fn add_object(&mut self, name: &'a [u8], extent: Extent) -> Result<(), AllocError>
         ensures { OnOk result (self.new ≡ record self.old { objects = self.old.objects ++ record { name = name.now; extent = extent } ∷ [] }) }
     {
@@ -96,7 +96,7 @@ impl<'a> Layout<'a> {
         self.functions.push(name)
     }
 
-    /// Where the words of an object are; of another name none, at offset 0.
+    /// Where the words of an object are. A name that no object has gets no words, at offset 0.
     pub(crate) fn extent(&self, name: &[u8]) -> Extent
         ensures { result ≡ extent_of self.now.objects name.now }
     {
@@ -106,14 +106,14 @@ impl<'a> Layout<'a> {
         }
     }
 
-    /// The number of the object of a name, where it is one.
+    /// The number of the named object, or `None` if no object has the name.
     pub(crate) fn object_number(&self, name: &[u8]) -> Option<usize>
         ensures { result ≡ object_number self.now.objects name.now }
     {
         self.objects.find(name)
     }
 
-    /// The number of a function; of another name, how many functions there are.
+    /// The number of a function. A name that no function has gets the number of functions.
     pub fn function(&self, name: &[u8]) -> usize
         ensures { result ≡ names_before self.now.functions name.now }
     {
@@ -123,7 +123,7 @@ impl<'a> Layout<'a> {
         }
     }
 
-    /// What a name that is called leads to.
+    /// What a called name refers to.
     pub(crate) fn callee(&self, name: &[u8]) -> Callee
         ensures { result ≡ callee self.now name.now }
     {

@@ -1,8 +1,11 @@
-//! Which local, object or function a name is, where the objects lie, and in which type an operator works.
+//! Which local, object or function a name refers to, where the objects' words are, and in which type an operator works.
 //!
-//! `layout` has where the names of file scope lead, on `places`, and `units` and `objects` lay a unit out; `environment` is
-//! where a statement stands, and `declarations`, `objects` and `units` bring names into it; `operations` has the operation on
-//! words that an operator is. Any walk that translates a typed unit rests on these.
+//! - `layout`, on `places`: what the names of file scope refer to.
+//! - `units` and `objects`: the layout of a unit.
+//! - `environment`: what surrounds a statement; `declarations`, `objects` and `units` bring names into it.
+//! - `operations`: the operation on words that an operator performs.
+//!
+//! Every walk that translates a typed unit uses these.
 #![tactic(auto)]
 
 mod declarations;

@@ -1,4 +1,4 @@
-// The objects at file scope: their words before the run, where these are, and the objects' names.
+// The objects at file scope: their initial words, where these are, and the objects' names.
 
 ghost use Rattle.std.specs.Prelude.{◌≡◌, ◌≤◌, ◌+◌, ◌%◌, ◌^◌, [], ◌∷◌, ◌++◌, Some, length, map, replicate, OnOk, IfOk};
 ghost use Rattle.cc_ast.specs.Erase.{constant_tree, constant_trees, optional_constant, object_tree, object_trees};
@@ -37,7 +37,7 @@ fn initial_word(tree: &Option<ConstantExpression>) -> u32
     }
 }
 
-// Puts the words of a list after some others.
+// Appends the words of an initialiser list.
 fn add_values(words: &mut Vec<u32>, trees: &[ConstantExpression]) -> Result<(), AllocError>
     ensures { OnOk result (words.new.items ≡ words.old.items ++ map (λ (c : tree.ConstantExpr). initial_word (Some c)) (constant_trees trees.now)) }
 {
@@ -47,7 +47,7 @@ fn add_values(words: &mut Vec<u32>, trees: &[ConstantExpression]) -> Result<(), 
     Ok(())
 }
 
-// Puts the bytes of a list after some words.
+// Appends the bytes of an initialiser list, one word for each.
 fn add_bytes(words: &mut Vec<u32>, trees: &[ConstantExpression]) -> Result<(), AllocError>
     ensures { OnOk result (words.new.items ≡ words.old.items ++ map (λ (c : tree.ConstantExpr). initial_word (Some c) % 2 ^ 8) (constant_trees trees.now)) }
 {
@@ -66,7 +66,7 @@ fn add_zeros(words: &mut Vec<u32>, count: usize) -> Result<(), AllocError>
     Ok(())
 }
 
-/// Puts the words of an object's elements after some others.
+/// Appends the words of an object's elements.
 pub fn add_words(words: &mut Vec<u32>, tree: &Object) -> Result<(), AllocError>
     ensures { OnOk result (words.new.items ≡ words.old.items ++ initial_words (object_tree tree.now)) }
 {
@@ -112,8 +112,8 @@ fn object_name(tree: &Object) -> &[u8]
     }
 }
 
-// Adds an object whose words begin at an offset, and answers the offset after them. Its words stand after others, which are
-// no fewer than the words before it.
+// Adds an object whose words begin at an offset, and returns the offset after them. Appends its words to `words`, which has at
+// least as many words as the objects before it.
 fn add_object<'a>(
     layout: &mut Layout<'a>,
     words: &mut Vec<u32>,
@@ -142,8 +142,8 @@ fn add_object<'a>(
     Ok(offset + length)
 }
 
-/// Adds objects, of which the first begins at an offset, and answers the offset after them. Their words stand after others,
-/// which are no fewer than the words before it.
+/// Adds objects, the first one at this offset, and returns the offset after them. Appends their words to `words`, which has at
+/// least as many words as the objects before them.
 pub fn add_objects<'a>(
     layout: &mut Layout<'a>,
     words: &mut Vec<u32>,

@@ -1,4 +1,4 @@
-// Operators as operations on words, in the type in which they work.
+// Operators as operations on words, by the type in which they work.
 
 ghost use Rattle.std.specs.Prelude.{◌≡◌};
 ghost use Rattle.cc_resolve.specs.Operations.{by_type, operation, unary_operation};
@@ -41,7 +41,7 @@ pub enum BinaryOperation {
     Or,
 }
 
-/// A unary operator as an operation on a word; plus leaves its operand.
+/// The operation on a word that a unary operator performs; `None` for plus, which leaves its operand as it is.
 pub fn unary_operation(operator: UnaryOperator) -> Option<UnaryOperation>
     ensures { result ≡ unary_operation operator }
 {
@@ -62,7 +62,7 @@ fn by_type(working: Scalar, signed: BinaryOperation, unsigned: BinaryOperation) 
     }
 }
 
-/// An operator in the type in which it works, as an operation on words.
+/// The operation on words that an operator performs in its working type.
 pub fn operation(operator: BinaryOperator, working: Scalar) -> BinaryOperation
     ensures { result ≡ operation operator working }
 {

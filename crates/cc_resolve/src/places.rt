@@ -1,7 +1,7 @@
-// Lists of names, with the place where each name stands first.
+// Lists of names, with the first place of each name.
 //
-// A name is numbered once, by a search in the order of the names' bytes, and a table has its first place at its number: no choice of
-// names makes a search long, and none makes two numbers collide.
+// A name gets a number, found by the order of the names' bytes, and a table has the name's first place at that number. So no
+// choice of names makes a search long or makes two names collide.
 
 ghost use Rattle.std.specs.Prelude.{◌≡◌, [], ◌∷◌, ◌++◌, length, OnOk, OnErr};
 ghost use Rattle.cc_resolve.specs.Numberings.{first_of};
@@ -11,7 +11,7 @@ use indexmap::IndexMap;
 use std::alloc::{AllocError, Global};
 use std::marker::Model;
 
-/// Names in order, where a name may stand again. The first has the place 0.
+/// Names in order, which may repeat. The first has place 0.
 #[derive(Drop)]
 pub struct Places<'a> {
     list: Vec<&'a [u8]>,
@@ -49,7 +49,7 @@ impl<'a> Places<'a> {
         self.list.len()
     }
 
-    /// Where a name stands first.
+    /// The first place of a name, or `None` if the list does not have it.
     pub fn find(&self, name: &[u8]) -> Option<usize>
         ensures { result ≡ first_of self.now name.now }
     {
@@ -57,7 +57,7 @@ impl<'a> Places<'a> {
         self.places.get(&number).copied()
     }
 
-    /// Adds a name.
+    /// Adds a name. An `Err` leaves the list unchanged.
     pub fn push(&mut self, name: &'a [u8]) -> Result<(), AllocError>
         ensures ok { OnOk result (self.new ≡ self.old ++ name.now ∷ []) }
         ensures err { OnErr result (self.new ≡ self.old) }

@@ -1,4 +1,4 @@
-// The functions and the objects of a unit: where they are, and the names that they bring into scope.
+// The functions and the objects of a unit: what their names refer to, and how the names come into scope.
 
 ghost use Rattle.std.specs.Prelude.{◌≡◌, ◌<◌, ◌≤◌, [], ◌++◌, Some, length, slice_get, OnOk, IfOk};
 ghost use Rattle.cc_ast.specs.Erase.{parameter_trees, signature_tree, external_tree, external_trees};
@@ -36,7 +36,8 @@ fn declare_parameters<'a>(
     Ok(())
 }
 
-/// Brings the name of a function into file scope, where it is new.
+/// Brings the name of a function into file scope, if it is new. `AllocError` if memory runs out; nothing is known of the
+/// environment then.
 pub fn declare_function<'a>(
     names: &mut Environment<'a>,
     tree: &'a Signature,
@@ -48,6 +49,7 @@ pub fn declare_function<'a>(
 }
 
 /// Enters a function's body from file scope: the function's name is in scope, and its parameters are the first locals.
+/// `AllocError` if memory runs out; nothing is known of the environment then.
 pub fn enter_function<'a>(
     names: &mut Environment<'a>,
     tree: &'a Signature,
@@ -60,7 +62,7 @@ pub fn enter_function<'a>(
     declare_parameters(names, tree.parameters.as_slice())
 }
 
-/// Leaves a function's body: the function's name stays in file scope, and its parameters and locals go.
+/// Leaves a function's body: the function's name stays in file scope, and its parameters and locals are removed.
 pub fn leave_function(names: &mut Environment<'_>)
     ensures { (layout : Layout) (s : tree.Signature) (f : FileScope) → names.old ≡ environment_of layout s f
         → names.new ≡ record { visible = file_level (with_function s f).bindings; locals = []; layout = layout } }
@@ -69,8 +71,8 @@ pub fn leave_function(names: &mut Environment<'_>)
     names.forget_locals();
 }
 
-// Adds the objects and the function of an external declaration, where the first object begins at an offset, and answers the
-// offset after them.
+// Adds the objects and the function of an external declaration, whose first object begins at an offset, and returns the offset
+// after the objects.
 fn add_external<'a>(
     layout: &mut Layout<'a>,
     words: &mut Vec<u32>,
@@ -96,7 +98,8 @@ fn add_external<'a>(
     }
 }
 
-/// Where the names of a unit lead; the words of its objects before the run are put into an empty list.
+/// Returns what the names of a unit refer to, and appends the initial words of its objects to an empty list. `AllocError` if
+/// memory runs out; nothing is known of the list then.
 pub fn lay_out<'a>(
     alloc: Global,
     words: &mut Vec<u32>,
@@ -114,7 +117,7 @@ pub fn lay_out<'a>(
     Ok(layout)
 }
 
-// Enters the body of the function with a number, from file scope at the start of a unit.
+// Enters the body of the function with this number, from file scope at the start of a unit.
 fn enter_definition<'a>(
     names: &mut Environment<'a>,
     trees: &'a [External],
@@ -143,8 +146,8 @@ fn enter_definition<'a>(
     unreachable!()
 }
 
-/// The environment in which the body of the function with a number begins. Functions are numbered from 0 in the order of their
-/// definitions.
+/// Returns the environment at the beginning of the body of the function with this number. Functions are numbered from 0 in the
+/// order of their definitions. `AllocError` if memory runs out.
 pub fn function_environment(
     alloc: Global,
     unit: &TypedUnit,

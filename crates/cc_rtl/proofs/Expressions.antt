@@ -12,7 +12,7 @@ use Rattle.cc_rtl_language.specs.Rtl.{Registers, Configuration, at, put, node_mo
 use Rattle.cc_rtl_language.specs.internal.Moves.{Graph, graph_move}
 use Rattle.cc_rtl.specs.internal.Translates.{Held, Into, Operand, Operands}
 
--- what is put is there, and nothing else is written
+-- what is put into a register is there, and no other register is written
 cond_by : {X : Type 0} (b c : Bool) (x y : X) → b ≡ c → cond b x y ≡ cond c x y
 cond_by b c x y e = ap (λ z. cond z x y) e
 
@@ -37,7 +37,7 @@ pub bound : {A B : Type 0} (x : Option A) (f : A → Option B) (b : B) → then_
 bound None f b e = none_some b e
 bound (Some a) f b e = record { part = a; is = refl; gives = e }
 
--- expressions and the registers and nodes that they take
+-- expressions, and how many registers and nodes they take
 abbrev pub cost : Expression → ℕ
 cost (Constant w) = 1
 cost (Local x) = 1
@@ -59,7 +59,7 @@ module _ (nodes : Graph) (count : ℕ) where
   pub no_way : (c : Configuration) → Way c 0 c
   no_way c = (refl, refl)
 
-  -- a node that goes on
+  -- a node after which the run continues
   pub node_goes : (l : ℕ) (r : Registers) (h : World) (n : rtl.Node) (d : Configuration) → nodes l ≡ Some n → node_move n r h ≡ Goes d → Way (at l r h) 1 d
   node_goes l r h n d e go = (d, ap (λ x. tried x (λ node. node_move node r h)) e ∙ go, (refl, refl))
 
@@ -90,7 +90,7 @@ module _ (nodes : Graph) (count : ℕ) where
     some_is : (v w : ℕ) → Some v ≡ Some w → v ≡ w
     some_is v w e = cc
 
-    -- an operand, from what puts it
+    -- an operand, given what puts it into its register
     held : (e : Expression) → Runs e → (free register free' entry exit : ℕ) (r : Registers) (v : ℕ) → Held nodes count e (Into nodes count e) free register free' entry exit → count ≤ free → Holds l r → value e l h ≡ Some v → Holding (cost e) free register entry exit r v
     held e runs free register free' entry exit r v (le, lt, inl (is, low, same)) above holds eq = record {
       moves = 0;
@@ -114,7 +114,7 @@ module _ (nodes : Graph) (count : ℕ) where
     one_node : (n cost free to entry exit : ℕ) (r r' : Registers) (v : ℕ) (node : rtl.Node) → nodes entry ≡ Some node → node_move node r h ≡ Goes (at exit r' h) → 1 ≤ cost → ((y : ℕ) → y < free → r' y ≡ put to v r y) → Computes cost free to entry exit r v
     one_node n cost free to entry exit r r' v node stands go one puts = record { moves = 1; after = r'; one = omega arith; few = one; way = node_goes entry r h node (at exit r' h) stands go; puts = puts }
 
-    -- the last node, behind what held the operands
+    -- the last node, after the operands are in registers
     last_node : (m most free to entry mid exit : ℕ) (r r1 r2 : Registers) (v : ℕ) (node : rtl.Node) → Way (at entry r h) m (at mid r1 h) → nodes mid ≡ Some node → node_move node r1 h ≡ Goes (at exit r2 h) → m ≤ most → ((y : ℕ) → y < free → r2 y ≡ put to v r y) → Computes (suc most) free to entry exit r v
     last_node m most free to entry mid exit r r1 r2 v node way stands go few puts = record {
       moves = m + 1;

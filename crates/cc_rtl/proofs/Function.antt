@@ -1,5 +1,5 @@
--- The whole function: the code that is generated keeps up with Cminor's, has so many nodes, and each node leads to nodes but not to the
--- entry.
+-- The whole function: the generated code keeps up with Cminor's, has the counted number of nodes, and each node leads to nodes
+-- but not to the entry.
 use Rattle.std.proofs.Common.{◌≡◌, ℕ, zero, suc, ◌+◌, ◌-◌, ◌<◌, [], ◌∷◌, length, ◌∙◌, subst, arith, length-append, Some, None}
 use Rattle.cc_simulation.specs.Meaning.{Meaning}
 use Rattle.cc_simulation.specs.Tracks.{Tracks}
@@ -34,14 +34,14 @@ module _ (parameters count : ℕ) (body : Statement) (formed : IsFormed count bo
   place_within (x ∷ g) zero n e = omega arith
   place_within (x ∷ g) (suc l) n e = let r = place_within g l n e in omega arith
 
-  -- the graph that is handed out is the code of the body
+  -- the graph that is returned is the code of the body
   pub generated_code : IsCodeOf (rtl.node_at (generated_rtl parameters count body).nodes) count body 0
   generated_code =
       let z : last - last ≡ 0 = omega arith in
       subst (IsCodeOf (rtl.node_at (generated_rtl parameters count body).nodes) count body) z
       (code_turns (λ l. last - l) (place_at places) (rtl.node_at (generated_rtl parameters count body).nodes) (λ l n e. turned_node places last filled long l n (place_within places l n e) e) count body last (function_right count body formed).0)
 
-  -- its run keeps up with the source where Cminor's does
+  -- its run keeps up with the source if Cminor's does
   pub generated_tracks : (meaning : Meaning) (f rate : ℕ) → Tracks meaning f rate cminor_move cminor_output (cminor_start body)
       → Tracks meaning f (coarser rate (suc (size body))) (rtl_move (generated_rtl parameters count body)) rtl_output (rtl_start (generated_rtl parameters count body))
   generated_tracks meaning f rate tracks = rtl_tracks (rtl.node_at (generated_rtl parameters count body).nodes) count body 0 generated_code meaning f rate tracks

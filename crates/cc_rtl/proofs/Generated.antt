@@ -1,4 +1,4 @@
--- What the generator makes is the code of the body, and has so many nodes.
+-- What the generator makes is the code of the body, and has the counted number of nodes.
 use Rattle.std.proofs.Common.{◌≡◌, ℕ, zero, suc, ◌+◌, ◌<◌, ◌≤◌, List, [], ◌∷◌, ◌++◌, length, get_or, set, refl, sym, ap, ◌∙◌, subst, inl, inr, arith, append_assoc, length-append, Option, Some, None}
 use Rattle.std.proofs.Math.Seq.{get_or-append_seam}
 use Rattle.cc_cminor.specs.Cminor.{Expression, Constant, Local, Unary, Binary, Load, Statement, Skip, Set, Store, Call, Read, Write, Sequence, If, Loop, Block, Exit, Return}
@@ -36,7 +36,7 @@ leads [] k d = tt
 leads (x ∷ exits) zero d = refl
 leads (x ∷ exits) (suc k) d = leads exits k d
 
--- what was there is still there, few nodes are new, and of the nodes and the entry the claim holds
+-- what was there is still there, few nodes are new, and the claim holds of the nodes and the entry
 pub record Right (g : Places) (m : Made) (most : ℕ) (Claim : Graph → ℕ → Type 0) : Type 0 where
   pub rest : Places
   pub prefix : m.places ≡ g ++ rest
@@ -103,7 +103,7 @@ module _ (count : ℕ) where
       (TwoHeld a b free (register a free) (register b (taken a free)) n) y o (omega arith)
       (λ more (free'', k, held_b, stands) held_a. (taken a free, next.entry, free'', k, held_a, held_grows _ _ more count b _ _ (into_grows _ _ more count b) (taken a free) (register b (taken a free)) free'' next.entry k held_b, more _ _ stands))
 
-  -- the claim for another word, or for more
+  -- the claim with another count, or with a larger limit
   weaker : (g : Places) (m : Made) (c most : ℕ) (P Q : Graph → ℕ → Type 0) → Right g m c P → c ≡ most → (P (place_at m.places) m.entry → Q (place_at m.places) m.entry) → Right g m most Q
   weaker g m c most P Q x le f = record { rest = x.rest; prefix = x.prefix; few = let a = x.few in omega arith; claim = f x.claim }
 
@@ -140,7 +140,7 @@ module _ (count : ℕ) where
       (λ f entry. Operands f count (e ∷ es) (registers (e ∷ es) free) free entry next.entry) x y (omega arith)
       (λ more rest one. (taken e free, behind.entry, one, operands_grow _ _ more count es (registers es (taken e free)) (taken e free) behind.entry next.entry rest))
 
-  -- the statement whose one operand is held
+  -- a statement whose only operand is in a register
   one_operand : (e : Expression) (n : rtl.Node) (g : Places) → Uses count e → Right g (operand e count (pushed n g)) (suc (operand_nodes e)) (OneHeld e count (register e count) n)
   one_operand e n g uses = one_held e (makes e) count n (pushed n g) g 1 (suc (operand_nodes e)) (pushed_right n g) (omega arith) uses (omega arith)
 
@@ -151,7 +151,7 @@ module _ (count : ℕ) where
   taken_there f None = omega arith
   taken_there f (Some x) = refl
 
-  -- a loop's head, filled in
+  -- a loop's head gets its node
   closed_right : (a : Statement) (exit : ℕ) (exits : List ℕ) (g : Places) (body : Made) (most : ℕ) → Right (g ++ (None ∷ [])) body most (Here a (length g) exits) → Right g (closed (length g) body) (suc most) (Here (Loop a) exit exits)
   closed_right a exit exits g body most x =
       let n = Some (rtl.Nop body.entry) in
@@ -215,7 +215,7 @@ module _ (count : ℕ) where
       weaker g _ (suc (operand_nodes e)) _ (OneHeld e count (register e count) n) (Here (Return e) exit exits) (one_operand e n g uses) (omega arith)
       (λ (free', m, held, stands). (register e count, free', m, held, stands))
 
-  -- the whole function: its code, of three nodes more than it has statements and operand_nodes at most
+  -- the whole function: its code, with the counted number of nodes
   pub function_right : (body : Statement) → IsFormed count body → IsCodeOf (place_at (made_function count body).places) count body (made_function count body).entry × (length (made_function count body).places ≡ function_nodes body)
   function_right body formed =
       let ends : Places = Some (rtl.Return count) ∷ Some (rtl.Const count 0 0) ∷ [] in

@@ -62,7 +62,7 @@ pushed_filled [] x (suc l) h e = absurd (omega arith)
 pushed_filled (y ∷ g) x zero h e = (omega arith, e)
 pushed_filled (y ∷ g) x (suc l) h e = let r = pushed_filled g x l (omega arith) e in let lt = r.0 in (omega arith, r.1)
 
--- a place more without a node is the only one
+-- one more place without a node is the only one
 open_filled : (g : Places) (l : ℕ) → l ≢ length g → l < length (g ++ (None ∷ [])) → place_at (g ++ (None ∷ [])) l ≡ None → (l < length g) × (place_at g l ≡ None)
 open_filled [] zero n h e = absurd (n refl)
 open_filled [] (suc l) n h e = absurd (omega arith)
@@ -80,7 +80,7 @@ pub record Inside (g : Places) (m : Made) : Type 0 where
   pub longer : length g ≤ length m.places
   pub entry : m.entry < length m.places
   pub all : AllLead (length m.places) m.places
-  -- no place is new without a node
+  -- no new place is without a node
   pub filled : (l : ℕ) → l < length m.places → place_at m.places l ≡ None → (l < length g) × (place_at g l ≡ None)
 
 nothing_inside : (exit : ℕ) (g : Places) → exit < length g → AllLead (length g) g → Inside g (record { entry = exit; places = g })

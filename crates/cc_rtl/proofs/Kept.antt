@@ -1,5 +1,5 @@
--- What the type of a function asks of the graph that is generated: it has so many nodes, labels ascend, it begins with a nop, each node
--- leads to nodes and none to the entry.
+-- What the type of a function requires of the generated graph: it has the counted number of nodes, labels ascend, it begins with
+-- a nop, each node leads to nodes and none to the entry.
 use Rattle.std.proofs.Common.{◌≡◌, ◌≢◌, ℕ, zero, suc, ◌-◌, ◌<◌, ◌≤◌, List, [], ◌∷◌, length, map, Contains, IsSome, refl, sym, ap, ◌∙◌, subst, arith, Some}
 use Rattle.std.specs.Prelude.{is_some}
 use Rattle.cc_cminor.specs.Cminor.{Statement}
@@ -40,7 +40,7 @@ below_of t bound (x ∷ xs) next (low, all) (zero, lt, e) = (x, low, sym e)
 below_of t bound (x ∷ xs) next (low, all) (suc k, lt, e) = below_of t bound xs next all (k, omega arith, e)
 
 module _ (parameters count : ℕ) (body : Statement) (formed : IsFormed count body) where
-  -- where a node leads, a node stands, and it is not the entry
+  -- there is a node where a node leads, and it is not the entry
   leads : (label : ℕ) (node : rtl.Node) (next : ℕ) → rtl.node_at (generated_rtl parameters count body).nodes label ≡ Some node → Contains (rtl.successors node) next
       → IsSome (rtl.node_at (generated_rtl parameters count body).nodes next) × (next ≢ 0)
   leads label node next e in_it =

@@ -1,4 +1,4 @@
--- Places turned round: the node of a place has the label that counts from the last place.
+-- Places in reverse order: the node at a place has the label that counts from the last place.
 use Rattle.std.proofs.Common.{◌≡◌, ℕ, zero, suc, ◌+◌, ◌-◌, ◌<◌, List, [], ◌∷◌, ◌++◌, length, cond, refl, sym, ap, ◌∙◌, inl, inr, ◌⊎◌, arith, Option, Some, None, true, false, ◌==◌, length-append}
 use Rattle.std.proofs.lemmas.Bool.{cases_eq}
 use Rattle.std.proofs.lemmas.Bool.Decides.{nat_tests}
@@ -54,7 +54,7 @@ back_place (Some x ∷ g) f (suc l) n lt e =
     let k : suc (length g) - suc (suc l) ≡ length g - suc l = omega arith in
     ap (nth (nodes_back g ++ x ∷ [])) k ∙ nth_prefix (nodes_back g) (x ∷ []) (length g - suc l) n (back_place g f l n (omega arith) e)
 
--- the node of a place, by its label
+-- the node at a place, by its label
 pub turned_node : (g : Places) (last : ℕ) → AreFilled g → length g ≡ suc last → (l : ℕ) (n : rtl.Node) → l < length g → place_at g l ≡ Some n → rtl.node_at (labelled_from last 0 (nodes_back g)) (last - l) ≡ Some (renamed (λ k. last - k) n)
 turned_node g last f long l n lt e =
     let k : length g - suc l ≡ last - l = omega arith in
@@ -66,7 +66,7 @@ filled_all [] h = tt
 filled_all (None ∷ g) h = h zero (omega arith) refl
 filled_all (Some n ∷ g) h = filled_all g (λ l lt e. h (suc l) (omega arith) e)
 
--- ---- and back: what stands at a label comes of a place
+-- ---- and back: a node at a label comes from a place
 
 nth_within : (ns : List rtl.Node) (i : ℕ) (n : rtl.Node) → nth ns i ≡ Some n → i < length ns
 nth_within [] i n e = absurd (let z : None ≡ Some n = e in cc)
@@ -82,7 +82,7 @@ nth_cases (y ∷ ns) x (suc i) n e = elim (nth_cases ns x i n e) [
   | inr (last, same) ↦ inr (ap suc last, same)
 ]
 
--- a node in the order of its labels stands at a place, counted from the last
+-- a node in the order of labels is at a place, counted from the last
 place_of : (g : Places) → AreFilled g → (i : ℕ) (n : rtl.Node) → nth (nodes_back g) i ≡ Some n → (l : ℕ) × (suc (l + i) ≡ length g) × (place_at g l ≡ Some n)
 place_of [] f i n e = absurd (let z : None ≡ Some n = e in cc)
 place_of (None ∷ g) f i n e = absurd f
@@ -105,7 +105,7 @@ node_by_label last from label (x ∷ ns) n e = elim (cases_eq from label) [
       (suc r.0, r.1, omega arith, r.3, r.4))
 ]
 
--- the place of what stands at a label
+-- the place of the node at a label
 pub record Placed (g : Places) (last label : ℕ) (n : rtl.Node) : Type 0 where
   pub place : ℕ
   pub node : rtl.Node

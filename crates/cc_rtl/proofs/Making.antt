@@ -1,4 +1,4 @@
--- Steps of the generator's code: arguments one by one, statements from the last to the first, places turned round.
+-- Steps of the generator's code: arguments one by one, statements from last to first, places in reverse order.
 use Rattle.std.proofs.Common.{◌≡◌, ℕ, suc, ◌+◌, ◌-◌, ◌<◌, ◌≤◌, List, [], ◌∷◌, ◌++◌, length, length-append, reverse, refl, sym, ap, ◌∙◌, subst, append_assoc, arith, rules, drop, get_or, set, zero, drop-cons, Option, Some, None, option_map, true, false, ◌==◌, if◌then◌else◌}
 use Rattle.std.specs.Prelude.{IsSome}
 use Rattle.std.proofs.lemmas.Option.{same_Some}
@@ -31,7 +31,7 @@ first_fits es e rest is fits = subst (λ l. ExpressionsBelow most_variables (exp
 pub first_nodes : (es : List Expression) (e : Expression) (rest : List Expression) → es ≡ e ∷ rest → operands_nodes (expressions_of es) ≡ operand_nodes (expression_of e) + operands_nodes (expressions_of rest)
 first_nodes es e rest is = ap (λ l. operands_nodes (expressions_of l)) is
 
--- ---- statements one after the other
+-- ---- statements, one after another
 
 statements_in-row : (n : _) (row : Row_of-Statement n) → statements_in row ≡ statements_of (items-the_row-Statement n row)
 statements_in-row n end_of-Statement = refl
@@ -40,7 +40,7 @@ statements_in-row n (more_of-Statement s rest) = ap (λ l. statement_of s ∷ l)
 pub statement_of-sequence : (all : _) → statement_of (written.Sequence all) ≡ in_sequence (statements_of all.items)
 statement_of-sequence all = search (rules, written.the_lemmas, statements_in-row)
 
--- statements before some code, the last of them first
+-- statements before some code, the last one first
 abbrev pub made_back : (count : ℕ) (exits : List ℕ) → List Statement → Made → Made
 made_back count exits [] m = m
 made_back count exits (s ∷ before) m = made_back count exits before (made count (statement_of s) m.entry exits m.places)
@@ -86,7 +86,7 @@ all_fit-back [] f = tt
 all_fit-back (a ∷ []) f = (f, tt)
 all_fit-back (a ∷ b ∷ rest) (one, f) = subst AllFitIn (sym (reverse_onto (b ∷ rest) a [])) (all_fit-append (reverse (b ∷ rest)) (a ∷ []) (all_fit-back (b ∷ rest) f) (one, tt))
 
--- before the statements that are left, the last of them first: what is left makes the whole
+-- before the remaining statements, the last one first: what is left makes the whole
 pub record Goes_back (count : ℕ) (exits : List ℕ) (all : List Statement) (first : Made) (entry : ℕ) (places : Places) (left : List Statement) : Type 0 where
   pub code : made_back count (reverse exits) left (made_at entry places) ≡ made_back count (reverse exits) all first
   pub room : length places + nodes_in left ≡ length first.places + nodes_in all
@@ -123,7 +123,7 @@ goes_back-longer count exits all exit g entry places left before none =
     let z : nodes_in left ≡ 0 = ap nodes_in none in
     omega arith
 
--- a measure of one of some things is no greater than the greatest
+-- the measure of one of several things is at most the largest
 pub no_deeper : {X : Type 0} (measure : X → ℕ) (xs : List X) (i : ℕ) (x : X) → i < length (reverse xs) → x ≡ get_or (reverse xs) i x → measure x ≤ most measure xs
 no_deeper measure xs i x lt is =
     let same : length (reverse xs) ≡ length xs = length-reverse xs in
@@ -134,7 +134,7 @@ no_deeper measure xs i x lt is =
 pub next_left : (all : List Statement) (i : ℕ) (s : Statement) → i < length all → s ≡ get_or all i s → drop i all ≡ s ∷ drop (i + 1) all
 next_left all i s lt is = drop-cons all i s lt ∙ ap (λ y. y ∷ drop (suc i) all) (sym is) ∙ ap (λ k. s ∷ drop k all) (let k : suc i ≡ i + 1 = omega arith in k)
 
--- ---- places turned round
+-- ---- places in reverse order
 
 nodes_back-append : (g : Places) (n : rtl.Node) → nodes_back (g ++ (Some n ∷ [])) ≡ n ∷ nodes_back g
 nodes_back-append [] n = refl
@@ -162,7 +162,7 @@ pub length_places : (es : List (Entry (Option Node))) → length (places_of es) 
 length_places [] = refl
 length_places (e ∷ es) = length-append (places_of es) _ ∙ (let r = length_places es in let n : length (places_of es) + 1 ≡ suc (length es) = omega arith in n)
 
--- the nodes that are labelled, and the places that are left
+-- the nodes that have labels, and the places that are left
 pub record Turns (last : ℕ) (all : Places) (nodes : Listed Node) (places : List (Entry (Option Node))) : Type 0 where
   pub code : labelled_of nodes.entries ++ labelled_from last nodes.given (nodes_back (places_of places)) ≡ labelled_from last 0 (nodes_back all)
   pub few : nodes.given + length places ≤ most_nodes
@@ -200,7 +200,7 @@ turns-none last all nodes places places' label before popped =
 pub turns-end : (last : ℕ) (all : Places) (nodes : Listed Node) (places : List (Entry (Option Node))) → Turns last all nodes places → places ≡ [] → labelled_of nodes.entries ≡ labelled_from last 0 (nodes_back all)
 turns-end last all nodes places before none = sym (append_nothing (labelled_of nodes.entries)) ∙ ap (λ l. labelled_of nodes.entries ++ labelled_from last nodes.given (nodes_back (places_of l))) (sym none) ∙ before.code
 
--- labels made in turn are numbered
+-- labels made in turn are consecutive numbers
 pub numbered_from : (last from : ℕ) (ns : List rtl.Node) → AreNumbered from (labelled_from last from ns)
 numbered_from last from [] = tt
 numbered_from last from (n ∷ ns) = (refl, numbered_from last (suc from) ns)

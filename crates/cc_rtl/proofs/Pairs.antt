@@ -1,4 +1,4 @@
--- What is generated of a function's Cminor is a pair of RTL.
+-- What is generated from a function's Cminor is a pair of RTL.
 use Rattle.std.proofs.Common.{◌≡◌, ℕ, suc, ◌<◌, ◌≤◌, List, length, Some, slice_get, sym, ap, ◌∙◌, subst}
 use Rattle.cc_ast.specs.declared.unit.Unit as parsed
 use Rattle.cc_types.specs.Typed.{IsTyped}

@@ -1,4 +1,4 @@
--- Counts over a sequence, and what a count has to do with the number of statements and expressions.
+-- Counts over a sequence, compared with the number of statements and expressions.
 use Rattle.std.proofs.Common.{◌≡◌, ℕ, suc, ◌+◌, ◌<◌, ◌≤◌, List, [], ◌∷◌, drop, length, get_or, drop-cons, refl, sym, ap, ◌∙◌, subst, arith, rules, Option, Some, None}
 use Rattle.cc_cminor.specs.Cminor as cminor
 use Rattle.cc_cminor.specs.Code.{expression_of, expressions_of, statement_of, statements_in, in_sequence}
@@ -12,7 +12,7 @@ use Rattle.cc_cminor.specs.Variables.{above, above_result, above_expression, abo
 use Rattle.cc_rtl.specs.internal.Generate.{Uses, AllUse, IsFormed}
 use Rattle.std.proofs.lemmas.Bool.Decides.{nat_tests}
 
--- a sequence is what its list is
+-- a sequence is what its list says
 in_row : (n : _) (row : Row_of-Statement n) → statements_in row ≡ statements_of (items-the_row-Statement n row)
 in_row n end_of-Statement = refl
 in_row n (more_of-Statement s rest) = ap (λ ss. statement_of s ∷ ss) (in_row _ rest)
@@ -39,7 +39,7 @@ statements_left all i s lt is = ap (λ ss. statement_nodes (in_sequence (stateme
 
 -- ---- nodes, statements and expressions
 
--- each expression takes a node
+-- each expression takes at least one node
 pub some_nodes : (e : cminor.Expression) → 0 < into_nodes e
 some_nodes (cminor.Constant w) = omega arith
 some_nodes (cminor.Local x) = omega arith
@@ -80,7 +80,7 @@ nodes_few (cminor.Block a) = let f = nodes_few a in omega arith
 nodes_few (cminor.Exit k) = omega arith
 nodes_few (cminor.Return e) = let f = operand_few e in omega arith
 
--- ---- the variables of a body lie below what is counted
+-- ---- the variables of a body are below the count
 
 above_ge : (count x : ℕ) → (count ≤ above count x) × (x < above count x)
 above_ge count x = grind (arith, nat_tests)

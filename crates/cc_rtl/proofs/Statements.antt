@@ -12,7 +12,7 @@ use Rattle.cc_rtl.specs.internal.Translates.{Leads, Takes, Translates, Finishes}
 use Rattle.cc_rtl.proofs.Owing.{Owes, simulation_of, owes_tried}
 use Rattle.cc_rtl.proofs.Expressions.{cost, costs, put_there, put_elsewhere, put_alike, Way, way_then, node_goes, Holds, into_runs, operand_runs, operands_run}
 
--- What is left to unwind before a node is done. It bounds the nodes of one move too.
+-- How much is left to unwind before a node is done. It also bounds the nodes of one move.
 abbrev pub size : Statement → ℕ
 size Skip = 0
 size (Set x e) = cost e
@@ -33,7 +33,7 @@ room (Then s κ) = suc (size s + room κ)
 room (Again s κ) = suc (room κ)
 room (Leaving κ) = suc (room κ)
 
--- a loop's next turn has no more to unwind than this
+-- a loop's next turn has at most this much to unwind
 abbrev pub Low : ℕ → Continuation → Type 0
 Low most Ends = Unit {0}
 Low most (Then s κ) = Low most κ
@@ -47,7 +47,7 @@ not_zero : (w : ℕ) → (suc w == 0) ≡ false
 not_zero w = grind (arith, nat_tests)
 
 module _ (nodes : Graph) (count : ℕ) where
-  -- what goes on at this label, with these labels behind the blocks that are open
+  -- what continues at this label, with these labels after the open blocks
   abbrev pub Goes_on : Continuation → ℕ → List ℕ → Type 0
   Goes_on Ends exit exits = Finishes nodes count exit
   Goes_on (Then s κ) exit exits = (end : ℕ) × Translates nodes count s exit end exits × Goes_on κ end exits
@@ -81,7 +81,7 @@ module _ (nodes : Graph) (count : ℕ) where
     abbrev Hold : (ℕ → ℕ) → Registers → Type 0
     Hold l r = Holds nodes count l r
 
-    -- a last node behind what held the operands
+    -- a last node, after the operands are in registers
     moves_on : (label m mid exit : ℕ) (r r1 r2 : Registers) (h h' : World) (node : rtl.Node) (c : Config) → Path_to (at label r h) m (at mid r1 h) → nodes mid ≡ Some node → node_move node r1 h ≡ Goes (at exit r2 h') → m ≤ most → Rel c (at exit r2 h') → Moves_on c (at label r h)
     moves_on label m mid exit r r1 r2 h h' node c way stands go few rel = record {
       moves = m + 1;
@@ -103,7 +103,7 @@ module _ (nodes : Graph) (count : ℕ) where
       related = rel;
     }
 
-    -- behind a statement that falls through
+    -- after a statement that falls through
     falls : (κ : Continuation) (l : ℕ → ℕ) (h : World) (r : Registers) (exit : ℕ) (exits : List ℕ) → Goes_on κ exit exits → Hold l r → room κ ≤ most → Low most κ → Rel (config Skip κ l h) (at exit r h)
     falls κ l h r exit exits next holds low turns = record { exit = exit; exits = exits; code = refl; next = next; holds = holds; world = refl; low = omega arith; turns = turns }
 

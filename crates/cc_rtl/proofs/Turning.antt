@@ -1,4 +1,4 @@
--- What is translated stays so when its labels are exchanged for others.
+-- What is translated remains so when its labels are exchanged for others.
 use Rattle.std.proofs.Common.{◌≡◌, ℕ, zero, suc, List, [], ◌∷◌, map, ap, inl, inr, Option, Some, None}
 use Rattle.cc_cminor.specs.Cminor.{Expression, Constant, Local, Unary, Binary, Load, Statement, Skip, Set, Store, Call, Read, Write, Sequence, If, Loop, Block, Exit, Return}
 use Rattle.cc_rtl_language.specs.Rtl as rtl
@@ -55,7 +55,7 @@ module _ (t : ℕ → ℕ) (f g : Graph) (more : (l : ℕ) (n : rtl.Node) → f 
   pub finishes_turns : (exit : ℕ) → Finishes f count exit → Finishes g count (t exit)
   finishes_turns exit (r, n, x, y) = (r, t n, more _ _ x, more _ _ y)
 
-  -- the whole code, whose labels are others
+  -- the whole code with other labels
   pub code_turns : (body : Statement) (entry : ℕ) → IsCodeOf f count body entry → IsCodeOf g count body (t entry)
   code_turns body entry is = record {
     first = t is.first;

@@ -1,4 +1,4 @@
--- From a function's entry: what Cminor's run keeps of the source's meaning, RTL's run keeps at a slower rate.
+-- From a function's entry: what Cminor's run guarantees about the source's meaning, RTL's run guarantees at a slower rate.
 use Rattle.std.proofs.Common.{◌≡◌, ℕ, suc, ◌*◌, ◌≤◌, List, [], refl, sym, ap, ◌∙◌, subst, arith, get_or}
 use Rattle.std.proofs.Math.Nat.{mul-le-mul_left}
 use Rattle.cc_simulation.specs.Behavior.{Outcome}
@@ -13,13 +13,13 @@ use Rattle.cc_rtl_language.specs.internal.Moves.{Graph, graph_move}
 use Rattle.cc_rtl.specs.internal.Translates.{IsCodeOf}
 use Rattle.cc_rtl.proofs.Statements.{size, measure, Related, generated}
 
--- one move more, and the rest as before
+-- one more move, and the rest as before
 keeps_more : (rate n : ℕ) (e : Effect) (w : ℕ) (y z : Outcome Answer) → z ≡ y → Keeps rate n e w y → Keeps rate n e (suc w) z
 keeps_more rate n (Gives a left) w y z same (is, le) = (same ∙ is, (let g : rate * suc w ≤ rate * suc (suc w) = mul-le-mul_left rate (let o : suc w ≤ suc (suc w) = omega arith in o) in omega arith))
 keeps_more rate n (Unfinished o) w y z same (is, le) = (same ∙ is, (let g : rate * suc w ≤ rate * suc (suc w) = mul-le-mul_left rate (let o : suc w ≤ suc (suc w) = omega arith in o) in omega arith))
 keeps_more rate n (Failed o) w y z same kept = tt
 
--- a move in front
+-- a move before the rest
 tracks_behind : (meaning : Meaning) (f rate : ℕ) {C : Type 0} (move : C → Move C) (output : C → List ℕ) (start before : List ℕ → World → C) → ((ws : List ℕ) (h : World) → move (before ws h) ≡ Goes (start ws h))
     → Tracks meaning f rate move output start → Tracks meaning f rate move output before
 tracks_behind meaning f rate {C} move output start before goes tracks d below ws h is_call n =
@@ -40,7 +40,7 @@ tracks_behind meaning f rate {C} move output start before goes tracks d below ws
     )
 
 module _ (nodes : Graph) (count : ℕ) (body : Statement) (entry : ℕ) (is : IsCodeOf nodes count body entry) where
-  -- the rate grows by this, and one
+  -- the rate grows by this, plus one
   abbrev most : ℕ
   most = suc (size body)
 

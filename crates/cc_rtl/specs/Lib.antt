@@ -2,5 +2,5 @@
 pub mod Size
 -- The number of a fault.
 pub mod Fault
--- What the proofs speak of.
+-- Definitions for the proofs.
 pub mod internal

@@ -1,6 +1,6 @@
--- Which nodes stand where for a statement.
+-- Which nodes a statement may become.
 pub mod Translates
 -- The generator as a function.
 pub mod Generate
--- What the contracts of the generator's code speak of.
+-- Definitions for the contracts of the generator's code.
 pub mod Generating

@@ -1,4 +1,4 @@
-// Why a function has no RTL.
+// Why a function was not turned into RTL.
 
 ghost use Rattle.std.specs.Prelude.{◌≡◌};
 ghost use Rattle.cc_rtl.specs.Fault.{fault_number};
@@ -6,7 +6,7 @@ ghost use Rattle.cc_rtl.specs.Fault.{fault_number};
 use std::alloc::AllocError;
 use thiserror::Error;
 
-/// Why a function has no RTL.
+/// Why a function was not turned into RTL.
 #[derive(Debug, Drop, Error)]
 pub enum RtlFault {
     /// 22: the function would have more than 4,096 nodes.

@@ -1,7 +1,7 @@
 // The nodes of a function's code.
 //
-// Nodes are made from the end of the code to its beginning, so that the label to go on at is known when a node is made; then they get
-// labels anew, which ascend along the code.
+// Nodes are made from the end of the code to its beginning, so that the label to continue at is known when a node is made. Then
+// they get new labels, which ascend along the code.
 
 mod expressions;
 mod graph;
@@ -22,8 +22,8 @@ use graph::Graph;
 use statements::statement;
 use std::alloc::{AllocError, Global};
 
-/// The nodes of a body whose variables are those below `count`; their labels ascend from 0, the label of the first. There are at most
-/// 4,096 of them.
+/// Returns the nodes of a body whose variables are those below `count`. Their labels ascend from 0, the label of the first. There
+/// are at most 4,096 of them.
 pub fn generate(alloc: Global, count: u32, body: &Statement) -> Result<InstrList<Node>, AllocError>
     requires few { function_nodes (statement_of body.now) ≤ most_nodes }
     requires numbers { StatementFits (statement_of body.now) }

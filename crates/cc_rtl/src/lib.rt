@@ -1,7 +1,7 @@
 //! From Cminor to RTL, the code of a function as a graph of labelled nodes over pseudo-registers.
 //!
-//! The language is that of `cc_rtl_language`, and handed out here too. `translate` has the call; `size` counts the nodes that a function
-//! takes, `generate` makes the nodes from the function's Cminor.
+//! The language is in `cc_rtl_language`, whose items this crate exports too. `translate` has the call, `size` counts the nodes
+//! that a function takes, and `generate` makes the nodes from the function's Cminor.
 #![tactic(auto)]
 
 mod fault;

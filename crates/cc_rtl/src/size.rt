@@ -1,4 +1,4 @@
-// How many nodes a body takes. It is counted before a node is made: a body that takes too many is refused, and no other one is.
+// How many nodes a body takes. They are counted before any node is made: a body that takes too many is refused, and no other.
 
 ghost use Rattle.std.specs.Prelude.{◌≡◌, ◌+◌, ◌<◌, ◌≤◌, IsTrue, IsFalse, MatchOption};
 ghost use Rattle.cc_cminor.specs.Code.{expression_of, expressions_of, statement_of, in_sequence};
@@ -8,7 +8,7 @@ ghost use Rattle.cc_rtl.specs.Size.{into_nodes, operand_nodes, operands_nodes, s
 
 use cc_cminor::{Expression, Statement};
 
-// What is left of the room for nodes behind those that put an expression into a register; none where they do not fit.
+// How much room for nodes is left after those that put an expression into a register; `None` if they do not fit.
 #[cycle(values)]
 fn room_behind(e: &Expression, room: u32) -> Option<u32>
     ensures { MatchOption result (room < into_nodes (expression_of e.now)) (λ left. left + into_nodes (expression_of e.now) ≡ room) }
@@ -27,7 +27,7 @@ fn room_behind(e: &Expression, room: u32) -> Option<u32>
     }
 }
 
-// The same of an operand: a variable takes no node.
+// The same for an operand: a variable takes no node.
 #[cycle(values)]
 fn room_behind_operand(e: &Expression, room: u32) -> Option<u32>
     ensures { MatchOption result (room < operand_nodes (expression_of e.now)) (λ left. left + operand_nodes (expression_of e.now) ≡ room) }
@@ -38,7 +38,7 @@ fn room_behind_operand(e: &Expression, room: u32) -> Option<u32>
     }
 }
 
-// The same of operands.
+// The same for operands.
 fn room_behind_operands(es: &[Expression], room: u32) -> Option<u32>
     ensures { MatchOption result (room < operands_nodes (expressions_of es.now)) (λ left. left + operands_nodes (expressions_of es.now) ≡ room) }
 {
@@ -49,7 +49,7 @@ fn room_behind_operands(es: &[Expression], room: u32) -> Option<u32>
     Some(left)
 }
 
-// The same of a node and its one operand, and of one and its two.
+// The same for a node with one operand, and for one with two.
 fn room_behind_one(e: &Expression, room: u32) -> Option<u32>
     ensures { MatchOption result (room < 1 + operand_nodes (expression_of e.now)) (λ left. left + (1 + operand_nodes (expression_of e.now)) ≡ room) }
 {
@@ -66,7 +66,7 @@ fn room_behind_two(a: &Expression, b: &Expression, room: u32) -> Option<u32>
     room_behind_operand(b, left)
 }
 
-// The same of a statement.
+// The same for a statement.
 #[cycle(statements)]
 #[tactic(auto, using(crate::proofs::Sizes::sequence_is))]
 fn room_behind_statement(s: &Statement, room: u32) -> Option<u32>
@@ -91,7 +91,7 @@ fn room_behind_statement(s: &Statement, room: u32) -> Option<u32>
     }
 }
 
-// The same of statements, one after the other.
+// The same for statements, one after another.
 #[cycle(statements)]
 fn room_behind_statements(all: &[Statement], room: u32) -> Option<u32>
     ensures { MatchOption result (room < statement_nodes (in_sequence (statements_of all.now))) (λ left. left + statement_nodes (in_sequence (statements_of all.now)) ≡ room) }
@@ -103,10 +103,10 @@ fn room_behind_statements(all: &[Statement], room: u32) -> Option<u32>
     Some(left)
 }
 
-// How many nodes a body has at most. Every function has three more: the entry's, and the constant and the return behind the body.
+// The most nodes of a body. Every function has three more: the entry's, and the constant and the return after the body.
 const MOST_IN_BODY: u32 = 4093;
 
-/// Whether the function of a body has at most 4,096 nodes.
+/// Whether the function with this body has at most 4,096 nodes.
 pub fn fits(body: &Statement) -> bool
     ensures small { IsTrue result → function_nodes (statement_of body.now) ≤ most_nodes }
     ensures large { IsFalse result → most_nodes < function_nodes (statement_of body.now) }

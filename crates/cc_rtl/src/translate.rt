@@ -30,11 +30,11 @@ fn parameters_of(pair: &CminorPair) -> u32
     parameters.len() as u32
 }
 
-/// The RTL of a function. The value of an expression is put straight into the variable that is set, and a condition's comparison stands
-/// straight in front of its branch; labels ascend along the code.
+/// Translates a function to RTL. The value of an expression is put directly into the variable that is set, and a condition's
+/// comparison comes directly before its branch; labels ascend along the code.
 ///
-/// `FunctionTooLarge` (22) exactly where it would have more than 4,096 nodes, which needs more than 3,072 statements and expressions;
-/// `OutOfMemory` (40) where memory runs out. The pair is given up with an error.
+/// Fails with `FunctionTooLarge` (22) exactly if the function would have more than 4,096 nodes, which takes more than 3,072
+/// statements and expressions; and with `OutOfMemory` (40) if memory runs out. An error drops the pair.
 pub fn to_rtl(alloc: Global, pair: CminorPair) -> Result<RtlPair, RtlFault>
     ensures mode { IfOk result (λ made. made.mode ≡ pair.mode) }
     ensures unit { IfOk result (λ made. made.unit ≡ pair.unit) }

@@ -1,5 +1,5 @@
--- A function of which dead nodes became nops keeps up as it did: the two runs go hand in hand, and agree on the registers that are live.
--- Where the old one goes wrong (a quotient that there is not, an element that there is not) nothing is owed.
+-- A function in which dead nodes became nops keeps up as before: the two runs move in lockstep, and agree on the registers that
+-- are live. If the old one goes wrong (a missing quotient or element) nothing is required.
 use Rattle.std.proofs.Common.{◌≡◌, ◌≢◌, ℕ, suc, List, [], ◌∷◌, map, refl, sym, ap, ◌∙◌, subst, Bool, true, false, ◌==◌, ◌||◌, not, if◌then◌else◌, IsTrue, arith, inl, Contains}
 use Rattle.std.specs.Prelude.{Option, Some, None}
 use Rattle.std.proofs.lemmas.Bool.Decides.{Decides-eqb}
@@ -34,7 +34,7 @@ module _ (live : Sets) where
     pub world : d.world ≡ c.world
     pub agree : (x : ℕ) → IsTrue (live c.label x) → d.registers x ≡ c.registers x
 
-  -- what the one's move is to the other's
+  -- how one move relates to the other
   abbrev pub Matches : Moving Configuration → Moving Configuration → Type 0
   Matches Fails m = Unit {0}
   Matches (Goes c) (Goes d) = Related c d
@@ -42,7 +42,7 @@ module _ (live : Sets) where
   Matches (Returns a) (Returns b) = b ≡ a
   Matches m n = ⊥
 
-  -- ---- one node, from registers that agree on what is live in front of it
+  -- ---- one node, from registers that agree on what is live before it
   module _ (own : ℕ → Bool) (r r' : Registers) (h : World) (agree : (x : ℕ) → IsTrue (own x) → r' x ≡ r x) where
     -- a result is put into both
     put_both : (to w w' next : ℕ) (h' : World) → w' ≡ w → ((x : ℕ) → IsTrue (live next x) → to ≢ x → r' x ≡ r x) → Related (at next (put to w r) h') (at next (put to w' r') h')
@@ -52,14 +52,14 @@ module _ (live : Sets) where
         go x true t l = same
         go x false t l = others x l (λ e. absurd (let u = (Decides-eqb to x).1 e in cc))
 
-    -- a register that one node puts nothing into
+    -- a register into which one node puts nothing
     behind_next : (n : Node) (next x : ℕ) → Carries live n own → successors n ≡ next ∷ [] → result n ≢ Some x → IsTrue (live next x) → r' x ≡ r x
     behind_next n next x c one other l = agree x (c.inherited x (subst (λ ss. IsTrue (in_some live ss x)) (sym one) (or_left (live next x) false l)) other)
 
     some_other : (to x : ℕ) → to ≢ x → Some to ≢ Some x
     some_other to x d e = d (let z : Some to ≡ Some x = e in cc)
 
-    -- where a node with a result comes to a word, or not
+    -- a node with a result, which may have no value
     tried_both : (o o' : Option ℕ) (to next : ℕ) → o' ≡ o → ((x : ℕ) → IsTrue (live next x) → to ≢ x → r' x ≡ r x)
         → Matches (tried o (λ word. Goes (at next (put to word r) h))) (tried o' (λ word. Goes (at next (put to word r') h)))
     tried_both o o' to next same others = subst (λ p. Matches (tried o (λ word. Goes (at next (put to word r) h))) (tried p (λ word. Goes (at next (put to word r') h)))) (sym same) (go o)
@@ -89,7 +89,7 @@ module _ (live : Sets) where
     two : (x y : ℕ) (rest : List ℕ) → Contains (y ∷ x ∷ rest) x
     two x y rest = (1, omega arith, refl)
 
-    -- a node that stays
+    -- a node that remains
     kept : (n : Node) → Carries live n own → Matches (node_move n r h) (node_move n r' h)
     kept (Nop next) c = record { label = refl; world = refl; agree = λ x l. behind_next (Nop next) next x c refl (λ e. absurd (let z : None ≡ Some x = e in cc)) l }
     kept (Const to word next) c = put_both to word word next h refl (λ x l d. behind_next (Const to word next) next x c refl (some_other to x d) l)

@@ -1,4 +1,4 @@
--- Nodes that became nops: what stands at a label then, that the graph keeps its form, and some after others.
+-- Nodes that became nops: what is at a label then, that the graph keeps its form, and several changes one after another.
 use Rattle.std.proofs.Common.{◌≡◌, ℕ, suc, ◌+◌, ◌<◌, List, [], ◌∷◌, ◌++◌, length, take, get_or, refl, sym, ap, ◌∙◌, subst, Bool, true, false, ◌==◌, ◌||◌, if◌then◌else◌, arith, Contains}
 use Rattle.std.specs.Prelude.{Option, Some, None, IsSome, option_map, MatchOption}
 use Rattle.std.proofs.lemmas.Option.{same_Some}
@@ -19,7 +19,7 @@ Which = (label : ℕ) → Node → Bool
 abbrev pub turned : Bool → Node → Node
 turned b n = if b then as_nop n else n
 
--- ---- what stands at a label
+-- ---- what is at a label
 
 pub node_turned : (which : Which) (ns : List Labelled) (l : ℕ) (n : Node) → node_at ns l ≡ Some n → node_at (with_nops which ns) l ≡ Some (turned (which l n) n)
 node_turned which [] l n e = absurd cc
@@ -166,21 +166,21 @@ none_behind l (n ∷ ns) below ascend =
     further [] h b = tt
     further (m ∷ ms) h b = omega arith
 
--- two that turn the same of the nodes that there are
+-- two tests that agree on the nodes turn the same ones
 pub same_turned : (which other : Which) (ns : List Labelled) → ((n : Labelled) → Contains ns n → which n.label n.node ≡ other n.label n.node) → with_nops which ns ≡ with_nops other ns
 same_turned which other [] h = refl
 same_turned which other (n ∷ ns) h =
     ap (λ b. record { label = n.label; node = turned b n.node } ∷ with_nops which ns) (h n (0, omega arith, refl))
     ∙ ap (λ rest. record { label = n.label; node = turned (other n.label n.node) n.node } ∷ rest) (same_turned which other ns (λ m i. h m (suc i.0, (let l = i.1 in omega arith), i.2)))
 
--- labels stay
+-- labels do not change
 pub numbered_turned : (which : Which) (from : ℕ) (ns : List Labelled) → AreNumbered from ns → AreNumbered from (with_nops which ns)
 numbered_turned which from [] a = tt
 numbered_turned which from (n ∷ ns) a = (a.0, numbered_turned which (suc from) ns a.1)
 
 -- ---- as the code makes them
 
--- another item under a label, which is the nop of what was there
+-- another item under a label, which is the nop of the old one
 pub turn_one : (es : List (Entry code.Node)) (l : ℕ) (x : code.Node) → Ascend (labelled_of es) → option_map as_nop (node_at (labelled_of es) l) ≡ Some (node_of x) → labelled_of (with_item l x es) ≡ with_nops (this l) (labelled_of es)
 turn_one [] l x ascend h = refl
 turn_one (e ∷ es) l x ascend h =
@@ -198,7 +198,7 @@ turn_one (e ∷ es) l x ascend h =
           ∙ ap (λ b. record { label = e.label; node = turned b (node_of e.item) } ∷ with_nops (this l) (labelled_of es)) (sym u)
     ] refl h
 
--- a label whose node stays as a nop
+-- a label whose node is the same as a nop
 pub turn_none : (ns : List Labelled) (l : ℕ) → Ascend ns → option_map as_nop (node_at ns l) ≡ node_at ns l → with_nops (this l) ns ≡ ns
 turn_none [] l ascend h = refl
 turn_none (n ∷ ns) l ascend h =
@@ -215,12 +215,12 @@ turn_none (n ∷ ns) l ascend h =
           ap (λ b. record { label = n.label; node = turned b n.node } ∷ with_nops (this l) ns) u ∙ ap (λ (ms : List Labelled). n ∷ ms) (turn_none ns l ascend.1 f)
     ] refl h
 
--- what a node has to say of its nop, said of what stands under a label
+-- what holds of a node and its nop, for the node at a label
 pub nop_found : (r : Option ℕ) (o : Option Node) (n : Node) → o ≡ Some n → MatchOption r (as_nop n ≡ n) (λ next. as_nop n ≡ Nop next) → MatchOption r (option_map as_nop o ≡ o) (λ next. option_map as_nop o ≡ Some (Nop next))
 nop_found None o n e m = ap (option_map as_nop) e ∙ (ap (λ (x : Node). Some x) m ∙ sym e)
 nop_found (Some next) o n e m = ap (option_map as_nop) e ∙ ap (λ (x : Node). Some x) m
 
--- one label more
+-- one more label
 pub turn_more : (start now after : List Labelled) (labels : List ℕ) (i : ℕ) → now ≡ with_nops (these (take i labels)) start → after ≡ with_nops (this (get_or labels i 0)) now → i < length labels → after ≡ with_nops (these (take (i + 1) labels)) start
 turn_more start now after labels i so_far is h =
     is ∙ (ap (with_nops (this (get_or labels i 0))) so_far ∙ (one_more (take i labels) (get_or labels i 0) start ∙ ap (λ ls. with_nops (these ls) start) (sym (take_more labels i 0 h))))

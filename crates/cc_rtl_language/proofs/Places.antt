@@ -26,7 +26,7 @@ same_test a b e = grind (arith, nat_tests)
 pub other_test : (a b : ℕ) → a ≢ b → (a == b) ≡ false
 other_test a b n = grind (arith, nat_tests)
 
--- ---- the nodes as the code keeps them
+-- ---- the nodes in the code's values
 
 abbrev pub labelled : Entry Node → rtl.Labelled
 labelled n = record { label = n.label; node = node_of n.item }
@@ -35,7 +35,7 @@ pub length_labelled : (ns : List (Entry Node)) → length (labelled_of ns) ≡ l
 length_labelled [] = refl
 length_labelled (n ∷ ns) = ap suc (length_labelled ns)
 
--- what stands under a label
+-- what is under a label
 pub node_of_label : (es : List (Entry Node)) (l : ℕ) → node_at (labelled_of es) l ≡ option_map node_of (item_at l es)
 node_of_label [] l = refl
 node_of_label (e ∷ es) l =
@@ -82,7 +82,7 @@ position_is_label ns label a h =
     let n = numbered_at ns 0 (position_of ns label) d a p.0 in
     (omega (arith, p.1, n), omega (arith, p.0, p.1, n))
 
--- the node of a position stands under it
+-- the node at a position is under that label
 pub numbered_node : (ns : List rtl.Labelled) (from i : ℕ) → AreNumbered from ns → i < length ns → (node : rtl.Node) × (node_at ns (from + i) ≡ Some node) × (slice_get ns i ≡ Some (record { label = from + i; node = node }))
 numbered_node [] from i a h = absurd (omega arith)
 numbered_node (n ∷ ns) from zero a h =
@@ -101,7 +101,7 @@ numbered_there ns i a h =
     let on : 0 + i ≡ i = omega arith in
     subst (λ (o : Option rtl.Node). IsSome o) (sym (ap (node_at ns) (sym on) ∙ r.1)) refl
 
--- what the list of nodes answers under a label is the node of the position
+-- what the list of nodes has under a label is the node at the position
 pub at_position : {A : Type 0} (item : A → Node) (r : Option A) (es : List (Entry Node)) (ns : List rtl.Labelled) (i : ℕ) → labelled_of es ≡ ns → AreNumbered 0 ns → i < length es → MatchOption r (item_at i es ≡ None) (λ x. item_at i es ≡ Some (item x))
     → MatchOption r (length ns ≤ i) (λ x. slice_get ns i ≡ Some (record { label = i; node = node_of (item x) }))
 at_position {A = A} item r es ns i e a lt m = go r m
@@ -121,7 +121,7 @@ at_position {A = A} item r es ns i e a lt m = go r m
         let same : node_of (item x) ≡ k.0 = same_Some (node_of (item x)) k.0 (sym (ap (option_map node_of) f) ∙ there) in
         k.2 ∙ ap (λ (l : ℕ). Some (record { label = l; node = k.0 })) on ∙ ap (λ (n : rtl.Node). Some (record { label = i; node = n })) (sym same)
 
--- ---- what stands at a label and at its position
+-- ---- what is at a label and at its position
 
 pub placed : (ns : List rtl.Labelled) (l : ℕ) (node : rtl.Node) → node_at ns l ≡ Some node → (n : rtl.Labelled) × (slice_get ns (position_of ns l) ≡ Some n) × (n.node ≡ node) × (n.label ≡ l)
 placed [] l node e = absurd cc
@@ -146,13 +146,13 @@ above_rest : (l : ℕ) (n : rtl.Labelled) (ns : List rtl.Labelled) → l < n.lab
 above_rest l n [] below h = tt
 above_rest l n (m ∷ ms) below h = omega arith
 
--- a label behind the first of ascending ones is another
+-- a label after the first of ascending ones differs from it
 behind_first : (l : ℕ) (ns : List rtl.Labelled) (i : ℕ) (n : rtl.Labelled) → IsBelowFirst l ns → Ascend ns → slice_get ns i ≡ Some n → l < n.label
 behind_first l [] i n below ascend e = absurd cc
 behind_first l (m ∷ ns) zero n below ascend e = subst (λ (x : rtl.Labelled). l < x.label) (same_Some m n e) below
 behind_first l (m ∷ ns) (suc i) n below ascend e = behind_first l ns i n (above_rest l m ns below ascend.0) ascend.1 e
 
--- the node of a position is that of its label, and it is the label's position
+-- the node at a position is that of its label, and its position is the label's
 pub node_of_position : (ns : List rtl.Labelled) → Ascend ns → (i : ℕ) (n : rtl.Labelled) → slice_get ns i ≡ Some n → (node_at ns n.label ≡ Some n.node) × (position_of ns n.label ≡ i)
 node_of_position [] ascend i n e = absurd cc
 node_of_position (m ∷ ns) ascend zero n e =

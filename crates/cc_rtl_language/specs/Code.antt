@@ -1,4 +1,4 @@
--- The RTL that the code keeps, without how its lists lie in memory.
+-- The RTL in the code's values, whatever the place of its lists in memory.
 use Rattle.std.specs.Prelude.{List, [], ◌∷◌}
 use Rattle.cc_rtl_language.specs.Rtl as rtl
 use Rattle.cc_rtl_language.specs.declared.node.Node.{Node}

@@ -2,15 +2,15 @@
 pub mod Rtl
 -- Live sets, and nodes that may become nops.
 pub mod Live
--- The nodes by their positions, as dataflow counts them.
+-- The nodes by their positions, as dataflow numbers them.
 pub mod Positions
--- The RTL that the code keeps.
+-- The RTL in the code's values.
 pub mod Code
--- What a pair keeps: the RTL of one function of a unit.
+-- What a pair guarantees: the RTL of one function of a unit.
 pub mod Pair
--- What the proofs speak of.
+-- Definitions for the proofs.
 pub mod internal
--- Pages of crates below that clauses here cite, handed on.
+-- Modules of the crates below that clauses here use, passed on.
 pub use Rattle.cc_c_laws.specs.Meaning
 pub use Rattle.cc_c_laws.specs.Numbered
 pub use Rattle.cc_c_laws.specs.Resolved

@@ -1,5 +1,5 @@
--- Live sets, and nodes that nobody needs. A register is live at a label where the word that it holds there may still be read. A node that
--- does nothing but put a word into a register that is live behind none of its ways may as well do nothing.
+-- Live sets, and nodes that are not needed. A register is live at a label if the word that it holds there may still be read. A
+-- node that only puts a word into a register that is not live after it may as well do nothing.
 use Rattle.std.specs.Prelude.{◌≡◌, ◌≢◌, ℕ, List, [], ◌∷◌, Contains, Bool, true, false, IsTrue, ◌==◌, ◌||◌, not, if◌then◌else◌, Option, Some, None}
 use Rattle.cc_rtl_language.specs.Rtl.{Rtl, Labelled, Node, Nop, Const, Move, Unary, Binary, Load, Store, Call, Read, Write, Branch, Return, node_at, successors}
 
@@ -20,7 +20,7 @@ reads (Write from next) = from ∷ []
 reads (Branch from _ _) = from ∷ []
 reads (Return from) = from ∷ []
 
--- the register of a pure node, which does nothing but put a word into it, where it does not go wrong
+-- the register of a pure node, which only puts a word into it, unless it goes wrong
 abbrev pub pure_result : Node → Option ℕ
 pure_result (Const to word next) = Some to
 pure_result (Move to from next) = Some to
@@ -41,7 +41,7 @@ result node = pure_result node
 abbrev pub Sets : Type 0
 Sets = (label register : ℕ) → Bool
 
--- whether a successor's set holds it
+-- whether a successor's set has it
 abbrev pub in_some : Sets → (labels : List ℕ) → (register : ℕ) → Bool
 in_some live [] r = false
 in_some live (s ∷ ss) r = live s r || in_some live ss r
@@ -49,16 +49,16 @@ in_some live (s ∷ ss) r = live s r || in_some live ss r
 abbrev pub live_behind : Sets → Node → (register : ℕ) → Bool
 live_behind live node r = in_some live (successors node) r
 
--- a node's own set holds what the node reads and, but for its result, what its successors' sets hold
+-- a node's own set has what the node reads and, except for its result, what its successors' sets have
 pub record Carries (live : Sets) (node : Node) (own : ℕ → Bool) : Type 0 where
   pub needed : (r : ℕ) → Contains (reads node) r → IsTrue (own r)
   pub inherited : (r : ℕ) → IsTrue (live_behind live node r) → result node ≢ Some r → IsTrue (own r)
 
--- so does each node's
+-- this holds of every node
 abbrev pub AreLive : List Labelled → Sets → Type 0
 AreLive nodes live = (label : ℕ) (node : Node) → node_at nodes label ≡ Some node → Carries live node (live label)
 
--- whether a node is pure and no successor's set holds its result
+-- whether a node is pure and no successor's set has its result
 abbrev pub is_unread : Sets → Node → (result : Option ℕ) → Bool
 is_unread live node None = false
 is_unread live node (Some to) = not (live_behind live node to)
@@ -68,7 +68,7 @@ is_dead live node = is_unread live node (pure_result node)
 
 -- ---- nodes that become nops
 
--- a pure node as a nop
+-- a pure node turned into a nop
 abbrev pub as_nop : Node → Node
 as_nop (Const to word next) = Nop next
 as_nop (Move to from next) = Nop next
@@ -82,13 +82,14 @@ abbrev pub is_nop : Node → Bool
 is_nop (Nop next) = true
 is_nop node = false
 
--- some of the nodes as nops
+-- some of the nodes turned into nops
 abbrev pub with_nops : (which : (label : ℕ) → Node → Bool) → List Labelled → List Labelled
 with_nops which [] = []
 with_nops which (n ∷ ns) = record { label = n.label; node = if which n.label n.node then as_nop n.node else n.node } ∷ with_nops which ns
 
--- They may become nops: some live sets of the code with the nops show each of them dead. All together are asked at once, so that
--- nodes may go which only one another read. Live sets of the code as it is serve too, since a nop needs no more than the node did.
+-- These nodes may become nops: some live sets of the code with the nops show that each of them is dead. All are considered
+-- together, so that nodes may go that only read one another. Live sets of the code as it is will do too, because a nop needs no
+-- more than the node did.
 pub record MayBecomeNops (nodes : List Labelled) (which : (label : ℕ) → Node → Bool) : Type 0 where
   pub live : Sets
   pub are_live : AreLive (with_nops which nodes) live
@@ -99,7 +100,7 @@ abbrev pub among : List ℕ → (label : ℕ) → Bool
 among [] label = false
 among (l ∷ ls) label = l == label || among ls label
 
--- the function with the nodes of these labels as nops
+-- the function with the nodes with these labels turned into nops
 abbrev pub without : (labels : List ℕ) → Rtl → Rtl
 without labels rtl = record rtl { nodes = with_nops (λ label node. among labels label) rtl.nodes }
 

@@ -1,4 +1,4 @@
--- What a pair of RTL keeps: the RTL of one function of a typed unit.
+-- What a pair of RTL guarantees: the RTL of one function of a typed unit.
 use Rattle.std.specs.Prelude.{◌≡◌, ℕ, suc, ◌<◌, List, length, Some, slice_get}
 use Rattle.cc_ast.specs.Tree.{External}
 use Rattle.cc_ast.specs.Source.{source}
@@ -41,11 +41,11 @@ IsCallOf unit (Write from next) = Unit {0}
 IsCallOf unit (Branch from first second) = Unit {0}
 IsCallOf unit (Return from) = Unit {0}
 
--- so is each call among the nodes
+-- this holds of each call among the nodes
 abbrev pub AreCalls : List External → Rtl → Type 0
 AreCalls unit rtl = (label : ℕ) (node : Node) → node_at rtl.nodes label ≡ Some node → IsCallOf unit node
 
--- the RTL has the parameters of the function
+-- the RTL has the function's parameters
 abbrev pub HasParameters : List External → (function : ℕ) → Rtl → Type 0
 HasParameters unit f rtl = slice_get (arities unit) f ≡ Some rtl.parameters
 
@@ -53,13 +53,13 @@ HasParameters unit f rtl = slice_get (arities unit) f ≡ Some rtl.parameters
 abbrev pub KeepsUp : Mode → List External → (function : ℕ) → Rtl → Type 0
 KeepsUp mode unit f rtl = (rate : ℕ) × ((meaning : Meaning) → IsMeaning mode unit meaning → Tracks meaning f rate (rtl_move rtl) rtl_output (rtl_start rtl))
 
--- so at each number of open calls the run follows the function's body
+-- at each number of open calls the run follows the function's body
 abbrev pub FollowsFunction : Mode → List External → (function : ℕ) → Rtl → Type 0
 FollowsFunction mode unit f rtl =
     (meaning : Meaning) → IsMeaning mode unit meaning → (opened : ℕ) → opened < most_open → (ws : List ℕ) (h : World) → IsCall meaning f ws h
     → Follows (λ n. answered (meaning.body n opened f ws h)) (λ (b : ℕ × ℕ). run (rtl_move rtl) rtl_output (call_effect meaning (suc opened)) b.0 b.1 (rtl_start rtl ws h))
 
--- what a pair's type keeps
+-- what a pair's type guarantees
 pub record IsPair (p : Pair) : Type 0 where
   pub typed : IsTyped (tree_of p)
   pub function : p.function < length (functions (tree_of p))

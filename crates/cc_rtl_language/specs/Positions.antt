@@ -1,13 +1,13 @@
--- The nodes of a function by their positions, as dataflow counts them.
+-- The nodes of a function by their positions, as dataflow numbers them.
 use Rattle.std.specs.Prelude.{◌≡◌, ℕ, suc, List, [], ◌∷◌, map, ◌==◌, if◌then◌else◌}
 use Rattle.cc_rtl_language.specs.Rtl.{Labelled, successors}
 
--- the labels are the numbers from one on: where it is 0 they are the positions
+-- the labels are consecutive numbers; if they begin with 0 they are the positions
 abbrev pub AreNumbered : (from : ℕ) → List Labelled → Type 0
 AreNumbered from [] = Unit {0}
 AreNumbered from (n ∷ ns) = (n.label ≡ from) × AreNumbered (suc from) ns
 
--- the position of a label's node, the length where there is none
+-- the position of the node with this label, or the length if there is none
 abbrev pub position_of : List Labelled → (label : ℕ) → ℕ
 position_of [] label = 0
 position_of (n ∷ ns) label = if n.label == label then 0 else suc (position_of ns label)

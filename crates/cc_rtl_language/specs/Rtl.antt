@@ -1,5 +1,5 @@
--- RTL: the code of a function as a graph of labelled nodes over pseudo-registers, of which there are as many as are wanted. Its syntax as
--- data, and what one node does; the run of a function is then that of every intermediate language (`Rattle.cc_simulation.specs.Run`).
+-- RTL: the code of a function as a graph of labelled nodes over any number of pseudo-registers. This file has its syntax as data,
+-- and what one node does; the run of a function is then that of every intermediate language (`Rattle.cc_simulation.specs.Run`).
 use Rattle.std.specs.Prelude.{◌≡◌, ◌≢◌, ℕ, ◌<◌, ◌≤◌, ◌==◌, List, [], ◌∷◌, length, map, get_or, Contains, Option, Some, None, IsSome, if◌then◌else◌}
 use Rattle.cc_words.specs.declared.operators.Unary as one
 use Rattle.cc_words.specs.declared.operators.Binary as two
@@ -10,7 +10,7 @@ use Rattle.cc_simulation.specs.Run.{Move as Moving, Goes, Calls, Returns, tried}
 
 -- ---- syntax
 
--- a node: the register that gets a word, the registers that it reads, the label of the node that comes next
+-- a node: the register that gets a word, the registers that it reads, the label of the next node
 pub data Node : Type 0 where
   Nop : (next : ℕ) → Node
   Const : (to word next : ℕ) → Node
@@ -19,7 +19,7 @@ pub data Node : Type 0 where
   Binary : two.Binary → (to left right next : ℕ) → Node
   Load : (width : Width) → (object to index next : ℕ) → Node
   Store : (width : Width) → (object index from next : ℕ) → Node
-  -- a call's result goes to a register or is dropped
+  -- a call's result goes into a register or is dropped
   Call : (function : ℕ) → (arguments : List ℕ) → (to : Option ℕ) → (next : ℕ) → Node
   Read : (to next : ℕ) → Node
   Write : (from next : ℕ) → Node
@@ -36,12 +36,12 @@ pub record Rtl : Type 0 where
   pub entry : ℕ
   pub nodes : List Labelled
 
--- the node of a label
+-- the node with this label
 abbrev pub node_at : List Labelled → (label : ℕ) → Option Node
 node_at [] label = None
 node_at (n ∷ ns) label = if n.label == label then Some n.node else node_at ns label
 
--- ---- which functions there are
+-- ---- which functions exist
 
 -- the nodes that may come next
 abbrev pub successors : Node → List ℕ
@@ -71,7 +71,8 @@ abbrev pub Ascend : List Labelled → Type 0
 Ascend [] = Unit {0}
 Ascend (n ∷ ns) = IsBelowFirst n.label ns × Ascend ns
 
--- a function's labels ascend, each node leads to nodes, and the first is a nop that no node leads to; where that nop leads the code begins
+-- a function's labels ascend, each node leads to nodes, and the first is a nop that no node leads to; the code begins at the node
+-- after that nop
 pub record IsRtl (rtl : Rtl) : Type 0 where
   pub few : length rtl.nodes ≤ most_nodes
   pub ascend : Ascend rtl.nodes
@@ -84,7 +85,7 @@ pub record IsRtl (rtl : Rtl) : Type 0 where
 abbrev pub Registers : Type 0
 Registers = ℕ → ℕ
 
--- where a run is: the label of the node that is next, the words of the registers, what the functions share
+-- the state of a run: the label of the next node, the words of the registers, what the functions share
 pub record Configuration : Type 0 where
   pub label : ℕ
   pub registers : Registers
@@ -97,7 +98,7 @@ at label registers world = record { label = label; registers = registers; world 
 abbrev pub put : (to word : ℕ) → Registers → Registers
 put to word r x = if to == x then word else r x
 
--- a result is put into its register, where it has one
+-- a result is put into its register, if it has one
 abbrev pub put_result : (to : Option ℕ) → (word : ℕ) → Registers → Registers
 put_result None word r = r
 put_result (Some to) word r = put to word r
@@ -106,7 +107,7 @@ put_result (Some to) word r = put to word r
 abbrev pub answered : (to : Option ℕ) → (next : ℕ) → Registers → Answer → Configuration
 answered to next r a = at next (put_result to a.value r) a.world
 
--- where a branch goes
+-- the label that a branch leads to
 abbrev pub branched : (word if_nonzero if_zero : ℕ) → ℕ
 branched word if_nonzero if_zero = if word == 0 then if_zero else if_nonzero
 
@@ -125,7 +126,7 @@ node_move (Write from next) r h = Goes (at next r (after_write (r from) h))
 node_move (Branch from if_nonzero if_zero) r h = Goes (at (branched (r from) if_nonzero if_zero) r h)
 node_move (Return from) r h = Returns (record { value = r from; world = h })
 
--- where there is no node the run goes wrong
+-- without a node at its label the run goes wrong
 abbrev pub rtl_move : Rtl → Configuration → Moving Configuration
 rtl_move rtl c = tried (node_at rtl.nodes c.label) (λ node. node_move node c.registers c.world)
 
@@ -133,6 +134,6 @@ rtl_move rtl c = tried (node_at rtl.nodes c.label) (λ node. node_move node c.re
 abbrev pub rtl_output : Configuration → List ℕ
 rtl_output c = c.world.output
 
--- where the run of a function begins: register i holds argument i, the others 0
+-- the beginning of a function's run: register i holds argument i, the others 0
 abbrev pub rtl_start : Rtl → (arguments : List ℕ) → World → Configuration
 rtl_start rtl arguments world = at rtl.entry (λ r. get_or arguments r 0) world

@@ -1,4 +1,4 @@
--- Each node leads to nodes, said of lists.
+-- That each node leads to nodes, in terms of lists.
 pub mod Leading
 -- The nodes as moves.
 pub mod Moves

@@ -1,4 +1,4 @@
-// Nodes that become nops.
+// Turning nodes into nops.
 
 ghost use Rattle.std.specs.Prelude.{◌≡◌, ◌==◌, All, IsSome, Some, MatchOption, option_map};
 ghost use Rattle.cc_rtl_language.specs.Rtl as rtl;
@@ -9,7 +9,7 @@ ghost use Rattle.cc_rtl_language.specs.Live.{as_nop, with_nops, among};
 use crate::node::Node;
 use cc_instr_list::InstrList;
 
-/// The nodes of these labels become nops, as far as they are pure.
+/// Turns the nodes with these labels into nops, as far as they are pure.
 pub fn make_all_nops(nodes: &mut InstrList<Node>, labels: &[u32])
     requires ascend { Ascend (labelled_of nodes.old.entries) }
     requires there { All (λ l. IsSome (node_at (labelled_of nodes.old.entries) l)) labels.now }
@@ -20,7 +20,7 @@ pub fn make_all_nops(nodes: &mut InstrList<Node>, labels: &[u32])
     }
 }
 
-/// The node of a label becomes a nop, if it is pure.
+/// Turns the node with this label into a nop, if it is pure.
 fn make_nop(nodes: &mut InstrList<Node>, label: u32)
     requires ascend { Ascend (labelled_of nodes.old.entries) }
     requires there { IsSome (node_at (labelled_of nodes.old.entries) label) }
@@ -31,7 +31,7 @@ fn make_nop(nodes: &mut InstrList<Node>, label: u32)
     }
 }
 
-/// Where the node of a label goes on, if it is pure and no nop.
+/// The label that follows the node with this label, if the node is pure and not a nop.
 fn pure_next(nodes: &InstrList<Node>, label: u32) -> Option<u32>
     ensures { MatchOption result (option_map as_nop (node_at (labelled_of nodes.now.entries) label) ≡ node_at (labelled_of nodes.now.entries) label) (λ next. option_map as_nop (node_at (labelled_of nodes.now.entries) label) ≡ Some (rtl.Nop next)) }
 {

@@ -1,4 +1,4 @@
-// RTL as text: the parameters and the entry, and a line for each node.
+// The text of RTL: the parameters and the entry, and a line for each node.
 
 use crate::node::Node;
 use crate::rtl::Rtl;

@@ -1,9 +1,14 @@
 //! RTL as a language: the code of a function as a graph of labelled nodes over pseudo-registers.
 //!
-//! `node` has the syntax, `rtl` the type of a function, `display` its text, `pair` the type that keeps that a function's RTL does what
-//! the function does. A function's nodes stand in an instruction list (`cc_instr_list`). `dead` makes nops of nodes that nobody needs,
-//! `positions` shows a function as the graph that dataflow takes, `laws` says what holds of every function. How RTL is made of Cminor
-//! is the matter of `cc_rtl`, so that what works on RTL need not wait for it.
+//! - `node`: the syntax.
+//! - `rtl`: the type of a function, whose nodes are in an instruction list (`cc_instr_list`).
+//! - `display`: the text of a function.
+//! - `pair`: the type that guarantees that a function's RTL does what the function does.
+//! - `dead`: turns nodes that are not needed into nops.
+//! - `positions`: a function as the graph for dataflow.
+//! - `laws`: what holds of every function.
+//!
+//! `cc_rtl` makes RTL of Cminor; a crate that works on RTL does not have to wait for it.
 #![tactic(auto)]
 
 mod dead;

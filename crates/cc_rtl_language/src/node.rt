@@ -3,7 +3,7 @@
 use cc_words::{Binary, Unary, Width};
 use smallvec::SmallVec;
 
-/// A node: a pseudo-register `to` that gets a word, the pseudo-registers that it reads, and the label of the node that comes next.
+/// A node: a pseudo-register `to` that gets a word, the pseudo-registers that it reads, and the label of the next node.
 #[derive(Drop)]
 pub enum Node {
     /// Does nothing.
@@ -26,7 +26,7 @@ pub enum Node {
         from: u32,
         next: u32,
     },
-    /// Goes wrong where the operator has no answer.
+    /// Goes wrong if the operator has no value.
     Binary {
         operator: Binary,
         to: u32,
@@ -34,7 +34,8 @@ pub enum Node {
         right: u32,
         next: u32,
     },
-    /// Takes an element, so wide, of an object; goes wrong where there is none, or the object's elements have another width.
+    /// Takes an element of this width of an object; goes wrong if there is no such element, or the object's elements have another
+    /// width.
     Load {
         width: Width,
         object: u32,
@@ -42,7 +43,8 @@ pub enum Node {
         index: u32,
         next: u32,
     },
-    /// Sets an element, so wide, of an object; goes wrong where there is none, or the object's elements have another width.
+    /// Sets an element of this width of an object; goes wrong if there is no such element, or the object's elements have another
+    /// width.
     Store {
         width: Width,
         object: u32,
@@ -50,24 +52,24 @@ pub enum Node {
         from: u32,
         next: u32,
     },
-    /// Calls a function. Its result goes to a pseudo-register or is dropped.
+    /// Calls a function. Its result goes into a pseudo-register or is dropped.
     Call {
         function: u32,
         arguments: SmallVec<u32, 8>,
         to: Option<u32>,
         next: u32,
     },
-    /// Takes the next word of the input, or 0 where none is left.
+    /// Takes the next word of the input, or 0 if none is left.
     Read {
         to: u32,
         next: u32,
     },
-    /// Puts a word after the output.
+    /// Appends a word to the output.
     Write {
         from: u32,
         next: u32,
     },
-    /// Goes on at one label where the word is not 0, at the other where it is.
+    /// Continues at one label if the word is not 0, at the other if it is.
     Branch {
         from: u32,
         if_nonzero: u32,

@@ -1,4 +1,4 @@
-// The RTL of one function of a unit, with the fact that its run keeps up with the function.
+// The RTL of one function of a unit, with the guarantee that its run keeps up with the function.
 
 ghost use Rattle.std.specs.Prelude.{◌≡◌, ◌<◌, [], ◌∷◌, length, All, IsSome};
 ghost use Rattle.std.specs.Arc.{arc_value};
@@ -14,8 +14,8 @@ use cc_types::TypedUnit;
 use std::marker::Model;
 use std::sync::Arc;
 
-/// The RTL of one function of a typed unit. Contracts see the unit, the function's number and the RTL; that its run follows the
-/// function's meaning belongs to the type, so nobody holds a pair of which it is not true.
+/// The RTL of one function of a typed unit. Contracts see the unit, the function's number and the RTL. The type guarantees that
+/// its run follows the function's meaning, so no pair exists for which this is false.
 pub struct RtlPair {
     mode: Mode,
     unit: Arc<TypedUnit>,
@@ -23,7 +23,7 @@ pub struct RtlPair {
     code: Rtl,
 }
 
-// By hand, so that crates above call it and do not prove anew how each part is dropped.
+// Written by hand, so that the crates above use this proof and need not show again how each part is dropped.
 impl Drop for RtlPair {
     fn drop(self) {
         let RtlPair {
@@ -52,7 +52,7 @@ impl Model for RtlPair {
 }
 
 impl RtlPair {
-    /// The pair of a function whose RTL is proved to keep up with it: what the type keeps is asked for here. It takes no memory.
+    /// Makes a pair of a function whose RTL keeps up with it; the caller shows what the type guarantees. Takes no memory.
     pub fn new(mode: Mode, unit: Arc<TypedUnit>, function: usize, code: Rtl) -> RtlPair
         requires { IsPair (record { mode = mode; unit = arc_value unit; function = function; rtl = code }) }
         ensures { result ≡ record { mode = mode; unit = arc_value unit; function = function; rtl = code } }
@@ -87,9 +87,9 @@ impl RtlPair {
         self.function
     }
 
-    /// The code. Its parameters are the function's, and parameter i is pseudo-register i; each call in it has its function's number of
-    /// arguments; its labels ascend, each node leads to nodes, and the entry is a nop that no node leads to; its run keeps up with the
-    /// function, and so follows it.
+    /// The code. Its parameters are the function's, and parameter i is pseudo-register i. Each call in it has its function's
+    /// number of arguments. Its labels ascend, each node leads to nodes, and the entry is a nop that no node leads to. Its run
+    /// keeps up with the function, and so follows it.
     pub fn code(&self) -> &Rtl
         ensures code { result.now ≡ self.now.rtl }
         ensures rtl { IsRtl self.now.rtl }
@@ -102,8 +102,8 @@ impl RtlPair {
         &self.code
     }
 
-    /// The nodes of these labels become nops: they are pure, and some live sets of the code with the nops hold none of their results
-    /// behind them. Nothing else changes, and it takes no memory.
+    /// Turns the nodes with these labels into nops. The caller shows that they are pure, and that their results are in no live
+    /// set after them, for some live sets of the code with the nops. Nothing else changes. Takes no memory.
     pub fn make_nops(&mut self, labels: &[u32])
         requires there { All (λ l. IsSome (node_at self.old.rtl.nodes l)) labels.now }
         requires dead { MayGo labels.now self.old.rtl }
@@ -112,7 +112,7 @@ impl RtlPair {
         self.code.make_nops(labels);
     }
 
-    /// The node of one label becomes a nop, under the same condition.
+    /// Turns the node with one label into a nop, under the same condition.
     pub fn make_nop(&mut self, label: u32)
         requires there { IsSome (node_at self.old.rtl.nodes label) }
         requires dead { MayGo (label ∷ []) self.old.rtl }
@@ -121,7 +121,7 @@ impl RtlPair {
         self.make_nops(&[label]);
     }
 
-    /// The unit's owner, for the pair of the next language.
+    /// Gives up the pair and returns the unit's owner, for the pair of the next language.
     pub fn into_unit(self) -> Arc<TypedUnit>
         ensures answer { arc_value result ≡ self.unit }
     {

@@ -1,4 +1,4 @@
-// The nodes of a function as dataflow counts them: by their positions, with the graph of their successors.
+// The nodes of a function by their positions, as dataflow numbers them, with the graph of their successors.
 
 ghost use Rattle.std.specs.Prelude.{◌≡◌, ◌<◌, ◌++◌, length, map, slice_set, All, IsSome, IfOk};
 ghost use Rattle.cc_flow.specs.Flow.{successors_of};
@@ -11,7 +11,7 @@ use crate::rtl::Rtl;
 use cc_flow::Graph;
 use std::alloc::{AllocError, Global};
 
-/// The graph of a function: from each node to its successors.
+/// Returns the graph of a function: from each node to its successors.
 pub fn graph(alloc: Global, rtl: &Rtl) -> Result<Graph, AllocError>
     ensures { IfOk result (λ graph. graph ≡ graph_of rtl.now.nodes) }
 {
@@ -23,7 +23,7 @@ pub fn graph(alloc: Global, rtl: &Rtl) -> Result<Graph, AllocError>
     Ok(graph)
 }
 
-/// Leads one node to its successors.
+/// Adds the edges from one node to its successors.
 fn add_edges(graph: &mut Graph, rtl: &Rtl, at: usize, node: &Node) -> Result<(), AllocError>
     requires inside { All (λ s. IsSome (node_at rtl.now.nodes s)) (successors (node_of node.now)) }
     requires long { length graph.old ≡ length rtl.now.nodes }

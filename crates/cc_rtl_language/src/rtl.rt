@@ -1,7 +1,8 @@
 // A function of RTL: its nodes, in an instruction list.
 //
-// The list's labels are the nodes': they are the numbers from 0 on, and ascend along the code as it was made. So a label is its node's
-// position too, and a node is found in constant time; an edit puts another node in its place under the same label.
+// The list's labels are the nodes' labels. They are the numbers from 0 on, and ascend along the code as it was made. So a label
+// is also its node's position, and a node is found in constant time. An edit puts another node in its place, under the same
+// label.
 
 ghost use Rattle.std.specs.Prelude.{◌≡◌, ◌<◌, ◌≤◌, length, slice_get, Some, All, IsSome, IfOk, MatchOption};
 ghost use Rattle.cc_rtl_language.specs.Rtl.{IsRtl, most_nodes, node_at};
@@ -17,16 +18,16 @@ use cc_instr_list::InstrList;
 use std::alloc::{AllocError, Global};
 use std::marker::Model;
 
-/// A function: its number of parameters, which are the pseudo-registers from 0 on, the label of the node that it begins with, and its
-/// nodes, at most 4,096, whose labels are the numbers from 0 on. Each node leads to nodes, and the first is a nop that no node leads to.
-/// Clauses see these parts.
+/// A function: how many parameters it has (the first pseudo-registers), the label of the node that it begins with, and its nodes.
+/// There are at most 4,096 nodes, whose labels are the numbers from 0 on. Each node leads to nodes, and the first is a nop that
+/// no node leads to. Clauses see these parts.
 pub struct Rtl {
     parameters: u32,
     entry: u32,
     nodes: InstrList<Node>,
 }
 
-// By hand, so that crates above call it and do not prove anew how each part is dropped.
+// Written by hand, so that the crates above use this proof and need not show again how each part is dropped.
 impl Drop for Rtl {
     fn drop(self) {
         let Rtl {
@@ -50,7 +51,7 @@ impl Model for Rtl {
 }
 
 impl Rtl {
-    /// The function of these nodes, labelled from 0 on, whose entry and edges lead to nodes. It takes no memory.
+    /// Makes a function of these nodes, labelled from 0 on, whose entry and edges lead to nodes. Takes no memory.
     pub fn new(parameters: u32, entry: u32, nodes: InstrList<Node>) -> Rtl
         requires rtl { IsRtl (record { parameters = parameters; entry = entry; nodes = labelled_of nodes.entries }) }
         requires numbered { AreNumbered 0 (labelled_of nodes.entries) }
@@ -87,7 +88,7 @@ impl Rtl {
         self.nodes.len()
     }
 
-    /// The node of a position, which is its label; `None` past the last.
+    /// The node at a position, which is also its label; `None` past the last node.
     pub fn at(&self, position: usize) -> Option<&Node>
         ensures { MatchOption result (length self.now.nodes ≤ position) (λ node. slice_get self.now.nodes position ≡ Some (record { label = position; node = node_of node.now })) }
     {
@@ -98,7 +99,7 @@ impl Rtl {
         }
     }
 
-    /// The node of a position that is there.
+    /// The node at a position that exists.
     pub fn node(&self, position: usize) -> &Node
         requires { position < length self.now.nodes }
         ensures { slice_get self.now.nodes position ≡ Some (record { label = position; node = node_of result.now }) }
@@ -109,7 +110,7 @@ impl Rtl {
         }
     }
 
-    /// The position of the node of a label among the nodes, in constant time.
+    /// The position of the node with this label, in constant time.
     pub fn position(&self, label: u32) -> usize
         requires { IsSome (node_at self.now.nodes label) }
         ensures position { result ≡ position_of self.now.nodes label }
@@ -119,14 +120,14 @@ impl Rtl {
         label as usize
     }
 
-    /// The graph of the nodes by their positions, for `cc_flow`.
+    /// Returns the graph of the nodes by their positions, for `cc_flow`. `AllocError` if memory runs out.
     pub fn graph(&self, alloc: Global) -> Result<Graph, AllocError>
         ensures { IfOk result (λ graph. graph ≡ graph_of self.now.nodes) }
     {
         graph_of_nodes(alloc, self)
     }
 
-    // The nodes of these labels become nops, as far as they are pure. It takes no memory.
+    // Turns the nodes with these labels into nops, as far as they are pure. Takes no memory.
     pub(crate) fn make_nops(&mut self, labels: &[u32])
         requires { All (λ l. IsSome (node_at self.old.nodes l)) labels.now }
         ensures { self.new ≡ without labels.now self.old }

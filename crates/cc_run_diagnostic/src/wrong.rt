@@ -1,10 +1,10 @@
 // What is told of a run that went wrong.
 
-use super::replay::{Replay, Trouble, Wrong};
-use cc_diagnostic::{Bytecode, Diagnostic, Element, MessagePart, TypedOperator, code_of, message};
+use super::calls::of_calls;
+use cc_diagnostic::{Diagnostic, Element, MessagePart, TypedOperator, message};
 use cc_meaning::{Cause, MOST_OPEN};
-use cc_resolve::lay_out;
 use cc_syntax::{BinaryOperator, Identifier, SyntaxFault, Unit, parse};
+use cc_trace::{Replay, Traced, Trouble, Watch, Wrong, traced_unit, words_of};
 use std::alloc::{AllocError, Global};
 
 fn of_index<'a>(
@@ -98,26 +98,6 @@ fn message_of<'a>(
     }
 }
 
-fn place(wrong: Wrong<'_>) -> usize {
-    match wrong {
-        Wrong::Index(element, _) => element.array.at,
-        Wrong::Operation(operation, _, _) => operation.at,
-        Wrong::Depth(name) => name.at,
-    }
-}
-
-// Whether what goes wrong has this cause.
-fn has_cause(wrong: Wrong<'_>, cause: Cause) -> bool {
-    match wrong {
-        Wrong::Index(_, _) => cause == Cause::Index,
-        Wrong::Depth(_) => cause == Cause::Depth,
-        Wrong::Operation(operation, _, _) => match operation.operator {
-            BinaryOperator::ShiftLeft | BinaryOperator::ShiftRight => cause == Cause::Shift,
-            _ => cause == Cause::Division,
-        },
-    }
-}
-
 fn told(alloc: Global, trouble: Trouble<'_>) -> Result<Diagnostic, AllocError> {
     let function = match trouble.function {
         Some(name) => MessagePart::Name(name.bytes.as_slice()),
@@ -125,7 +105,7 @@ fn told(alloc: Global, trouble: Trouble<'_>) -> Result<Diagnostic, AllocError> {
     };
     let message = message_of(alloc, trouble.wrong, function)?;
     Ok(Diagnostic {
-        at: Some(place(trouble.wrong)),
+        at: Some(trouble.wrong.at()),
         message,
         related: None,
     })
@@ -139,12 +119,11 @@ struct Run<'a> {
     cause: Cause,
 }
 
-// The words of a unit's objects as a run begins.
-fn words(alloc: Global, unit: &Unit) -> Result<Vec<u32>, AllocError> {
-    let mut words = Vec::new(alloc);
-    let layout = lay_out(alloc, &mut words, unit.externals())?;
-    drop(layout);
-    Ok(words)
+/// What is told of a run that went wrong: what did, and the calls that were open, the innermost first.
+#[derive(Drop)]
+pub struct WrongRun {
+    pub first: Diagnostic,
+    pub calls: Vec<Diagnostic>,
 }
 
 // What is told of a replay that calls a function that no other calls, where it goes wrong for a cause.
@@ -153,43 +132,49 @@ fn of_replay(
     replay: Replay<'_>,
     main: usize,
     cause: Cause,
-) -> Result<Option<Diagnostic>, AllocError> {
+) -> Result<Option<WrongRun>, AllocError> {
     let mut replay = replay;
-    match replay.run(main)? {
-        Some(trouble) if has_cause(trouble.wrong, cause) => Ok(Some(told(alloc, trouble)?)),
+    replay.run(main)?;
+    match replay.trouble() {
+        Some(trouble) if trouble.wrong.cause() == cause => Ok(Some(WrongRun {
+            first: told(alloc, trouble)?,
+            calls: of_calls(alloc, &replay)?,
+        })),
         _ => Ok(None),
     }
 }
 
-// What is told of a run of a unit that becomes this code.
+// What is told of a run of a unit that becomes this.
 fn of_code(
     alloc: Global,
     unit: &Unit,
-    code: &Bytecode<'_>,
+    traced: &Traced<'_>,
     run: Run<'_>,
-) -> Result<Option<Diagnostic>, AllocError> {
-    let words = words(alloc, unit)?;
-    let Some(main) = code.function(b"main") else {
+) -> Result<Option<WrongRun>, AllocError> {
+    let words = words_of(alloc, unit)?;
+    let Some(main) = traced.main() else {
         return Ok(None);
     };
+    let watch = Watch::nothing(alloc);
     let replay = Replay::new(
         alloc,
-        code.instructions.as_slice(),
-        code.functions.as_slice(),
+        traced.program(),
         run.input,
+        None,
         words,
         run.steps,
+        watch,
     );
     of_replay(alloc, replay, main, run.cause)
 }
 
 // What goes wrong in a run of a unit.
-fn of_unit(alloc: Global, unit: &Unit, run: Run<'_>) -> Result<Option<Diagnostic>, AllocError> {
-    let Some(code) = code_of(alloc, unit)? else {
+fn of_unit(alloc: Global, unit: &Unit, run: Run<'_>) -> Result<Option<WrongRun>, AllocError> {
+    let Some(traced) = traced_unit(alloc, unit)? else {
         return Ok(None);
     };
-    let told = of_code(alloc, unit, &code, run);
-    drop(code);
+    let told = of_code(alloc, unit, &traced, run);
+    drop(traced);
     told
 }
 
@@ -205,6 +190,23 @@ pub fn of_wrong(
     steps: u64,
     cause: Cause,
 ) -> Result<Option<Diagnostic>, AllocError> {
+    match of_wrong_run(alloc, text, input, steps, cause)? {
+        Some(WrongRun { first, calls }) => {
+            drop(calls);
+            Ok(Some(first))
+        }
+        None => Ok(None),
+    }
+}
+
+/// The same, with the calls that were open.
+pub fn of_wrong_run(
+    alloc: Global,
+    text: &[u8],
+    input: &[u32],
+    steps: u64,
+    cause: Cause,
+) -> Result<Option<WrongRun>, AllocError> {
     match parse(alloc, text) {
         Ok(unit) => {
             let run = Run {

@@ -1,4 +1,5 @@
--- What a run comes to by two numbers of instructions: it goes by fewer if it goes by more, and what has ended stays so.
+-- A run within two numbers of instructions: if it is going within the larger one it is going within the smaller one, and what has ended
+-- stays so.
 use Rattle.std.proofs.Common.{◌≡◌, ◌⊎◌, inl, inr, ℕ, ◌+◌, ◌-◌, ◌<◌, ◌≤◌, true, List, Option, Some, Result, Ok, Err, refl, sym, ap, subst, ◌∙◌, arith}
 use Rattle.std.specs.Prelude.{IfOk, IfSome, is_some}
 use Rattle.cc_rv32.specs.declared.image.Image.{Image}
@@ -20,11 +21,11 @@ either : (A : Type 0) → A ⊎ (A → ⊥) → ((A → ⊥) → A) → A
 either A (inl a) f = a
 either A (inr other) f = f other
 
--- at its start it goes
+-- at its start it is going
 pub begins : (image : Image) (words : List ℕ) → (machine_behavior image words 0).outcome ≡ Going
 begins image words = ap (λ (r : Run). r.outcome) (machine_run-none image.code 0 (start image words) refl)
 
--- what has ended by fewer instructions is the same by more
+-- what has ended within fewer instructions is the same within more
 pub stays : (image : Image) (words : List ℕ) (n m : ℕ) → n ≤ m → ((machine_behavior image words n).outcome ≡ Going → ⊥) → machine_behavior image words m ≡ machine_behavior image words n
 stays image words n m le ended =
     let first : Run = start image words in
@@ -34,13 +35,13 @@ stays image words n m le ended =
     let still : machine_run image.code (m - n) then ≡ then = machine_run-ended image.code (m - n) then.state then.outcome ended in
     ap seen (ap (λ (k : ℕ). machine_run image.code k first) parts ∙ (on ∙ still))
 
--- what goes by more instructions goes by fewer
+-- what is going within more instructions is going within fewer
 pub goes_before : (image : Image) (words : List ℕ) (n m : ℕ) → n ≤ m → (machine_behavior image words m).outcome ≡ Going → (machine_behavior image words n).outcome ≡ Going
 goes_before image words n m le going =
     either ((machine_behavior image words n).outcome ≡ Going) (going_or_not (machine_behavior image words n).outcome)
     (λ other. sym (ap (λ (b : Behavior). b.outcome) (stays image words n m le other)) ∙ going)
 
--- one instruction more of a run that goes
+-- a run that is going, with one more instruction
 pub goes_until : (image : Image) (words : List ℕ) (done : ℕ) → ((n : ℕ) → n < done → (machine_behavior image words n).outcome ≡ Going) → (machine_behavior image words done).outcome ≡ Going
     → (n : ℕ) → n < done + 1 → (machine_behavior image words n).outcome ≡ Going
 goes_until image words done before here n less = goes_before image words n done (omega arith) here
@@ -61,7 +62,7 @@ counted image words steps done left parts before (inr ended) =
       bound = λ going. absurd (ended (sym (ap (λ (b : Behavior). b.outcome) same) ∙ going));
     }
 
--- the machine after a count has what is told of the run
+-- the machine after a count has the output and the result of the run
 pub whole : (image : Image) (words : List ℕ) (steps done left : ℕ) (m : Simulation) (outcome : MachineOutcome) → done + left ≡ steps → IsCount image steps words done → IsAfter image words done m
     → outcome ≡ (machine_behavior image words done).outcome → (r : CountedRun) → r.run.output.items ≡ m.output → (r.run.outcome ≡ outcome) × (r.executed ≡ Some (steps - left))
     → IsCounted image true steps words r
@@ -76,7 +77,7 @@ whole image words steps done left m outcome parts count after told r output is =
       count = subst (λ (e : Option ℕ). IfSome e (IsCount image steps words)) (sym is.1) (subst (λ (n : ℕ). IsCount image steps words n) number count);
     }
 
--- what an answer has by two facts
+-- a property of an answer that follows from two others
 pub by_both : {A E : Type 0} (P Q R : A → Type 0) → ((a : A) → P a → Q a → R a) → (r : Result A E) → IfOk r P → IfOk r Q → IfOk r R
 by_both P Q R step (Ok a) p q = step a p q
 by_both P Q R step (Err e) p q = tt

@@ -1,3 +1,4 @@
--- A run that has ended stays so, and one that goes went before (Counting); the words of a line, one after the other (Reading).
+-- A run that has ended stays so, and one that is going was going before.
 pub mod Counting
+-- The words of a line, one after the other.
 pub mod Reading

@@ -1,4 +1,4 @@
--- How many instructions a run takes.
+-- The number of instructions of a run.
 use Rattle.std.specs.Prelude.{◌≡◌, ◌≤◌, ◌<◌, ℕ, Bool, List, IfSome, is_some}
 use Rattle.cc_rv32.specs.declared.image.Image.{Image}
 use Rattle.cc_rv32.specs.declared.outcome.MachineOutcome.TheVariants.{Going}
@@ -6,14 +6,14 @@ use Rattle.cc_rv32.specs.Machine.{machine_behavior}
 use Rattle.cc_answers.specs.Run.{IsRunOf}
 use Rattle.cc_runs.specs.declared.count.CountedRun.{CountedRun}
 
--- the least number of instructions with the end that the run has within the bound; the bound, if the run still goes then
+-- the least number of instructions with the result that the run has within the bound; the bound, if the run is still going then
 pub record IsCount (image : Image) (steps : ℕ) (words : List ℕ) (count : ℕ) : Type 0 where
   pub within : count ≤ steps
-  -- by then it has written and come to what it has within the bound
+  -- within the count the run has the same output and result as within the bound
   pub comes : machine_behavior image words count ≡ machine_behavior image words steps
-  -- with fewer it still goes
+  -- with fewer it is still going
   pub going : (n : ℕ) → n < count → (machine_behavior image words n).outcome ≡ Going
-  -- of a run that does not end it is the bound
+  -- for a run that does not end it is the bound
   pub bound : (machine_behavior image words steps).outcome ≡ Going → count ≡ steps
 
 -- what an image does on the input words within the bound, and its count exactly if that is asked for

@@ -1,8 +1,8 @@
--- How many instructions a run takes.
+-- The number of instructions of a run.
 pub mod Count
--- The input words that a line of text has.
+-- The input words in a line of text.
 pub mod Words
--- What is written of a run.
+-- What is written for a run.
 pub mod Written
--- What only private contracts speak of.
+-- Definitions for private contracts.
 pub mod internal

@@ -1,4 +1,4 @@
--- What is written of a run.
+-- What is written for a run.
 use Rattle.std.specs.Prelude.{ℕ, List, [], ◌++◌, Option, Some, None, codes}
 use Rattle.std.specs.Fmt.{decimal}
 use Rattle.cc_answers.specs.Text.{line, run_text}
@@ -9,6 +9,6 @@ abbrev pub count_text : Option ℕ → List ℕ
 count_text None = []
 count_text (Some count) = line (codes "executed " ++ decimal count)
 
--- what `run` writes of it, and the line of its count
+-- what `run` writes for it, and the line of its count
 abbrev pub counted_text : CountedRun → List ℕ
 counted_text done = run_text done.run ++ count_text done.executed

@@ -1,14 +1,12 @@
-// How many instructions a run takes.
+// Counts the instructions of a run.
 //
-// A machine tells what its run has come to, and not when. So one machine goes on in slices, up to the slice in which its run ends; a second one
-// goes as far at once, and then instruction by instruction.
+// A machine says what its run has come to, but not after how many instructions. So one machine goes on in slices, up to the slice in which
+// its run ends. A second one goes up to that slice at once, and then instruction by instruction.
 
 ghost use Rattle.std.specs.Prelude.{◌≡◌, ◌≤◌, true, IfOk, Some};
 ghost use Rattle.cc_rv32.specs.Machine.{machine_behavior};
-ghost use Rattle.cc_rv32.specs.declared.outcome.MachineOutcome.{MachineOutcome as Outcome};
 ghost use Rattle.cc_rv32.specs.declared.outcome.MachineOutcome.TheVariants.{Going};
-ghost use Rattle.cc_answers.specs.Run.{IsRunOf};
-ghost use Rattle.cc_runs.specs.Count.{IsCount, IsCounted};
+ghost use Rattle.cc_runs.specs.Count.{IsCounted};
 
 use cc_answers::{ImageRun, run_image};
 use cc_rv32::image::Image;
@@ -16,17 +14,17 @@ use cc_rv32::machine::Machine;
 use cc_rv32::outcome::MachineOutcome;
 use std::alloc::{AllocError, Global};
 
-// How many instructions the first machine does between two looks.
+// The first machine does this many instructions between two looks.
 const SLICE: u64 = 65_536;
 
-/// What an image has written, what its run has come to, and of how many instructions, if that is asked for.
+/// What an image has written, how its run ended, and after how many instructions, if that is asked for.
 #[derive(Drop)]
 pub struct CountedRun {
     pub run: ImageRun,
     pub executed: Option<u64>,
 }
 
-// A number of instructions within the bound by which the run still goes: that of all slices before the one in which it ends.
+// A number of instructions within the bound after which the run is still going: those of all slices before the one in which it ends.
 fn going_for(alloc: Global, image: &Image, words: &[u32], steps: u64) -> Result<u64, AllocError>
     ensures within { IfOk result (λ done. done ≤ steps) }
     ensures going { IfOk result (λ done. (machine_behavior image.now words.now done).outcome ≡ Going) }
@@ -47,7 +45,7 @@ fn going_for(alloc: Global, image: &Image, words: &[u32], steps: u64) -> Result<
     Ok(steps - left)
 }
 
-// What a machine has written, and what its run has come to.
+// What a machine has written, and how its run ended.
 fn run_so_far(
     alloc: Global,
     machine: &Machine,
@@ -66,8 +64,8 @@ fn run_so_far(
     }
 }
 
-/// What an image does on the input words within this many instructions, and the least number of instructions with that end; of a run that still
-/// goes then, the bound. `AllocError` where memory was refused as it ran.
+/// What an image does on the input words within this many instructions, and the least number of instructions with that result; the bound,
+/// if the run is still going then. `AllocError` if memory was refused during the run.
 pub fn run_counted(
     alloc: Global,
     image: &Image,
@@ -96,7 +94,7 @@ pub fn run_counted(
     run_so_far(alloc, &machine, outcome, steps - left)
 }
 
-/// What an image does on the input words within this many instructions, counted if that is asked for.
+/// What an image does on the input words within this many instructions, counted if `is_counted`. `AllocError` if memory was refused.
 pub fn run_words(
     alloc: Global,
     image: &Image,

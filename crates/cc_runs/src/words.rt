@@ -1,4 +1,4 @@
-// The input words that a line of text has.
+// The input words in a line of text.
 
 ghost use Rattle.std.specs.Prelude.{◌≡◌, ◌<◌, IfOk, IfSome, length, option_map};
 ghost use Rattle.cc_script.specs.Line.{number_in, words};
@@ -7,7 +7,7 @@ ghost use Rattle.cc_runs.specs.internal.Cutting.{words_behind};
 
 use std::alloc::{AllocError, Global};
 
-// The most digits of a word.
+// A word has at most this many digits.
 const MOST_DIGITS: usize = 10;
 
 // The first word of a line, and what comes after the space that ends it, if one does.
@@ -23,7 +23,7 @@ fn cut(line: &[u8]) -> (&[u8], Option<&[u8]>)
     (line, None)
 }
 
-// The word of these digits, if they are one's.
+// The word that these digits spell, if they spell one.
 fn word_in(bytes: &[u8]) -> Option<u32>
     ensures { result ≡ number_in 10 4294967295 bytes.now }
 {
@@ -44,8 +44,8 @@ fn word_in(bytes: &[u8]) -> Option<u32>
     }
 }
 
-/// The input words of a line, which is given without its newline: decimal numbers from 0 to 4294967295, of at most 10 digits, between single
-/// spaces. None where it has anything else.
+/// The input words in a line, which is given without its newline: decimal numbers from 0 to 4294967295, of at most 10 digits, between
+/// single spaces. None if the line has anything else.
 pub fn words_in(alloc: Global, line: &[u8]) -> Result<Option<Vec<u32>>, AllocError>
     ensures { IfOk result (λ words. option_map (λ w. w.items) words ≡ input_in line.now) }
 {

@@ -1,4 +1,4 @@
-// What is written of a run.
+// What is written for a run.
 
 ghost use Rattle.std.specs.Prelude.{OnOk};
 ghost use Rattle.std.specs.Io.KnownBytes.{Appends};
@@ -18,7 +18,7 @@ fn write_count<W: Write>(executed: Option<u64>, writer: &mut W) -> io::Result<()
     }
 }
 
-/// Writes the words, one a line, what the run has come to, and the line of its count, if that was asked for.
+/// Writes the output words, one on each line, how the run ended, and the line of its count, if that was asked for. Err: the writer failed.
 #[tactic(auto, using(cc_answers::proofs::Writing::written_on))]
 pub fn write_counted_run<W: Write>(done: &CountedRun, writer: &mut W) -> io::Result<()>
     ensures { OnOk result (Appends (W.contents writer.old) (W.contents writer.new) (counted_text done.now)) }

@@ -1,5 +1,5 @@
--- The digits of a word in base 16, one more at a time: where the highest digits of a word are written, the next one
--- behind them makes one more, and eight of them are the word's.
+-- The hexadecimal digits of a word, one at a time: after the highest digits of a word, the next digit makes one more, and eight
+-- of them are the whole word.
 use Rattle.std.proofs.Common.{◌≡◌, ℕ, ◌+◌, ◌-◌, ◌*◌, ◌/◌, ◌%◌, ◌^◌, ◌<◌, List, [], ◌∷◌, ◌++◌, sym, ◌∙◌, ap, arith, add-one, append_assoc, bit_and}
 use Rattle.std.proofs.Math.Nat.{div-div-eq-div-mul, div-one}
 use Rattle.std.proofs.lemmas.Nat.{pow-add, and_mask}
@@ -20,7 +20,7 @@ hexadecimal_more p w h =
     ∙ ap (λ q. hexadecimal q (w / 2 ^ (28 - 4 * p))) (sym (add-one p))
     ∙ ap (λ k. hexadecimal (p + 1) (w / 2 ^ k)) (sym index)
 
--- the next digit, written behind the ones before it
+-- the next digit, written after the ones before it
 pub digit_written : (p w d : ℕ) (before text written new : List ℕ) → p < 8 →
     text ≡ before ++ hexadecimal p (w / 2 ^ (32 - 4 * p)) →
     d ≡ hexadecimal_digit (bit_and (w / 2 ^ (28 - 4 * p)) 15) →

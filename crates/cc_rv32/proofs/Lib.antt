@@ -1,17 +1,33 @@
--- How the simulator is shown to be the machine. Code is decoded once into flat operations; each does what its instruction does (Flats,
--- Simulates), many of them what a run does (Running), and a service call ends such a stretch (Serving, Advancing).
+-- How the simulator is shown to be the machine. The code is decoded once into flat operations. Each does what its instruction
+-- does (Flats, Simulates), many of them do what a run does (Running), and a service call ends such a stretch (Serving,
+-- Advancing).
+-- encoding and decoding undo each other
 pub mod RoundTrip
+-- what holds of every flat operation
 pub mod Flats
+-- globals and stack, read and written at a word
 pub mod Memories
+-- high words of products with negative factors
 pub mod Products
+-- registers in a list, and a write to one
 pub mod Registers
+-- a flat operation does what its instruction does
 pub mod Simulates
+-- a run of flat operations is a run of the machine
 pub mod Running
+-- the services
 pub mod Serving
+-- the lists at the start represent the start
 pub mod Starting
+-- joining runs
 pub mod Chains
+-- flat operations, then a service or a trap
 pub mod Advancing
+-- a list followed by zeros
 pub mod Padding
+-- a machine some instructions after the start
 pub mod After
+-- one instruction after a run of flat operations
 pub mod Turning
+-- the hexadecimal digits of a word
 pub mod Digits

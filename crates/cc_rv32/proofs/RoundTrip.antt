@@ -1,5 +1,5 @@
--- The instruction of an instruction's word is that instruction, and the word of a word's instruction is that word.
--- The fields of a word made of fields are those fields, by linear arithmetic; the table then computes.
+-- The instruction of an instruction's word is that instruction, and the word of a word's instruction is that word. The fields of
+-- a word made of fields are those fields, by linear arithmetic; the table then computes.
 use Rattle.std.proofs.Common.{◌≡◌, ℕ, ◌+◌, ◌*◌, ◌%◌, ◌^◌, ◌<◌, Some, refl, ap, ◌∙◌, lit<, arith}
 use Rattle.std.proofs.lemmas.Bool.Decides.{nat_tests}
 use Rattle.cc_rv32.specs.declared.instr.Instr.{Instr}
@@ -173,7 +173,7 @@ branch_operation_below Bge = lit< tt
 branch_operation_below Bltu = lit< tt
 branch_operation_below Bgeu = lit< tt
 
--- what is cut off a word in range comes back with its sign
+-- a word in range, cut off and extended with its sign, is the word again
 sign_extended_immediate : (i : ℕ) → IsImmediate i → sign_extended 12 (i % 4096) ≡ i
 sign_extended_immediate i h = grind (arith, nat_tests)
 

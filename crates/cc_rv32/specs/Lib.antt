@@ -2,15 +2,16 @@
 pub mod Fields
 -- The instruction table: the instruction of each word, and the word of each instruction.
 pub mod Table
--- The memory map, the state, what each instruction does, and what a run comes to.
+-- The memory map, the state, what each instruction does, and what a run does.
 pub mod Machine
--- The state that lists of words stand for.
+-- The state that lists of words represent.
 pub mod Shown
--- A machine as contracts see it, and the run that it stands for.
+-- A machine as contracts see it, and the run that it represents.
 pub mod Simulation
 -- The listing of an image.
 pub mod Listing
--- Worked runs and lines, each by computation; no contract rests on them.
+-- Worked runs and lines, each by computation. No contract depends on them.
 pub mod rows
--- What private contracts and proofs speak of: the code decoded once, and the simulator's own state. Nobody has to believe it.
+-- Definitions that only private contracts and proofs use: the code decoded once, and the simulator's own state. A reader need not
+-- check them.
 pub mod internal

@@ -22,16 +22,16 @@ use Rattle.cc_rv32.specs.Machine.{code_from}
 
 -- ---- numbers
 
--- a digit of base 16, in lower case
+-- a hexadecimal digit, in lower case
 abbrev pub hexadecimal_digit : ℕ → ℕ
 hexadecimal_digit n = if nat_lt n 10 then 48 + n else 87 + n
 
--- the lowest digits of base 16, this many, the highest first
+-- this many of the lowest hexadecimal digits, the highest first
 abbrev pub hexadecimal : (digits w : ℕ) → List ℕ
 hexadecimal zero w = []
 hexadecimal (suc n) w = hexadecimal n (w / 16) ++ hexadecimal_digit (w % 16) ∷ []
 
--- a word as a signed number in base 10
+-- a word as a signed decimal number
 abbrev pub signed_text : ℕ → List ℕ
 signed_text w = signed_decimal (signed_value w)
 
@@ -123,7 +123,7 @@ abbrev pub word_text : Option Instr → List ℕ
 word_text None = codes ".word"
 word_text (Some i) = instruction_text i
 
--- the line of a word at an address
+-- the line for a word at an address
 unfoldable pub line : (a w : ℕ) → List ℕ
 line a w = hexadecimal 8 a ++ codes " " ++ hexadecimal 8 w ++ codes " " ++ word_text (instruction_of w) ++ codes "\n"
 
@@ -131,6 +131,6 @@ abbrev pub lines_from : (a : ℕ) (code : List ℕ) → List ℕ
 lines_from a [] = []
 lines_from a (w ∷ ws) = line a w ++ lines_from (a + 4) ws
 
--- the listing of an image: its code's words alone
+-- the listing of an image: only its code's words
 abbrev pub listing : Image → List ℕ
 listing image = lines_from code_from image.code

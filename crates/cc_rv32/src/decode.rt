@@ -1,4 +1,4 @@
-// The instruction of a word: its opcode chooses the form, funct3 and funct7 what it does.
+// The instruction of a word: its opcode decides the form, funct3 and funct7 what it does.
 
 ghost use Rattle.std.specs.Prelude.{◌≡◌, ◌<◌, ◌^◌, IfSome, Some, ◌+◌, ◌-◌, ◌%◌, ◌≢◌, ◌⊎◌, nat_lt, if◌then◌else◌};
 ghost use Rattle.cc_rv32.specs.Fields as fields;
@@ -10,8 +10,8 @@ use crate::instr::{
 };
 use crate::operand::{BranchOffset, Immediate, JumpOffset, Register, ShiftCount, UpperImmediate};
 
-/// The instruction of the word, by the table of the RISC-V unprivileged ISA (RV32I and M, without `fence`, `ebreak`
-/// and the control registers), or `None` where the word is in no row of it. Takes no memory.
+/// Returns the instruction of the word, by the table of the RISC-V unprivileged ISA (RV32I and M, without `fence`, `ebreak` and
+/// the control registers), or `None` if the word is in no row of the table. Takes no memory.
 #[tactic(auto, unfolding(crate::specs::Table::instruction_of, crate::specs::Table::encoding_of))]
 pub fn decode(word: u32) -> Option<Instr>
     ensures table { result ≡ instruction_of word }
@@ -282,7 +282,7 @@ fn count(word: u32) -> ShiftCount
     ShiftCount::new(((word >> 20) & 31) as u8)
 }
 
-/// The word of a number of this many bits in two's complement; `sign` is the weight of the highest of them.
+/// The word of a number of this many bits in two's complement. `sign` is the weight of the highest bit.
 fn sign_extended(number: u32, sign: u32) -> u32
     ensures { result ≡ (if nat_lt number sign then number else (number + (2 ^ 32 - sign) + (2 ^ 32 - sign)) % 2 ^ 32) }
 {

@@ -1,4 +1,4 @@
-// The word of an instruction: its fields, put side by side.
+// The word of an instruction: its fields, side by side.
 
 ghost use Rattle.std.specs.Prelude.{◌≡◌, ◌<◌, Some};
 ghost use Rattle.cc_rv32.specs.Table.{instruction_of, encoding_of, IsEncodable, fields_word, immediate_word, upper_word};
@@ -9,8 +9,8 @@ use crate::instr::{
 };
 use crate::operand::{BranchOffset, Immediate, JumpOffset, Register, ShiftCount, UpperImmediate};
 
-/// The word of the instruction, by the table of the RISC-V unprivileged ISA. Every instruction has one, and
-/// `decode` gives the instruction back. Takes no memory.
+/// Returns the word of the instruction, by the table of the RISC-V unprivileged ISA. Every instruction has one, and `decode`
+/// returns the instruction. Takes no memory.
 
 pub fn encode(instr: Instr) -> u32
     ensures table { result ≡ encoding_of instr }

@@ -1,19 +1,19 @@
-// Why a call of this crate has refused.
+// Why a call of this crate fails.
 
 ghost use Rattle.std.specs.Prelude.{◌≡◌};
 
 use thiserror::Error;
 
-/// Why a call of this crate has refused.
+/// Why a call of this crate fails.
 #[derive(Debug, Drop, Error)]
 pub enum MachineFault {
-    /// 40: no memory was left where a list had to grow.
+    /// 40: there was no memory left for a list that had to grow.
     #[error("OutOfMemory")]
     OutOfMemory,
 }
 
 impl MachineFault {
-    /// The number of the refusal.
+    /// The fault's number, 40.
     pub fn number(&self) -> u32
         ensures { result ≡ 40 }
     {

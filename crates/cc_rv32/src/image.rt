@@ -4,10 +4,10 @@ ghost use Rattle.std.specs.Prelude.{◌≡◌, ◌≤◌, ◌<◌, ◌↔◌, le
 
 use std::marker::Model;
 
-/// The most words of code that an image has.
+/// The most words of code that an image may have.
 pub const MOST_CODE: usize = 131_072;
 
-/// The most words of globals that an image has.
+/// The most words of globals that an image may have.
 pub const MOST_GLOBALS: usize = 65_536;
 
 /// The code of an image: 1 to 131,072 words. A clause sees their list.
@@ -15,7 +15,7 @@ pub struct Code {
     words: Vec<u32>,
 }
 
-// By hand, so that crates above call it and do not prove anew how each part is dropped.
+// Written by hand, so that the crates above use this proof and need not show again how each part is dropped.
 impl Drop for Code {
     fn drop(self) {
         let Code { words } = self;
@@ -33,7 +33,8 @@ impl Model for Code {
 }
 
 impl Code {
-    /// The code of these words, or the words back where they are none or more than 131,072. Takes no memory.
+    /// Makes code of these words. Returns the words in an `Err` if there is no word or there are more than 131,072. Takes no
+    /// memory.
     pub fn new(words: Vec<u32>) -> Result<Self, Vec<u32>>
         ensures fits { IsOk result ↔ ((1 ≤ length words.items) × (length words.items ≤ 131072)) }
         ensures hands_back { MatchResult result (λ code. code ≡ words.items) (λ back. back ≡ words) }
@@ -53,7 +54,7 @@ impl Code {
         self.words.as_slice()
     }
 
-    /// The words, given up.
+    /// Gives up the code and returns its words.
     pub fn into_words(self) -> Vec<u32>
         ensures { result.items ≡ self }
     {
@@ -67,7 +68,7 @@ pub struct Globals {
     words: Vec<u32>,
 }
 
-// By hand, so that crates above call it and do not prove anew how each part is dropped.
+// Written by hand, so that the crates above use this proof and need not show again how each part is dropped.
 impl Drop for Globals {
     fn drop(self) {
         let Globals { words } = self;
@@ -85,7 +86,7 @@ impl Model for Globals {
 }
 
 impl Globals {
-    /// The globals of these words, or the words back where they are more than 65,536. Takes no memory.
+    /// Makes globals of these words. Returns the words in an `Err` if there are more than 65,536. Takes no memory.
     pub fn new(words: Vec<u32>) -> Result<Self, Vec<u32>>
         ensures fits { IsOk result ↔ (length words.items ≤ 65536) }
         ensures hands_back { MatchResult result (λ globals. globals ≡ words.items) (λ back. back ≡ words) }
@@ -96,7 +97,7 @@ impl Globals {
         Ok(Globals { words })
     }
 
-    /// The words, from the globals' first address on.
+    /// The words, in order of address.
     pub fn words(&self) -> &[u32]
         ensures words { result.now ≡ self.now }
         ensures few { length self.now ≤ 65536 }
@@ -104,7 +105,7 @@ impl Globals {
         self.words.as_slice()
     }
 
-    /// The words, given up.
+    /// Gives up the globals and returns their words.
     pub fn into_words(self) -> Vec<u32>
         ensures { result.items ≡ self }
     {
@@ -113,8 +114,8 @@ impl Globals {
     }
 }
 
-/// A program for the machine: its code, from 0x00010000 on, and the words that its globals start with, from
-/// 0x00200000 on; globals past these start at 0.
+/// A program for the machine: its code, from 0x00010000 on, and the initial words of its globals, from 0x00200000 on. The globals
+/// after these begin as 0.
 #[derive(Drop)]
 pub struct Image {
     pub code: Code,

@@ -1,5 +1,5 @@
-// The instructions of RV32I and M: one variant for each form of instruction word, with the operands of that form.
-// Every value of `Instr` has a word, since each operand's type holds what its field can.
+// The instructions of RV32I and M: one variant for each form of instruction word, with the operands of that form. Every value of
+// `Instr` has a word, because each operand's type has exactly the values that fit its field.
 
 ghost use Rattle.std.specs.Prelude.{◌≡◌, ◌<◌};
 ghost use Rattle.cc_rv32.specs.Table.{operation_funct3, operation_funct7, immediate_operation_funct3, shift_operation_funct3, shift_operation_funct7, load_operation_funct3, store_operation_funct3, branch_operation_funct3};
@@ -14,17 +14,17 @@ pub enum RegisterOperation {
     Add,
     /// Difference modulo 2^32.
     Sub,
-    /// Shift left by the low five bits of the second.
+    /// Shift left by the low five bits of the second word.
     Sll,
-    /// 1 where the first is less as a signed number, else 0.
+    /// 1 if the first is less as a signed number, else 0.
     Slt,
-    /// 1 where the first is less as an unsigned number, else 0.
+    /// 1 if the first is less as an unsigned number, else 0.
     Sltu,
     /// Exclusive or.
     Xor,
-    /// Shift right by the low five bits of the second; zeros come in.
+    /// Shift right by the low five bits of the second word; zeros are shifted in.
     Srl,
-    /// Shift right by the low five bits of the second; copies of the sign come in.
+    /// Shift right by the low five bits of the second word; copies of the sign are shifted in.
     Sra,
     /// Or.
     Or,
@@ -38,7 +38,7 @@ pub enum RegisterOperation {
     Mulhsu,
     /// High word of the product, unsigned by unsigned.
     Mulhu,
-    /// Signed quotient, toward zero.
+    /// Signed quotient, truncated toward zero.
     Div,
     /// Unsigned quotient.
     Divu,
@@ -49,7 +49,7 @@ pub enum RegisterOperation {
 }
 
 impl RegisterOperation {
-    /// The field funct3 of its word.
+    /// The field funct3 of the operation's word.
     pub(crate) fn funct3(self) -> u32
         ensures table { result ≡ operation_funct3 self }
         ensures in_range { result < 8 }
@@ -77,7 +77,7 @@ impl RegisterOperation {
         }
     }
 
-    /// The field funct7 of its word.
+    /// The field funct7 of the operation's word.
     pub(crate) fn funct7(self) -> u32
         ensures table { result ≡ operation_funct7 self }
         ensures in_range { result < 128 }
@@ -111,9 +111,9 @@ impl RegisterOperation {
 pub enum ImmediateOperation {
     /// Sum modulo 2^32.
     Addi,
-    /// 1 where the register is less as a signed number, else 0.
+    /// 1 if the register is less as a signed number, else 0.
     Slti,
-    /// 1 where the register is less as an unsigned number, else 0.
+    /// 1 if the register is less as an unsigned number, else 0.
     Sltiu,
     /// Exclusive or.
     Xori,
@@ -124,7 +124,7 @@ pub enum ImmediateOperation {
 }
 
 impl ImmediateOperation {
-    /// The field funct3 of its word.
+    /// The field funct3 of the operation's word.
     pub(crate) fn funct3(self) -> u32
         ensures table { result ≡ immediate_operation_funct3 self }
         ensures in_range { result < 8 }
@@ -145,14 +145,14 @@ impl ImmediateOperation {
 pub enum ShiftOperation {
     /// Left.
     Slli,
-    /// Right; zeros come in.
+    /// Right; zeros are shifted in.
     Srli,
-    /// Right; copies of the sign come in.
+    /// Right; copies of the sign are shifted in.
     Srai,
 }
 
 impl ShiftOperation {
-    /// The field funct3 of its word.
+    /// The field funct3 of the operation's word.
     pub(crate) fn funct3(self) -> u32
         ensures table { result ≡ shift_operation_funct3 self }
         ensures in_range { result < 8 }
@@ -164,7 +164,7 @@ impl ShiftOperation {
         }
     }
 
-    /// The field funct7 of its word.
+    /// The field funct7 of the operation's word.
     pub(crate) fn funct7(self) -> u32
         ensures table { result ≡ shift_operation_funct7 self }
         ensures in_range { result < 128 }
@@ -193,7 +193,7 @@ pub enum LoadOperation {
 }
 
 impl LoadOperation {
-    /// The field funct3 of its word.
+    /// The field funct3 of the operation's word.
     pub(crate) fn funct3(self) -> u32
         ensures table { result ≡ load_operation_funct3 self }
         ensures in_range { result < 8 }
@@ -220,7 +220,7 @@ pub enum StoreOperation {
 }
 
 impl StoreOperation {
-    /// The field funct3 of its word.
+    /// The field funct3 of the operation's word.
     pub(crate) fn funct3(self) -> u32
         ensures table { result ≡ store_operation_funct3 self }
         ensures in_range { result < 8 }
@@ -233,7 +233,7 @@ impl StoreOperation {
     }
 }
 
-/// When a branch is taken (opcode BRANCH).
+/// The condition of a branch (opcode BRANCH).
 #[derive(Clone, Copy)]
 pub enum BranchOperation {
     /// Equal.
@@ -251,7 +251,7 @@ pub enum BranchOperation {
 }
 
 impl BranchOperation {
-    /// The field funct3 of its word.
+    /// The field funct3 of the operation's word.
     pub(crate) fn funct3(self) -> u32
         ensures table { result ≡ branch_operation_funct3 self }
         ensures in_range { result < 8 }
@@ -270,28 +270,28 @@ impl BranchOperation {
 /// An instruction: its form, what it does, and its operands.
 #[derive(Clone, Copy)]
 pub enum Instr {
-    /// `add x3, x1, x2`: `rd` takes what the operation makes of `rs1` and `rs2`.
+    /// `add x3, x1, x2`: `rd` gets the operation's value for `rs1` and `rs2`.
     Op {
         operation: RegisterOperation,
         rd: Register,
         rs1: Register,
         rs2: Register,
     },
-    /// `addi x1, x0, -1`: `rd` takes what the operation makes of `rs1` and the immediate.
+    /// `addi x1, x0, -1`: `rd` gets the operation's value for `rs1` and the immediate.
     OpImm {
         operation: ImmediateOperation,
         rd: Register,
         rs1: Register,
         immediate: Immediate,
     },
-    /// `slli x1, x2, 3`: `rd` takes `rs1` shifted by the count.
+    /// `slli x1, x2, 3`: `rd` gets `rs1` shifted by the count.
     Shift {
         operation: ShiftOperation,
         rd: Register,
         rs1: Register,
         count: ShiftCount,
     },
-    /// `lw x5, 8(x2)`: `rd` takes what stands at `rs1` + offset.
+    /// `lw x5, 8(x2)`: `rd` gets what the memory has at `rs1` + offset.
     Load {
         operation: LoadOperation,
         rd: Register,
@@ -305,34 +305,34 @@ pub enum Instr {
         rs2: Register,
         offset: Immediate,
     },
-    /// `beq x1, x2, -4`: goes on at pc + offset where `rs1` and `rs2` are so.
+    /// `beq x1, x2, -4`: continues at pc + offset if the condition holds for `rs1` and `rs2`.
     Branch {
         operation: BranchOperation,
         rs1: Register,
         rs2: Register,
         offset: BranchOffset,
     },
-    /// `lui x5, 74565`: `rd` takes the upper immediate.
+    /// `lui x5, 74565`: `rd` gets the upper immediate.
     Lui {
         rd: Register,
         immediate: UpperImmediate,
     },
-    /// `auipc x5, 74565`: `rd` takes pc plus the upper immediate.
+    /// `auipc x5, 74565`: `rd` gets pc plus the upper immediate.
     Auipc {
         rd: Register,
         immediate: UpperImmediate,
     },
-    /// `jal x1, 12`: goes on at pc + offset; `rd` takes pc + 4.
+    /// `jal x1, 12`: continues at pc + offset; `rd` gets pc + 4.
     Jal {
         rd: Register,
         offset: JumpOffset,
     },
-    /// `jalr x0, 0(x1)`: goes on at `rs1` + offset with bit 0 cleared; `rd` takes pc + 4.
+    /// `jalr x0, 0(x1)`: continues at `rs1` + offset with bit 0 cleared; `rd` gets pc + 4.
     Jalr {
         rd: Register,
         rs1: Register,
         offset: Immediate,
     },
-    /// A call of the machine's services, by the number in `x17`.
+    /// A call of a service of the machine, by the number in `x17`.
     Ecall,
 }

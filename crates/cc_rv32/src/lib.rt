@@ -1,7 +1,13 @@
 //! The machine: RV32IM instruction words, their listing, and a simulator (RISC-V unprivileged ISA, RV32I and M).
-//! `operand` and `instr` are the instructions, `encode` and `decode` their words, `image` a program with its data.
-//! `machine` runs an image: `lowered` is its code decoded once, `memory` and `execute` do one instruction of it.
-//! `map` says where things lie in its memory. `listing` prints an image, `operands` what stands behind an instruction's name. The table itself, the state and the run are defined in `specs/`, in reading order.
+//!
+//! - `operand` and `instr`: the instructions.
+//! - `encode` and `decode`: their words.
+//! - `image`: a program with its data.
+//! - `machine`: runs an image. `lowered` is its code, decoded once; `memory` and `execute` do one instruction.
+//! - `map`: the addresses of the parts of its memory.
+//! - `listing`: prints an image; `operands`: what follows an instruction's name.
+//!
+//! The instruction table, the state and the run are defined in `specs/`, in reading order.
 #![tactic(auto)]
 
 pub mod decode;

@@ -127,7 +127,7 @@ impl fmt::Display for BranchOperation {
     }
 }
 
-/// The name, and its operands behind it.
+/// The name, followed by its operands.
 impl fmt::Display for Instr {
     ghost output = { λ i. Some (instruction_text i) };
 
@@ -137,9 +137,9 @@ impl fmt::Display for Instr {
     }
 }
 
-/// The listing of the image, as ASCII text: a line for each word of its code, in order of address, and none for its
-/// globals. A line has the address and the word, each as eight hexadecimal digits in lower case, and the instruction
-/// (`.word` where the word is none), with a space between them, and ends in a newline. 40 where memory was refused.
+/// Returns the listing of the image, as ASCII text: a line for each word of its code, in order of address, and none for its
+/// globals. A line has the address, the word, both as eight hexadecimal digits in lower case, and the instruction (`.word` if the
+/// word is not one), with a space between them. It ends in a newline. Fails with 40 (OutOfMemory) if memory was refused.
 pub fn list(alloc: Global, image: &Image) -> Result<Vec<u8>, MachineFault>
     ensures { IfOk result (λ text. text.items ≡ listing image.now) }
 {
@@ -182,7 +182,7 @@ fn push_instruction(text: &mut String, word: u32) -> Result<(), AllocError>
     }
 }
 
-/// Eight digits of base 16, in lower case.
+/// Appends eight hexadecimal digits, in lower case.
 fn push_hexadecimal(text: &mut String, word: u32) -> Result<(), AllocError>
     ensures { OnOk result (string_bytes text.new ≡ string_bytes text.old ++ hexadecimal 8 word) }
 {
@@ -201,7 +201,7 @@ fn digit(value: u32) -> char
     char::from(code as u8)
 }
 
-// An instruction's name, and its operands.
+// An instruction's name and its operands.
 #[derive(Clone, Copy)]
 struct Parts {
     name: &'static str,

@@ -1,4 +1,4 @@
-// The simulator: an image, run on an input, a number of instructions at a time.
+// The simulator: it runs an image on an input, for a number of instructions at a time.
 
 ghost use Rattle.std.specs.Prelude.{◌≡◌, ◌≢◌, ◌+◌, ◌<◌, ℕ, List, IfOk, OnErr};
 ghost use Rattle.cc_rv32.specs.Machine.{Run, machine_run, machine_behavior, start};
@@ -11,12 +11,12 @@ use crate::simulator::{Simulator, run_for};
 use std::alloc::Global;
 use std::marker::Model;
 
-/// A machine that runs an image. A clause sees what it holds, and `shown_run` the run that this stands for.
+/// A machine that runs an image. A clause sees its parts, and `shown_run` is the run that they represent.
 pub struct Machine {
     simulator: Simulator,
 }
 
-// By hand, so that crates above call it and do not prove anew how each part is dropped.
+// Written by hand, so that the crates above use this proof and need not show again how each part is dropped.
 impl Drop for Machine {
     fn drop(self) {
         let Machine { simulator } = self;
@@ -37,9 +37,9 @@ impl Model for Machine {
 }
 
 impl Machine {
-    /// A machine with the image in place, before its first instruction: the program counter at 0x00010000, `x2` at
-    /// 0x00800000, all other registers and the stack 0, and these words as its input. 40 where memory for them, or for
-    /// the 2.25 MiB of globals and stack, was refused.
+    /// Makes a machine with the image in place, before its first instruction. The program counter is 0x00010000, `x2` is
+    /// 0x00800000, all other registers and the stack are 0, and these words are the input. Fails with 40 (OutOfMemory) if memory
+    /// for them, or for the 2.25 MiB of globals and stack, was refused.
     pub fn new(alloc: Global, image: &Image, input: &[u32]) -> Result<Self, MachineFault>
         ensures start { IfOk result (λ m. IsAfter image.now input.now 0 m) }
     {
@@ -49,8 +49,8 @@ impl Machine {
         }
     }
 
-    /// Does one instruction, unless it has exited or trapped, and tells what the run has come to. 40 only where the
-    /// instruction writes a word and the output could not grow; then nothing is done.
+    /// Does one instruction, unless the machine has exited or trapped, and returns the outcome of the run so far. Fails with 40
+    /// (OutOfMemory) only if the instruction writes a word and the output could not grow; then nothing is done.
     pub fn step(&mut self) -> Result<MachineOutcome, MachineFault>
         ensures code { self.new.code ≡ self.old.code }
         ensures run { IfOk result (λ outcome. shown_run self.new ≡ machine_run self.old.code 1 (shown_run self.old)) }
@@ -60,8 +60,8 @@ impl Machine {
         self.run(1)
     }
 
-    /// Does at most this many instructions, fewer where it exits or traps, and tells what the run has come to: what `a`
-    /// and then `b` instructions come to is what `a + b` do. 40 only where an instruction writes a word and the output
+    /// Does at most this many instructions, fewer if it exits or traps, and returns the outcome of the run so far. To do `a` and
+    /// then `b` instructions is to do `a + b`. Fails with 40 (OutOfMemory) only if an instruction writes a word and the output
     /// could not grow; then the instructions before that one are done.
     pub fn run(&mut self, steps: u64) -> Result<MachineOutcome, MachineFault>
         ensures code { self.new.code ≡ self.old.code }
@@ -79,7 +79,7 @@ impl Machine {
         Ok(simulator.outcome)
     }
 
-    /// The words that it has written so far, the oldest first. Takes no memory.
+    /// The words that the program has written so far, oldest first. Takes no memory.
     pub fn output(&self) -> &[u32]
         ensures words { result.now ≡ self.now.output }
         ensures behavior { (image : Image) (input : List ℕ) (done : ℕ) → IsAfter image input done self.now
@@ -89,8 +89,8 @@ impl Machine {
     }
 }
 
-/// What `m` and then `n` instructions come to is what `m + n` do, whatever the code and the run so far; and a run that has
-/// exited or trapped stays as it is, its state too.
+/// Shows that to do `m` and then `n` instructions is to do `m + n`, for any code and any run so far; and that a run that has
+/// exited or trapped does not change, nor does its state.
 pub fn runs_go_on()
     ensures additive { (code : List ℕ) (m n : ℕ) (r : Run) → machine_run code (m + n) r ≡ machine_run code n (machine_run code m r) }
     ensures ended { (code : List ℕ) (n : ℕ) (r : Run) → r.outcome ≢ MachineOutcome.Going → machine_run code n r ≡ r }

@@ -1,4 +1,4 @@
-// Globals and stack as two lists of words, reached by byte address with one comparison each: the stack first, since most
+// Globals and stack as two lists of words, which a byte address reaches with one comparison each: the stack first, because most
 // loads and stores go there.
 
 ghost use Rattle.std.specs.Prelude.{◌≡◌, ◌+◌, ◌*◌, ◌<◌, ◌⊎◌, length};
@@ -8,7 +8,7 @@ ghost use Rattle.cc_rv32.specs.internal.Lowered.{word_in, part_in, whole_in, wit
 use crate::execute::Next;
 use crate::map::GLOBALS_FROM;
 
-/// How many words of globals there are.
+/// How many words of globals the machine has.
 pub(crate) const GLOBALS_WORDS: usize = 65_536;
 
 /// The lowest address of the stack, and how many words it has.
@@ -16,7 +16,7 @@ pub(crate) const STACK_FROM: u32 = 0x0060_0000;
 
 pub(crate) const STACK_WORDS: usize = 524_288;
 
-/// The word that the byte address lies in.
+/// The word that has the byte at this address.
 #[inline(always)]
 fn word(globals: &[u32], stack: &[u32], address: u32) -> Option<u32>
     requires globals { length globals.now ≡ 65536 }
@@ -47,7 +47,7 @@ pub(crate) fn load_word(globals: &[u32], stack: &[u32], address: u32) -> Option<
     word(globals, stack, address)
 }
 
-/// The half word at an even address, with zeros in front.
+/// The half word at an even address, extended with zeros.
 #[inline(always)]
 pub(crate) fn load_half(globals: &[u32], stack: &[u32], address: u32) -> Option<u32>
     requires globals { length globals.now ≡ 65536 }
@@ -61,7 +61,7 @@ pub(crate) fn load_half(globals: &[u32], stack: &[u32], address: u32) -> Option<
     Some((word >> (8 * (address % 4))) & 0xffff)
 }
 
-/// The byte at an address, with zeros in front.
+/// The byte at an address, extended with zeros.
 #[inline(always)]
 pub(crate) fn load_byte(globals: &[u32], stack: &[u32], address: u32) -> Option<u32>
     requires globals { length globals.now ≡ 65536 }
@@ -72,7 +72,7 @@ pub(crate) fn load_byte(globals: &[u32], stack: &[u32], address: u32) -> Option<
     Some((word >> (8 * (address % 4))) & 0xff)
 }
 
-/// Writes the word that the byte address lies in; a trap where there is none.
+/// Writes the word that has the byte at this address; a trap if no memory is there.
 #[inline(always)]
 fn set_word(globals: &mut [u32], stack: &mut [u32], address: u32, word: u32) -> Next
     requires globals { length globals.old ≡ 65536 }
@@ -92,7 +92,7 @@ fn set_word(globals: &mut [u32], stack: &mut [u32], address: u32, word: u32) -> 
     Next::Trap
 }
 
-/// Writes the word at an address that is a multiple of 4, else a trap.
+/// Writes the word at an address that is a multiple of 4; a trap at any other address.
 #[inline(always)]
 pub(crate) fn store_word(globals: &mut [u32], stack: &mut [u32], address: u32, word: u32) -> Next
     requires globals { length globals.old ≡ 65536 }
@@ -105,7 +105,7 @@ pub(crate) fn store_word(globals: &mut [u32], stack: &mut [u32], address: u32, w
     set_word(globals, stack, address, word)
 }
 
-/// Writes the low half of the word at an even address, else a trap.
+/// Writes the low half of the word at an even address; a trap at any other address.
 #[inline(always)]
 pub(crate) fn store_half(globals: &mut [u32], stack: &mut [u32], address: u32, half: u32) -> Next
     requires globals { length globals.old ≡ 65536 }

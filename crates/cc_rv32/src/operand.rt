@@ -1,4 +1,4 @@
-// The operands of instructions: each type holds exactly what its field of the instruction word can.
+// The operands of instructions: each type has exactly the values that fit its field of the instruction word.
 
 ghost use Rattle.std.specs.Prelude.{◌≡◌, ◌<◌, ◌^◌, ◌↔◌, IsTrue};
 ghost use Rattle.cc_rv32.specs.Fields.{IsImmediate, IsBranchOffset, IsJumpOffset};
@@ -24,7 +24,7 @@ impl Model for Register {
 }
 
 impl Register {
-    /// The register `x0` to `x31` of this number.
+    /// The register with this number, `x0` to `x31`.
     pub fn new(number: u8) -> Self
         requires { number < 32 }
         ensures { result ≡ number }
@@ -32,7 +32,7 @@ impl Register {
         Register { number }
     }
 
-    /// Its number, 0 to 31.
+    /// The register's number, 0 to 31.
     #[inline]
     pub fn number(self) -> u8
         ensures number { result ≡ self }
@@ -42,7 +42,7 @@ impl Register {
     }
 }
 
-/// How far a shift by a constant goes, 0 to 31 bits.
+/// The count of a shift by a constant, 0 to 31 bits.
 #[derive(Clone, Copy)]
 pub struct ShiftCount {
     amount: u8,
@@ -61,7 +61,7 @@ impl Model for ShiftCount {
 }
 
 impl ShiftCount {
-    /// A shift by that many bits.
+    /// A shift by this many bits.
     pub fn new(amount: u8) -> Self
         requires { amount < 32 }
         ensures { result ≡ amount }
@@ -99,14 +99,14 @@ impl Model for Immediate {
 }
 
 impl Immediate {
-    /// Whether the word is one of -2048 to 2047 in two's complement.
+    /// Whether the word is a number from -2048 to 2047 in two's complement.
     pub fn fits(word: u32) -> bool
         ensures { IsTrue result ↔ IsImmediate word }
     {
         word.wrapping_add(1 << 11) < 1 << 12
     }
 
-    /// The immediate of this word.
+    /// The immediate with this word.
     pub fn new(word: u32) -> Self
         requires { IsImmediate word }
         ensures { result ≡ word }
@@ -114,7 +114,7 @@ impl Immediate {
         Immediate { word }
     }
 
-    /// The word that it stands for.
+    /// The immediate's word.
     #[inline]
     pub fn word(self) -> u32
         ensures word { result ≡ self }
@@ -143,7 +143,7 @@ impl Model for UpperImmediate {
 }
 
 impl UpperImmediate {
-    /// The upper immediate of this field.
+    /// The upper immediate with this field.
     pub fn new(field: u32) -> Self
         requires { field < 2 ^ 20 }
         ensures { result ≡ field }
@@ -151,7 +151,7 @@ impl UpperImmediate {
         UpperImmediate { field }
     }
 
-    /// The field, 0 to 1048575; the word that it stands for is 4096 times that.
+    /// The field, 0 to 1048575. The immediate's word is 4096 times that.
     #[inline]
     pub fn field(self) -> u32
         ensures field { result ≡ self }
@@ -161,7 +161,7 @@ impl UpperImmediate {
     }
 }
 
-/// How far a branch goes, in bytes: an even number from -4096 to 4094, as its 32-bit word in two's complement.
+/// The distance of a branch in bytes: an even number from -4096 to 4094, as its 32-bit word in two's complement.
 #[derive(Clone, Copy)]
 pub struct BranchOffset {
     word: u32,
@@ -188,7 +188,7 @@ impl BranchOffset {
         word % 2 == 0 && word.wrapping_add(1 << 12) < 1 << 13
     }
 
-    /// The offset of this word.
+    /// The offset with this word.
     pub fn new(word: u32) -> Self
         requires { IsBranchOffset word }
         ensures { result ≡ word }
@@ -196,7 +196,7 @@ impl BranchOffset {
         BranchOffset { word }
     }
 
-    /// The word that it stands for.
+    /// The offset's word.
     #[inline]
     pub fn word(self) -> u32
         ensures word { result ≡ self }
@@ -206,7 +206,7 @@ impl BranchOffset {
     }
 }
 
-/// How far a jump goes, in bytes: an even number from -1048576 to 1048574, as its 32-bit word in two's complement.
+/// The distance of a jump in bytes: an even number from -1048576 to 1048574, as its 32-bit word in two's complement.
 #[derive(Clone, Copy)]
 pub struct JumpOffset {
     word: u32,
@@ -233,7 +233,7 @@ impl JumpOffset {
         word % 2 == 0 && word.wrapping_add(1 << 20) < 1 << 21
     }
 
-    /// The offset of this word.
+    /// The offset with this word.
     pub fn new(word: u32) -> Self
         requires { IsJumpOffset word }
         ensures { result ≡ word }
@@ -241,7 +241,7 @@ impl JumpOffset {
         JumpOffset { word }
     }
 
-    /// The word that it stands for.
+    /// The offset's word.
     #[inline]
     pub fn word(self) -> u32
         ensures word { result ≡ self }

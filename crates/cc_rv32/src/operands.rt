@@ -1,4 +1,4 @@
-// The operands of an instruction as the listing shows them: behind the name, a register or two, and what comes last.
+// The operands of an instruction as the listing shows them: after the name a register or two, and a last operand.
 
 ghost use Rattle.std.specs.Prelude.{Some};
 ghost use Rattle.cc_rv32.specs.internal.Operands.{last_text, operands_text};
@@ -6,7 +6,7 @@ ghost use Rattle.cc_rv32.specs.internal.Operands.{last_text, operands_text};
 use crate::operand::{Immediate, Register};
 use std::fmt;
 
-/// What comes last: a register, a word in two's complement, a number, or an offset from a register.
+/// The last operand: a register, a word in two's complement, a number, or an offset from a register.
 #[derive(Clone, Copy)]
 pub enum Last {
     Register(Register),

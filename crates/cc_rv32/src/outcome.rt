@@ -1,12 +1,13 @@
-// What a run of the machine has come to.
+// The outcome of a run of the machine so far.
 
-/// What a run has come to. A machine that has exited or trapped stays so.
+/// The outcome of a run so far. After an exit or a trap it does not change.
 #[derive(Clone, Copy, PartialEq, Eq, Debug)]
 pub enum MachineOutcome {
-    /// It has done all the instructions that it was given, and can go on.
+    /// The machine has done all instructions that were asked for, and can continue.
     Going,
-    /// It has asked to end with this word.
+    /// The program has exited with this word.
     Exited(u32),
-    /// It has met a word that is no instruction, an access that is not allowed, or a service that there is not.
+    /// The program has come to a word that is not an instruction, an access that is not allowed, or a service that does not
+    /// exist.
     Trapped,
 }

@@ -1,4 +1,4 @@
--- The functions of a unit whose declarations fall.
+-- If the declarations of a unit fall, so do its functions.
 use Rattle.std.proofs.Common.{ℕ, List, [], ◌∷◌}
 use Rattle.std.specs.List.{AllByRecursion}
 use Rattle.cc_ast.specs.Erase.{external_tree, external_trees}

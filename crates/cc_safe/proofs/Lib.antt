@@ -1,7 +1,8 @@
 -- Functions that call only functions of lower ranks.
 pub mod Falling
--- What is said of one number after another.
+-- Statements about one number after another.
 pub mod Numbers
 -- Both laws together.
 pub mod Safe
+-- The trees of expressions with two or three parts.
 pub mod Trees

@@ -1,4 +1,4 @@
--- The trees of expressions that have two or three parts.
+-- The trees of expressions with two or three parts.
 use Rattle.std.proofs.Common.{◌≡◌, rules}
 use Rattle.cc_ast.specs.Tree as tree
 use Rattle.cc_ast.specs.Erase.{expression_tree}

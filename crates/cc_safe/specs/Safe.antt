@@ -6,6 +6,6 @@ use Rattle.cc_c_laws.specs.Outcome.{Wrong}
 use Rattle.cc_c_laws.specs.declared.cause.Cause.{Cause}
 use Rattle.cc_simulation.specs.Behavior.{AreWords}
 
--- it goes wrong for no cause, on no input and at no bound
+-- it goes wrong for no cause, on no input and within no number of steps
 abbrev pub IsSafe : Source → Type 0
 IsSafe source = (input : List ℕ) → AreWords input → (n : ℕ) (cause : Cause) → (source_behavior source input n).stop ≢ Wrong cause

@@ -1,10 +1,10 @@
 // Whether the calls of a unit have no cycle.
 //
-// All ranks begin with 0. As often as there are functions, and once more, the rank of each function rises by one if it calls one of no
-// lower rank. If there is no cycle this ends with ranks that fall from call to call. Nothing rests on how they came: what is said is seen of
-// the ranks at the end.
+// All ranks begin as 0. In each round, the rank of each function that calls one of no lower rank rises by one; there is one round more than
+// a unit can have functions. If there is no cycle, the ranks then fall from call to call. No proof depends on how they were found: the
+// answer comes from checking the ranks at the end.
 
-ghost use Rattle.std.specs.Prelude.{◌≡◌, ◌<◌, true, codes, IfOk};
+ghost use Rattle.std.specs.Prelude.{◌≡◌, ◌<◌, true, IfOk};
 ghost use Rattle.std.specs.List.{AllByRecursion};
 ghost use Rattle.cc_ast.specs.Erase.{external_trees};
 ghost use Rattle.cc_ast.specs.Source.{source};
@@ -20,13 +20,13 @@ use std::alloc::{AllocError, Global};
 
 const MAIN: &[u8] = b"main";
 
-/// As deep as calls may go.
+/// At most this many calls may be open at once.
 const MOST_OPEN: u32 = 1024;
 
-/// A unit has at most so many functions.
+/// A unit has at most this many functions.
 const MOST_FUNCTIONS: usize = 64;
 
-// Whether an external declaration defines no function that calls one of no lower rank.
+// Whether an external declaration does not define a function that calls one of no lower rank.
 fn falls_in(layout: &Layout<'_>, table: &[u32], external: &External) -> bool
     ensures { result ≡ true → FallsIn (rank_by layout.now table.now) external.now }
 {
@@ -65,7 +65,7 @@ fn raise(layout: &Layout<'_>, table: &mut Vec<u32>, externals: &[External]) {
     }
 }
 
-// Ranks that fall from call to call, if there are such.
+// Ranks that fall from call to call, if there are any.
 fn ranks(
     alloc: Global,
     layout: &Layout<'_>,

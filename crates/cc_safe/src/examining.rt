@@ -13,17 +13,18 @@ use cc_types::TypedUnit;
 use std::alloc::{AllocError, Global};
 use std::sync::Arc;
 
-/// What is found of a program.
+/// What was found about a program.
 #[derive(Drop)]
 pub struct Safety {
-    /// The functions that need a guard, by their numbers in the order of definitions: a division, a shift or an index of theirs may go wrong.
+    /// The functions that need a guard, by their numbers in the order of definitions: one of their divisions, shifts or indices may go
+    /// wrong.
     pub guarded: Vec<usize>,
-    /// Whether its calls have no cycle. If they have one it may have too many open calls.
+    /// Whether its calls have no cycle. If they have one, too many calls may be open at once.
     pub acyclic: bool,
 }
 
-/// Looks whether a program can go wrong. If no function needs a guard and its calls have no cycle it goes wrong on no input and at no bound.
-/// It fails only if memory runs out.
+/// Finds out whether a program can go wrong. If no function needs a guard and its calls have no cycle, it goes wrong on no input and at no
+/// bound on its steps. It fails only if memory runs out.
 pub fn examine(alloc: Global, unit: &Arc<TypedUnit>) -> Result<Safety, AllocError>
     ensures { IfOk result (λ found. found.guarded.items ≡ [] → found.acyclic ≡ true → IsSafe (source (arc_value unit.now))) }
 {

@@ -1,2 +1,2 @@
--- What only private contracts speak of.
+-- Definitions that only private contracts use.
 pub mod internal

@@ -1,2 +1,2 @@
--- What a terminal is shown of the bytes that are printed.
+-- How a terminal is shown the bytes that are printed.
 pub mod Shown

@@ -1,9 +1,9 @@
-//! What is printed on standard output, as a terminal may be given it.
+//! What is printed on standard output, made safe for a terminal.
 //!
-//! A source, or another's answer, may have any bytes, and a terminal does what control bytes ask for. So these are shown as `?` there. A file
-//! or a pipe gets each byte as it is.
+//! A source, or an answer to someone else, may have any bytes, and a terminal obeys control bytes. So control bytes are shown as
+//! `?` on a terminal. A file or a pipe gets each byte as it is.
 //!
-//! It stands on nothing. `screen` has the writer, `specs/` what is shown of bytes.
+//! The crate needs no other crate. `screen` has the writer, `specs/` defines how bytes are shown.
 #![tactic(auto)]
 
 mod screen;

@@ -1,23 +1,24 @@
-// A writer before a terminal.
+// A writer that may be a terminal.
 
-ghost use Rattle.std.specs.Prelude.{◌≡◌, true, false, None, IfOk, if◌then◌else◌, take};
+ghost use Rattle.std.specs.Prelude.{◌≡◌, None, IfOk, if◌then◌else◌, take};
 ghost use Rattle.std.specs.Io.{WritesAtMost};
-ghost use Rattle.std.specs.Io.KnownBytes.{Appends, WriteAppends};
+ghost use Rattle.std.specs.Io.KnownBytes.{Appends};
 ghost use Rattle.cc_screen.specs.internal.Shown.{is_control, last_of, shown, shown_byte};
 
 use std::io::{self, Write};
 
-/// A writer that may be a terminal. One that is gets `?` for each control byte but newline and tab. What it holds is said of one that is none.
+/// A writer that may be a terminal. A terminal gets `?` for each control byte except newline and tab. Clauses about its contents
+/// are for a writer that is not a terminal.
 #[derive(Drop)]
 pub struct Screen<W: Drop> {
     writer: W,
     is_terminal: bool,
-    // The last byte that was taken: 0 at first.
+    // The last byte that was taken; 0 at first.
     last: u8,
 }
 
-// Whether a terminal takes a byte for a control character. From 128 to 159 it does, unless the byte goes on with another character in UTF-8: one
-// that 194 begins with it is a control character too.
+// Whether a terminal takes a byte as a control character. It does so for a byte from 128 to 159, unless the byte continues
+// another character in UTF-8. A character of 194 and such a byte is a control character too.
 fn is_control(before: u8, byte: u8) -> bool
     ensures { result ≡ is_control before byte }
 {
@@ -26,7 +27,7 @@ fn is_control(before: u8, byte: u8) -> bool
         || ((128 <= byte && byte < 160) && (before < 128 || before == 194))
 }
 
-// What a terminal is shown of a byte.
+// What a terminal is shown in place of a byte.
 fn shown_byte(before: u8, byte: u8) -> u8
     ensures { result ≡ shown_byte before byte }
 {
@@ -34,7 +35,7 @@ fn shown_byte(before: u8, byte: u8) -> u8
 }
 
 impl<W: Write + Drop> Screen<W> {
-    /// Before this writer, which is a terminal or not.
+    /// Wraps a writer, which is a terminal or not.
     pub fn new(writer: W, is_terminal: bool) -> Screen<W>
         ensures writer { result.writer ≡ writer }
         ensures terminal { result.is_terminal ≡ is_terminal }
@@ -47,7 +48,7 @@ impl<W: Write + Drop> Screen<W> {
         }
     }
 
-    // Shows the first of these bytes, if there is one; how many that were.
+    // Shows the first of these bytes, if there is one, and returns how many that were.
     fn show(&mut self, bytes: &[u8]) -> io::Result<usize>
         ensures bound { WritesAtMost result bytes.now }
         ensures shown { IfOk result (λ count. Appends (W.contents self.old.writer) (W.contents self.new.writer) (shown self.old.last (take count bytes.now))) }

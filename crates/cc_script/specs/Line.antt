@@ -24,6 +24,7 @@ pub data ScriptRequest : Type 0 where
   AuditOne : (name : List ℕ) → ScriptRequest
   Update : (name : List ℕ) → (expected length : ℕ) → ScriptRequest
   Call : (name : List ℕ) → (steps length : ℕ) → ScriptRequest
+  Space : ScriptRequest
 
 -- what a command of the code asks for
 abbrev pub asked_by : ScriptCommand → ScriptRequest
@@ -39,6 +40,7 @@ asked_by (command.Source name) = Source name.now
 asked_by (command.AuditOne name) = AuditOne name.now
 asked_by (command.Update name expected length) = Update name.now expected length
 asked_by (command.Call name steps length) = Call name.now steps length
+asked_by command.Space = Space
 
 -- ---- numbers
 
@@ -74,17 +76,25 @@ words line = slice_split (λ b. b == 32) line
 abbrev pub is_word : List ℕ → Bool
 is_word bytes = nat_lt 0 (length bytes)
 
-abbrev pub one_word : (verb : List ℕ) → Option ScriptRequest
-one_word verb =
+abbrev pub one_plain_word : (verb : List ℕ) → Option ScriptRequest
+one_plain_word verb =
     if bytes_eq verb (codes "list") then Some Names
     else if bytes_eq verb (codes "compact") then Some Compact
     else if bytes_eq verb (codes "audit") then Some Audit
     else None
 
+-- a script that is left for a server has one line of one word more
+abbrev pub one_served_word : (verb : List ℕ) → Option ScriptRequest
+one_served_word verb = if bytes_eq verb (codes "space") then Some Space else one_plain_word verb
+
+abbrev pub one_word : Dialect → (verb : List ℕ) → Option ScriptRequest
+one_word Plain verb = one_plain_word verb
+one_word Served verb = one_served_word verb
+
 abbrev pub two_plain_words : (verb name : List ℕ) → Option ScriptRequest
 two_plain_words verb name = if bytes_eq verb (codes "withdraw") && is_word name then Some (Withdraw name) else None
 
--- a script that is left for a server has three lines more
+-- a script that is left for a server has three lines of two words more
 abbrev pub two_served_words : (verb name : List ℕ) → Option ScriptRequest
 two_served_words verb name =
     if bytes_eq verb (codes "image") && is_word name then Some (Image name)
@@ -129,7 +139,7 @@ four_words Plain verb name first second = None
 four_words Served verb name first second = four_served_words verb name first second
 
 abbrev pub asked_in : Dialect → (words : List (List ℕ)) → Option ScriptRequest
-asked_in dialect (verb ∷ []) = one_word verb
+asked_in dialect (verb ∷ []) = one_word dialect verb
 asked_in dialect (verb ∷ name ∷ []) = two_words dialect verb name
 asked_in dialect (verb ∷ name ∷ digits ∷ []) = three_words verb name digits
 asked_in dialect (verb ∷ name ∷ first ∷ second ∷ []) = four_words dialect verb name first second

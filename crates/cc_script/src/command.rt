@@ -1,7 +1,7 @@
 // What a line of a script asks for.
 
 ghost use Rattle.std.specs.Prelude.{◌≡◌, ◌≤◌, ◌<◌, ◌+◌, ◌++◌, ◌∷◌, [], ℕ, List, Option, Some, None, IfSome, length, option_map};
-ghost use Rattle.cc_script.specs.Line.{asked_by, asked_of, four_served_words, four_words, number_in, one_word, two_plain_words, two_served_words, two_words, three_words, words};
+ghost use Rattle.cc_script.specs.Line.{asked_by, asked_of, four_served_words, four_words, number_in, one_plain_word, one_served_word, one_word, two_plain_words, two_served_words, two_words, three_words, words};
 ghost use Rattle.cc_script.specs.internal.Cutting.{words_behind};
 
 /// The most instructions that a line may give a run.
@@ -15,8 +15,8 @@ const MOST_LENGTH: u64 = 999_999;
 pub enum Dialect {
     /// Those of a session's script.
     Plain,
-    /// Those, and `image NAME`, `source NAME`, `audit NAME`, `update NAME OLDLEN NEWLEN` and `call NAME STEPS LEN`: of a script that is
-    /// left for a server.
+    /// Those, and `image NAME`, `source NAME`, `audit NAME`, `update NAME OLDLEN NEWLEN`, `call NAME STEPS LEN` and `space`: of a script
+    /// that is left for a server.
     Served,
 }
 
@@ -74,6 +74,8 @@ pub enum ScriptCommand<'a> {
         steps: u64,
         length: usize,
     },
+    /// Say how much of its area the library takes.
+    Space,
 }
 
 // The first word of a line, and what stands behind the space that ends it, if one does.
@@ -116,9 +118,9 @@ fn length_in(bytes: &[u8]) -> Option<usize>
     }
 }
 
-// A command of one word.
-fn one_word<'a>(verb: &[u8]) -> Option<ScriptCommand<'a>>
-    ensures { option_map asked_by result ≡ one_word verb.now }
+// A command of one word, if it is one of a session's script.
+fn one_plain_word<'a>(verb: &[u8]) -> Option<ScriptCommand<'a>>
+    ensures { option_map asked_by result ≡ one_plain_word verb.now }
 {
     if verb == b"list".as_slice() {
         Some(ScriptCommand::List)
@@ -128,6 +130,27 @@ fn one_word<'a>(verb: &[u8]) -> Option<ScriptCommand<'a>>
         Some(ScriptCommand::Audit)
     } else {
         None
+    }
+}
+
+// The same of a script that is left for a server.
+fn one_served_word<'a>(verb: &[u8]) -> Option<ScriptCommand<'a>>
+    ensures { option_map asked_by result ≡ one_served_word verb.now }
+{
+    if verb == b"space".as_slice() {
+        Some(ScriptCommand::Space)
+    } else {
+        one_plain_word(verb)
+    }
+}
+
+// A command of one word.
+fn one_word<'a>(dialect: Dialect, verb: &[u8]) -> Option<ScriptCommand<'a>>
+    ensures { option_map asked_by result ≡ one_word dialect verb.now }
+{
+    match dialect {
+        Dialect::Plain => one_plain_word(verb),
+        Dialect::Served => one_served_word(verb),
     }
 }
 
@@ -244,7 +267,7 @@ pub fn command_of(dialect: Dialect, line: &[u8]) -> Option<ScriptCommand<'_>>
 {
     let (verb, rest) = cut(line);
     let Some(rest) = rest else {
-        return one_word(verb);
+        return one_word(dialect, verb);
     };
     let (name, rest) = cut(rest);
     let Some(rest) = rest else {

@@ -7,7 +7,7 @@ pub const PLAIN_COMMANDS: usize = 7;
 /// The commands of a script, in the order in which a person is told of them: those of a session's script, and then those that only one that
 /// is left for a server has. Where LEN is at the end, that many bytes of source come after the line, or of input words; OLDLEN and NEWLEN are
 /// of two sources.
-pub const COMMANDS: [&[u8]; 12] = [
+pub const COMMANDS: [&[u8]; 13] = [
     b"add NAME LEN",
     b"replace NAME LEN",
     b"withdraw NAME",
@@ -20,4 +20,5 @@ pub const COMMANDS: [&[u8]; 12] = [
     b"audit NAME",
     b"update NAME OLDLEN NEWLEN",
     b"call NAME STEPS LEN",
+    b"space",
 ];

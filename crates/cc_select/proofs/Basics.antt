@@ -1,4 +1,4 @@
--- What tests on numbers say, and truth values.
+-- Tests on numbers, and truth values.
 use Rattle.std.proofs.Common.{◌≡◌, ℕ, Some, None, Bool, true, false, refl, arith}
 use Rattle.std.proofs.lemmas.Bool.Decides.{nat_tests}
 use Rattle.std.specs.Prelude.{◌==◌, ◌&&◌, ◌||◌, not, if◌then◌else◌}
@@ -36,7 +36,7 @@ pub implied : (a b : Bool) → (not a || b) ≡ true → a ≡ true → b ≡ tr
 implied true b e p = e
 implied false b e p = absurd (let z : false ≡ true = p in cc)
 
--- what is so either way
+-- a value with a property either way has it
 pub either_way : {A : Type 0} (P : A → Type 0) (b : Bool) (x y : A) → P x → P y → P (if b then x else y)
 either_way P true x y p q = p
 either_way P false x y p q = q

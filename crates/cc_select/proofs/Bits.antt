@@ -1,5 +1,5 @@
--- Sets of registers as the bits of one word: each operation on the bits is the operation on the set, register by register. From 32 on no
--- set has a bit.
+-- Sets of registers as the bits of one word: each operation on the bits is the operation on the set, register by register. No set has a bit
+-- from 32 on.
 use Rattle.std.proofs.Common.{◌≡◌, ◌≢◌, ℕ, zero, suc, ◌-◌, ◌*◌, ◌%◌, ◌^◌, ◌<◌, ◌≤◌, refl, sym, ap, ◌∙◌, subst, Bool, true, false, ◌==◌, ◌&&◌, ◌||◌, not, arith, inl, inr, w32, min, max}
 use Rattle.std.proofs.Math.Path.{fun_ext}
 use Rattle.std.specs.Int.{bit_at, bit_not}

@@ -1,5 +1,5 @@
--- The steps that are chosen do, one for one, what the items do. What is known of a register holds (`Holds`), so an operand that is known may
--- be replaced by its word; at a label nothing is known, so the steps of a place are those chosen there with nothing known.
+-- The chosen steps do, one for one, what the items do. What is known about a register holds (`Holds`), so an operand that is known may be
+-- replaced by its word. At a label nothing is known, so the steps of a place are those that are chosen there with nothing known.
 use Rattle.std.proofs.Common.{◌≡◌, ℕ, suc, List, [], ◌∷◌, Option, Some, None, true, false, Bool, refl, sym, ap, ◌∙◌, subst}
 use Rattle.std.specs.Prelude.{if◌then◌else◌, ◌==◌}
 use Rattle.cc_words.specs.Operators.{apply_unary, apply_binary}
@@ -196,7 +196,7 @@ module _ (arity : ℕ → ℕ) (code : List LinearItem) where
 
 -- ---- the whole
 
--- what keeps up with a function keeps up by the steps that are chosen, at the same rate
+-- code that keeps up with a function keeps up as chosen steps too, at the same rate
 pub chosen_tracks : (meaning : Meaning) (f rate slots : ℕ) (code : List LinearItem)
     → TracksForAll meaning f rate (linear_move meaning.arity code) linear_output (linear_start slots code)
     → TracksForAll meaning f rate (selected_move meaning.arity (chosen unknown code)) selected_output (selected_start slots (chosen unknown code))

@@ -1,6 +1,6 @@
 -- The steps of a function of Linear are those of a function of Selected: the labels are the same list, jumps and branches lead to labels of
--- it, registers stay registers, and each word and number is one that the step's instructions can have. Words that are known are words, since
--- they come of items.
+-- it, registers stay registers, and each word and number is one that the step's instructions can have. Known words are words, since they
+-- come from items.
 use Rattle.std.proofs.Common.{◌≡◌, ℕ, List, [], ◌∷◌, Option, Some, None, true, false, Bool, ◌≢◌, refl, sym, ap, ◌∙◌, subst}
 use Rattle.std.specs.Prelude.{if◌then◌else◌, ◌==◌, ◌||◌, not, Contains}
 use Rattle.std.specs.List.{AllByRecursion, AllPairs}
@@ -85,7 +85,7 @@ trimmed_labels is =
     let steps = nearer None (chosen unknown is) in
     fused_labels (table steps) (lean (table steps) steps) ∙ lean_labels (table steps) steps ∙ near_labels None (chosen unknown is) ∙ chosen_labels unknown is
 
--- ---- what is known are words
+-- ---- what is known is words
 
 abbrev AreWords : Known → Type 0
 AreWords k = (r w : ℕ) → k r ≡ Some w → IsWord w
@@ -160,7 +160,7 @@ module _ (slots functions : ℕ) (all : List ℕ) where
   lean_fits at (Immediate o to a w ∷ steps) f = either_way AreFit (live at steps to || not (live at steps a)) (Immediate o to a w ∷ lean at steps) (lean at steps) (f.0, lean_fits at steps f.1) (lean_fits at steps f.1)
   lean_fits at (s ∷ steps) f = (f.0, lean_fits at steps f.1)
 
-  -- a sum that is known is of registers, with a word
+  -- a known sum is of registers, with a word
   abbrev IsSum : Option Sum → Type 0
   IsSum None = Unit {0}
   IsSum (Some s) = IsAllocatable s.from × IsWord s.word

@@ -1,5 +1,5 @@
--- An operator and a word that is known, on its right or on its left, are what the table of forms says: an operator on a register and a word
--- that gives the same of each register's word. Behind a product, a quotient and a remainder with 2^k stand a shift and a mask.
+-- An operator with a known word on its right or on its left is what the table of forms says: an operator on a register and a word that
+-- gives the same for each register's word. A product, a quotient and a remainder with 2^k become a shift and a mask.
 use Rattle.std.proofs.Common.{◌≡◌, ℕ, ◌-◌, ◌/◌, ◌%◌, ◌*◌, ◌^◌, ◌<◌, Option, Some, None, true, false, Bool, refl, sym, ap, ◌∙◌, subst, mul_comm, arith}
 use Rattle.std.proofs.lemmas.Nat.{pow_pos, trailing_le, and_mask, and_comm, or_comm, xor_comm}
 use Rattle.std.specs.Prelude.{if◌then◌else◌, ◌==◌, not, nat_lt, bit_and}
@@ -13,7 +13,7 @@ use Rattle.cc_select.specs.declared.step.WordOperator.TheVariants.{Add, Sub, Shl
 use Rattle.cc_select.specs.Immediates.{apply_immediate, has_word, exponent, is_power, Form, immediate_of, immediate_of_left}
 use Rattle.cc_select.proofs.Basics.{none_some, eqb_says, eqb_turned}
 
--- what a form is to an operator with the word w in its place: where its instructions can have its word, it gives the same
+-- how a form relates to an operator with the word w in its place: if the form's instructions can have its word, it gives the same
 pub record Stands (gives : ℕ → Option ℕ) (w : ℕ) (f : Form) : Type 0 where
   pub same : (a : ℕ) → has_word f.0 f.1 ≡ true → gives a ≡ apply_immediate f.0 a f.1
   pub word : IsWord w → IsWord f.1
@@ -25,7 +25,7 @@ with_it gives w o f e same = let is : (o, w) ≡ f = cc in subst (Stands gives w
 
 -- ---- powers of two
 
--- the form of a power, with what is so of one
+-- the form of a power, with a property of that form
 of_power : (gives : ℕ → Option ℕ) (w : ℕ) (g f : Form) → (if is_power w then Some g else None) ≡ Some f → (w ≡ 2 ^ exponent w → Stands gives w g) → Stands gives w f
 of_power gives w g f e stands = by (is_power w) refl e
   where
@@ -94,7 +94,7 @@ right_is operators.DivU w f e = of_power (λ a. apply_binary operators.DivU a w)
 right_is operators.RemU w f e = of_power (λ a. apply_binary operators.RemU a w) w (And, w - 1) f e (remainder w)
 right_is p w f e = none_some f e
 
--- the order of operands says nothing
+-- the order of operands makes no difference
 add_turned : (a b : ℕ) → add a b ≡ add b a
 add_turned a b = omega arith
 

@@ -1,6 +1,6 @@
--- Where a comparison and the test behind it are one branch, a run keeps up as where they are two. The comparison is no move then, and the
--- branch stands for both: between them (`Middle`) the branch is known to lead where the test does, and the truth value's register may be
--- anything, since nothing reads it behind the test.
+-- If a comparison and the test after it are one branch, a run keeps up as it does if they are two. The comparison is no move then, and the
+-- branch does both. Between them (`Middle`) the branch is known to lead where the test does, and the truth value's register may be
+-- anything, since nothing reads it after the test.
 use Rattle.std.proofs.Common.{◌≡◌, ℕ, ◌≤◌, ◌⊎◌, List, [], ◌∷◌, ◌++◌, Option, Some, None, true, false, Bool, length, bit_xor, refl, sym, ap, ap₂, ◌∙◌, subst, inl, inr, arith}
 use Rattle.std.proofs.lemmas.Bool.Decides.{nat_tests}
 use Rattle.std.specs.Int.Bits.{xor_self, xor_zero_l, xor_zero_r, xor_assoc}
@@ -35,7 +35,7 @@ use Rattle.cc_select.proofs.Making.{labelled, through, made_led, Plain, Owes, ow
 
 -- ---- tests
 
--- behind the test that a list begins with stands what is made of the rest
+-- what is made of the steps after a test follows the test
 pub test_head : (at : ℕ → Registers) (steps : List Step) (t : Test) → test_of steps ≡ Some t → behind (fused at steps) ≡ fused at (behind steps)
 test_head at [] t e = refl
 test_head at (One (IfNonzero r n) ∷ steps) t e = refl
@@ -49,7 +49,7 @@ test_place at (One (IfNonzero r n) ∷ steps) t l e = refl
 test_place at (One (IfZero r n) ∷ steps) t l e = refl
 test_place at (s ∷ steps) t l e = none_some t e
 
--- what is live where it leads is live before it
+-- what is live where the test leads is live before it
 test_live : (at : ℕ → Registers) (steps : List Step) (t : Test) → test_of steps ≡ Some t → (r : ℕ) → In (either (at t.to) (live at (behind steps))) r → In (live at steps) r
 test_live at [] t e = none_some t e
 test_live at (One (IfNonzero a n) ∷ steps) t e =
@@ -60,7 +60,7 @@ test_live at (One (IfZero a n) ∷ steps) t e =
     subst (λ (u : Test). (r : ℕ) → In (either (at u.to) (live at steps)) r → In (live at (One (IfZero a n) ∷ steps)) r) er (λ r i. in_more a r (either (at n) (live at steps)) i)
 test_live at (s ∷ steps) t e = none_some t e
 
--- what it does
+-- what the test does
 test_does : (arity : ℕ → ℕ) (code steps : List Step) (t : Test) (l : Locations) (h : World) (ws : List ℕ) → test_of steps ≡ Some t
     → does arity code steps l h ws ≡ Goes (at_steps (led t.nonzero (l (Register t.register)) (behind steps) (place code t.to)) l h ws)
 test_does arity code [] t l h ws e = none_some t e
@@ -72,10 +72,10 @@ test_does arity code (One (IfZero a n) ∷ steps) t l h ws e =
     subst (λ (u : Test). does arity code (One (IfZero a n) ∷ steps) l h ws ≡ Goes (at_steps (led u.nonzero (l (Register u.register)) steps (place code u.to)) l h ws)) er refl
 test_does arity code (s ∷ steps) t l h ws e = none_some t e
 
--- ---- what steps make
+-- ---- the words that steps make
 
--- what a step has that makes a word of which a test asks only whether it is 0, and the branch on it: the word depends on what is live before
--- the step alone, and the branch leads where the word says
+-- a step whose word is only tested for 0, and the branch that replaces both: the word depends only on what is live before the step, and the
+-- branch leads where the word says
 pub record IsTruth (s : Step) (v : Truth) : Type 0 where
   pub value : Locations → Option ℕ
   pub makes : (arity : ℕ → ℕ) (code steps : List Step) (l : Locations) (h : World) (ws : List ℕ) → does arity code (s ∷ steps) l h ws ≡ tried (value l) (λ w. Goes (at_steps steps (put (Register v.register) w l) h ws))
@@ -199,7 +199,7 @@ immediate_truth o to a w gains = record {
   branches = λ arity code steps l h ws nonzero n u e. ap (λ z. tried z (λ v. Goes (at_steps (led nonzero v steps (place code n)) l h ws))) e;
 }
 
--- where there is a branch for what a step makes
+-- if there is a branch for the word that a step makes
 if_is : (P : Truth → Type 0) (b : Bool) (u v : Truth) → (b ≡ true → P u) → if_so b u ≡ Some v → P v
 if_is P true u v p e = let q : u ≡ v = cc in subst P q (p refl)
 if_is P false u v p e = none_some v e
@@ -288,7 +288,7 @@ module _ (arity : ℕ → ℕ) (code : List Step) (at : ℕ → Registers) (sett
       → Owed (does arity code (s ∷ steps) l h ws) (s ∷ steps) h (at_steps (labelled ns (s ∷ make steps)) k h ws)
   kept = owes_kept arity code make places at settled few Related plain
 
-  -- a comparison that becomes one with its test: no move yet
+  -- a comparison that becomes one with its test: it is no move yet
   owes_truth : (s : Step) (v : Truth) (x : IsTruth s v) (t : Test) (steps : List Step) (ns : List ℕ) (l k : Locations) (h : World) (ws : List ℕ) → length steps ≤ length code → test_of steps ≡ Some t
       → is_alone at v.register t steps ≡ true → Agree (live at (s ∷ steps)) l k → (z : Option ℕ) → x.value l ≡ z
       → Owed (tried z (λ w. Goes (at_steps steps (put (Register v.register) w l) h ws))) (s ∷ steps) h (at_steps (labelled ns (v.branch t.nonzero t.to ∷ behind (make steps))) k h ws)
@@ -339,7 +339,7 @@ module _ (arity : ℕ → ℕ) (code : List Step) (at : ℕ → Registers) (sett
   owes (One (Label n) ∷ steps) ns l k h ws le g = owes_label arity code make places at settled few Related plain n steps (make steps) ns l k h ws (owes steps (ns ++ n ∷ []) l k h ws (omega arith) g)
   owes (s ∷ steps) ns l k h ws le g = owes_joined s steps ns l k h ws tt le g (truth_of s) (test_of steps) refl refl
 
-  -- the test, with the branch that stands for both
+  -- the test, with the branch that replaces both
   short_behind : (steps : List Step) → length steps ≤ length code → length (behind steps) ≤ length code
   short_behind [] le = le
   short_behind (s ∷ steps) le = omega arith
@@ -386,7 +386,7 @@ module _ (arity : ℕ → ℕ) (code : List Step) (at : ℕ → Registers) (sett
   world_of c d (inl r) = r.world
   world_of c d (inr r) = r.world
 
--- what keeps up with a function keeps up where they are one, at a slower rate
+-- code that keeps up with a function keeps up with such branches, at a slower rate
 pub fused_tracks : (meaning : Meaning) (f rate slots : ℕ) (code : List Step) (at : ℕ → Registers) → IsSettled at code → ((g : ℕ) → meaning.arity g ≤ 8)
     → TracksForAll meaning f rate (selected_move meaning.arity code) selected_output (selected_start slots code)
     → TracksForAll meaning f (coarser rate (length code)) (selected_move meaning.arity (fused at code)) selected_output (selected_start slots (fused at code))

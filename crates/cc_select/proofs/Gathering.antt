@@ -1,5 +1,5 @@
--- The table of the tests that go before labels, as the code makes it: from the back, the test behind each label; then none for each label to
--- which a branch leads. And the items so far with those of the items to come.
+-- The table of the tests that go before labels, as the code makes it: from the back, the test after each label; then no test for each label
+-- to which a branch leads. And the items so far with those of the items to come.
 use Rattle.std.proofs.Common.{◌≡◌, ℕ, ◌+◌, ◌-◌, ◌<◌, ◌≤◌, List, ◌∷◌, ◌++◌, length, get_or, drop, refl, sym, ap, ◌∙◌, Bool, true, false, ◌==◌, ◌||◌, if◌then◌else◌, Option, Some, None, append_assoc, arith}
 use Rattle.std.proofs.lemmas.List.{drop_more, drop_all}
 use Rattle.cc_linear_language.specs.declared.item.LinearItem.{LinearItem}
@@ -59,7 +59,7 @@ gather_other items at item found (pos, is) f g =
 
 -- ---- branches
 
--- none for the labels to which branches of the first items lead
+-- no tests for the labels to which branches of the first items lead
 abbrev pub Crossed : (items : List LinearItem) (at : ℕ) (old new : Tests) → Type 0
 Crossed items at old new = (n : ℕ) → (if branches_to (drop at items) n then None else new n) ≡ (if branches_to items n then None else old n)
 
@@ -101,14 +101,14 @@ cross_ends items at first found le so_far n = ap (λ (xs : List LinearItem). if 
 
 -- ---- the walk
 
--- the steps so far, and those of the items to come, are all
+-- the steps so far and those of the items to come are all steps
 abbrev pub Threaded : Tests → List LinearItem → (index : ℕ) → Known → (gone : Bool) → List Step → Type 0
 Threaded ts items i k gone steps = steps ++ chosen k (threaded_by ts k gone (drop i items)) ≡ chosen unknown (threaded_by ts unknown false items)
 
 pub thread_gone : (ts : Tests) (items : List LinearItem) (i : ℕ) (item : LinearItem) (k : Known) (steps : List Step) → i < length items → item ≡ get_or items i item → Threaded ts items i k true steps → Threaded ts items (i + 1) k false steps
 thread_gone ts items i item k steps lt is so_far = ap (λ (xs : List LinearItem). steps ++ chosen k (threaded_by ts k true xs)) (sym (one_more items i item lt is)) ∙ so_far
 
--- behind a jump and a label nothing is known
+-- after a jump and a label nothing is known
 jump_chosen : (w : LinearItem) (n : ℕ) (k : Known) (rest : List LinearItem) → chosen k (before_jump w n ++ rest) ≡ chosen k (before_jump w n) ++ chosen unknown rest
 jump_chosen (Jump m) n k rest = refl
 jump_chosen w n k rest = refl

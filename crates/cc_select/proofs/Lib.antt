@@ -1,11 +1,12 @@
--- How the steps are shown to keep up with the items, pass by pass. With tests before labels: where a run jumps to such a label, the other
--- one makes the jump when it makes the test, so one of two moves is matched by none (Threaded; that labels occur once and that only jumps
--- lead to those is Tests). With constants in the operations that read them: item and step go hand in hand from the same locations, and
--- what is known of a register holds (Choosing). Without the constants that nobody reads: the locations agree on what is live, and each
--- constant that is left out is a move that nothing matches, at most as many as the list is long (Lean). A comparison and its branch as
--- one step stand for two moves, and between them the truth value is in nobody's way (Fused). The last two ask of the table of live
--- registers only that it is settled, which a look finds (Settled); how it was found no proof asks. A run of the steps is the same
--- whatever the registers hold that are not live (Unread).
+-- How the steps are shown to keep up with the items, pass by pass. With tests before labels: when a run jumps to such a label, the other
+-- run makes the jump when it makes the test, so one of two moves is matched by nothing (Threaded; Tests has that labels occur once and
+-- that only jumps lead to those labels). With constants in the operations that read them: item and step go hand in hand from the same
+-- locations, and what is known about a register holds (Choosing). Without the constants that nobody reads: the locations agree on what is
+-- live, and each constant that is left out is a move that nothing matches; there are at most as many as the list is long (Lean). A
+-- comparison and its branch as one step do two moves, and between them nothing reads the truth value (Fused). The last two need of the
+-- table of live registers only that it is settled, which a check finds (Settled); no proof asks how it was found. A run of the steps is
+-- the same whatever the registers that are not live hold (Unread).
+--
 -- tests on numbers, and truth values
 pub mod Basics
 -- the table of labels is settled
@@ -14,19 +15,19 @@ pub mod Settled
 pub mod Places
 -- operators with a known word
 pub mod Forms
--- which steps may be chosen
+-- the steps that may be chosen
 pub mod Choices
 -- from items to steps
 pub mod Choosing
--- accesses near by
+-- accesses to nearby elements
 pub mod Nearing
 -- what is not live may be anything
 pub mod Unread
--- steps made of steps
+-- steps made from steps
 pub mod Making
 -- without the constants that nobody reads
 pub mod Lean
--- comparisons and their tests as one
+-- comparisons and their tests become one
 pub mod Fused
 -- the steps are those of a function of Selected
 pub mod Fit
@@ -34,16 +35,21 @@ pub mod Fit
 pub mod Parameters
 -- what a pair of Selected keeps
 pub mod Selecting
--- sets of registers as bits, and known words
+-- sets of registers as bits
 pub mod Bits
+-- known words, as the code keeps them
 pub mod Knowing
--- the sweeps, and the two passes
+-- the sweeps over the table of labels
 pub mod Sweeping
+-- the two passes, one more step at a time
 pub mod Passing
--- tests that go before labels, and the run with them there
+-- tests that go before labels
 pub mod Tests
+-- a run with tests before labels keeps up as without them
 pub mod Threaded
+-- with tests before labels the items are still those of a function
 pub mod Threading_fits
+-- the table of the tests, as the code makes it
 pub mod Gathering
 -- from the pass to a pair
 pub mod Handing

@@ -1,6 +1,6 @@
--- Steps that are made of steps, as `lean` and `fused` make them: what both need of a simulation from the ones to the others. A label stands
--- where it stood, so each step that is kept does what it did, between places that correspond. A label is no move, so the steps that are made
--- may stand behind labels that the run has passed already (`labelled`).
+-- Steps that are made from steps, as `lean` and `fused` make them: what both need for a simulation from the old ones to the new ones. Each
+-- label keeps its place, so each step that is kept does what it did, between places that correspond. A label is no move, so the new steps
+-- may be after labels that the run has passed already (`labelled`).
 use Rattle.std.proofs.Common.{◌≡◌, ℕ, ◌<◌, ◌≤◌, ◌⊎◌, List, [], ◌∷◌, ◌++◌, Option, Some, None, true, false, Bool, length, refl, sym, ap, ◌∙◌, subst, inl, inr, arith}
 use Rattle.cc_words.specs.Words.{add}
 use Rattle.cc_words.specs.Operators.{apply_binary}
@@ -109,7 +109,7 @@ module _ (arity : ℕ → ℕ) (code : List Step) (make : List Step → List Ste
     abbrev pub same : Configuration → Configuration → Type 0
     same = Same arity code at settled few
 
-    -- behind some labels the steps that are made of the old ones, with locations that agree on what is live
+    -- after some labels, the steps that are made from the old ones, with locations that agree on what is live
     pub record Plain (c d : Configuration) : Type 0 where
       pub before : List ℕ
       pub steps : d.steps ≡ labelled before (make c.steps)
@@ -122,14 +122,14 @@ module _ (arity : ℕ → ℕ) (code : List Step) (make : List Step → List Ste
     plain_of c e s le = record { before = []; steps = ap (λ (xs : List Step). make xs) (sym s.steps); agree = s.agree; world = s.world; words = s.words; short = le }
 
     module _ (Related : Configuration → Configuration → Type 0) (plain : (c d : Configuration) → Plain c d → Related c d) where
-      -- what is owed of a move of the old
+      -- what a move of the old run owes
       abbrev pub Owes : Moving Configuration → List Step → World → Configuration → Type 0
       Owes (Goes c) steps h d = Advances old selected_output new selected_output Related 0 c d ⊎ (Related c d × (length c.steps < length steps))
       Owes (Calls q f) steps h d = Asks old selected_output new selected_output Related 0 q f d
       Owes (Returns r) steps h d = Ending old selected_output new selected_output 0 r h.output d
       Owes Fails steps h d = Unit {0}
 
-      -- a move that both have
+      -- a move that both runs make
       both : (m n : Moving Configuration) (steps : List Step) (h : World) (d : Configuration) → d.world ≡ h → IsShort arity code m → Alike same m n → new d ≡ made_of n → Owes m steps h d
       both (Goes c) (Goes e) steps h d w le a eq = inl (record { moves = 1; to = maker e; one = omega arith; few = omega arith; way = (maker e, eq, (refl, refl)); related = plain c (maker e) (plain_of c e a le) })
       both (Calls q f) (Calls p g) steps h d w le (e, a) eq = record {
@@ -158,7 +158,7 @@ module _ (arity : ℕ → ℕ) (code : List Step) (make : List Step → List Ste
       longer (Returns r) n steps h d x = x
       longer Fails n steps h d x = tt
 
-      -- at a label what is owed behind it is owed
+      -- what is owed after a label is owed at it
       pub owes_label : (n : ℕ) (steps made : List Step) (ns : List ℕ) (l k : Locations) (h : World) (ws : List ℕ) → Owes (does arity code steps l h ws) steps h (at_steps (labelled (ns ++ n ∷ []) made) k h ws)
           → Owes (does arity code (One (Label n) ∷ steps) l h ws) (One (Label n) ∷ steps) h (at_steps (labelled ns (One (Label n) ∷ made)) k h ws)
       owes_label n steps made ns l k h ws x =
@@ -182,7 +182,7 @@ module _ (arity : ℕ → ℕ) (code : List Step) (make : List Step → List Ste
             plain (selected_start slots code words ws h) (selected_start slots (make code) words ws h)
             (record { before = []; steps = refl; agree = record { registers = λ r e. refl; slots = λ i. refl }; world = refl; words = refl; short = omega arith })
 
-        -- what keeps up with a function keeps up by what is made of it, at a slower rate
+        -- code that keeps up with a function keeps up as what is made from it, at a slower rate
         pub tracks_made : (meaning : Meaning) (f rate slots : ℕ) → TracksForAll meaning f rate old selected_output (selected_start slots code)
             → TracksForAll meaning f (coarser rate (length code)) new selected_output (selected_start slots (make code))
         tracks_made meaning f rate slots keeps =

@@ -1,6 +1,6 @@
--- The steps with accesses near by do, one for one, what the steps without do. The sum that is known holds (`Holds`), so an access whose register
--- has the sum may have the other register and the word; at a label nothing is known, so the steps of a place are those made there with nothing
--- known.
+-- The steps with accesses to nearby elements do, one for one, what the steps without them do. The known sum holds (`Holds`), so an access
+-- whose register has the sum may have the other register and the word instead. At a label nothing is known, so the steps of a place are
+-- those that are made there with nothing known.
 use Rattle.std.proofs.Common.{◌≡◌, ℕ, suc, ◌+◌, ◌<◌, ◌≤◌, List, [], ◌∷◌, ◌++◌, Option, Some, None, true, false, Bool, length, get_or, drop, refl, sym, ap, ap₂, ◌∙◌, subst, append_assoc, arith}
 use Rattle.std.proofs.lemmas.Int.{ints}
 use Rattle.std.proofs.lemmas.List.{drop_more, drop_all, append-nil}
@@ -30,7 +30,7 @@ use Rattle.cc_select.specs.Near.{unless, summed, sum_immediate, sum_behind, sum_
 use Rattle.cc_select.proofs.Basics.{none_some, eqb_yes, eqb_says}
 use Rattle.cc_select.proofs.Places.{IsThere, there_place, led_alike}
 
--- ---- the sum that is known holds
+-- ---- the known sum holds
 
 abbrev pub Holds : Option Sum → Locations → Type 0
 Holds None l = Unit {0}
@@ -74,7 +74,7 @@ sum_says (Some t) r l s h e = by (r == t.to) (eqb_says r t.to) e
     by true p e = (let q : t ≡ s = cc in ap (λ n. l (Register n)) (p refl) ∙ subst (λ (x : Sum). l (Register t.to) ≡ add (l (Register x.from)) x.word) q h)
     by false p e = none_some s e
 
--- ---- what stands for an access
+-- ---- what an access becomes
 
 module _ (P : Step → Type 0) where
   with_sum_gives : (z : Option Sum) (other : Step) (f : Sum → Step) → ((s : Sum) → z ≡ Some s → P (f s)) → P other → P (with_sum z other f)
@@ -206,7 +206,7 @@ module _ (arity : ℕ → ℕ) (code : List Step) where
 
 -- ---- the whole
 
--- what keeps up with a function keeps up by the steps with accesses near by, at the same rate
+-- code that keeps up with a function keeps up with accesses to nearby elements, at the same rate
 pub near_tracks : (meaning : Meaning) (f rate slots : ℕ) (code : List Step) → TracksForAll meaning f rate (selected_move meaning.arity code) selected_output (selected_start slots code)
     → TracksForAll meaning f rate (selected_move meaning.arity (nearer None code)) selected_output (selected_start slots (nearer None code))
 near_tracks meaning f rate slots code keeps d below ws h is_call n =
@@ -233,7 +233,7 @@ near_tracks meaning f rate slots code keeps d below ws h is_call n =
           },
     )
 
--- ---- the code: the steps that are made so far, and those of the rest
+-- ---- the code: the steps so far, and those of the rest
 
 abbrev pub Made : (steps : List Step) → (index : ℕ) → Option Sum → List Step → Type 0
 Made steps i z made = made ++ nearer z (drop i steps) ≡ nearer None steps

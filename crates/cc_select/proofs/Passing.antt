@@ -1,4 +1,4 @@
--- The two passes, a step more at a time: the steps that stay, with what is live behind each, and comparisons joined with their tests.
+-- The two passes, one more step at a time: the steps that stay, with what is live after each, and comparisons joined with their tests.
 use Rattle.std.proofs.Common.{◌≡◌, ℕ, zero, suc, ◌+◌, ◌<◌, ◌≤◌, List, [], ◌∷◌, ◌++◌, length, get_or, drop, refl, sym, ap, ◌∙◌, subst, Bool, true, false, ◌==◌, ◌&&◌, not, if◌then◌else◌, Option, Some, None, inl, inr, arith, append_assoc}
 use Rattle.std.proofs.lemmas.List.{drop_more, drop_all, length_push, append-nil, get_or_append_left, get_or_default}
 use Rattle.std.proofs.Math.Seq.{get_or-append_seam, drop-append_seam}
@@ -26,7 +26,7 @@ lean_more t (One (Const to word)) steps = refl
 lean_more t (Immediate operator to from word) steps = refl
 lean_more t _ steps = refl
 
--- the steps before number `at` have been looked at: those that stay are kept, with what is live behind each
+-- the steps before number `at` have been looked at: those that stay are kept, with what is live after each
 pub record Keeping (steps : List Step) (sets : List bits.Registers) (at : ℕ) (kept : List Step) (noted : List bits.Registers) : Type 0 where
   pub long : length noted ≡ length kept
   pub so_far : (t : Table) → AreBehind t steps sets → kept ++ lean t (drop at steps) ≡ lean t steps
@@ -92,7 +92,7 @@ keep_ends steps sets at kept noted le w =
 
 -- ---- a truth value's branch
 
--- what the branches of a step are, where it makes a truth value, and where it makes none
+-- the branches of a step if it makes a truth value, and if it makes none
 abbrev Branches : Option Truth → (Test → Option Step) → Type 0
 Branches None f = (v : Test) → f v ≡ None
 Branches (Some t) f = (v : Test) → f v ≡ (if t.register == v.register then Some (t.branch v.nonzero v.to) else None)
@@ -148,14 +148,14 @@ branches (One (Binary o to x y)) = binary_branches o to x y
 branches (Immediate o to a w) = if_gains (gains o w) to (λ nonzero n. BranchImmediate o nonzero a w n)
 branches _ = λ v. refl
 
--- ---- a step joined with the test behind it
+-- ---- a step joined with the test after it
 
 -- a branch in place of a step and the test, or the step
 abbrev put_branch : Option Step → Step → (done : List Step) → List Step
 put_branch None s done = s ∷ done
 put_branch (Some b) s done = b ∷ behind done
 
--- whether it is last, as `branch_of` asks it
+-- whether it is the last reader, as `branch_of` asks
 abbrev if_last : Table → (Test → Option Step) → Option Test → (steps : List Step) → Option Step
 if_last t f None steps = None
 if_last t f (Some v) steps = if is_last t v steps then f v else None
@@ -208,7 +208,7 @@ test_alone t _ steps v e = absurd (cc)
 fused_step : (t : Table) (s : Step) (steps : List Step) → fused t (s ∷ steps) ≡ put_branch (branch_of t s (test_of steps) steps) s (fused t steps)
 fused_step t s steps = joined_by t s (truth_of s) (branch_on s) (test_of steps) steps (fused t steps) (branches s) ∙ ap (λ x. put_branch x s (fused t steps)) (same_branch t s (test_of steps) steps)
 
--- what comes of a list, by its first branch
+-- what a list becomes, by its first branch
 fused_none : (t : Table) (s : Step) (steps : List Step) → None ≡ first_branch t (s ∷ steps) → fused t (s ∷ steps) ≡ s ∷ fused t steps
 fused_none t s [] e = fused_step t s []
 fused_none t s (next ∷ steps) e =
@@ -230,7 +230,7 @@ fused_some t s b (next ∷ steps) e =
 
 -- ---- the walk
 
--- the steps so far, and those that come of the others
+-- the steps so far, and what the others become
 abbrev pub Joined : Table → (steps : List Step) (at : ℕ) (found : List Step) → Type 0
 Joined t steps at found = found ++ fused t (drop at steps) ≡ fused t steps
 
@@ -286,7 +286,7 @@ two_at t steps at next lt is_next =
 pub no_test : (t : Table) (steps : List Step) (at : ℕ) (next : Step) → at + 1 < length steps → next ≡ get_or steps (at + 1) next → test_in next ≡ None → None ≡ first_branch t (drop at steps)
 no_test t steps at next lt is_next none = sym (two_at t steps at next lt is_next ∙ ap (λ o. branch_of t (get_or steps at next) o (drop (at + 1) steps)) none)
 
--- the step behind a place is a test
+-- the step after a place is a test
 pub record Tested (t : Table) (steps : List Step) (at : ℕ) (next : Step) (v : Test) : Type 0 where
   pub inside : at + 1 < length steps
   pub next_is : next ≡ get_or steps (at + 1) next

@@ -1,4 +1,4 @@
--- Lists of steps: what holds where a branch leads, that places and labels lie behind a step that is no label, and that no step leads to more
+-- Lists of steps: what holds where a branch leads; that places and labels lie after a step that is no label; and that no step leads to more
 -- steps than the code has.
 use Rattle.std.proofs.Common.{◌≡◌, ℕ, ◌≤◌, List, [], ◌∷◌, Option, Some, None, true, false, Bool, length, refl, arith}
 use Rattle.std.specs.Prelude.{◌==◌}
@@ -17,7 +17,7 @@ use Rattle.cc_select.proofs.Basics.{either_way, if_alike}
 
 -- ---- branches
 
--- what is so of both lists is so of the one that a branch leads to
+-- a property of both lists is one of the list to which a branch leads
 pub led_either : (P : List Step → Type 0) (nonzero : Bool) (w : ℕ) (on there : List Step) → P on → P there → P (led nonzero w on there)
 led_either P true w on there p q = either_way P (w == 0) on there p q
 led_either P false w on there p q = either_way P (w == 0) there on q p
@@ -40,7 +40,7 @@ pub there_labels : (s : Step) (steps : List Step) → IsThere s → labels (s �
 there_labels (One (Label n)) steps t = absurd t
 there_labels s steps t = refl
 
--- ---- where a step leads, no more steps are left than the code has
+-- ---- no step leads to more steps than the code has
 
 module _ (arity : ℕ → ℕ) (code : List Step) where
   abbrev pub IsShort : Moving Configuration → Type 0

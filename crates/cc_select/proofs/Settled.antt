@@ -1,5 +1,5 @@
--- The table of a function's labels is settled: it was looked at (`fits`), or everything is live at each label. A row has the 32 registers
--- alone, so a register above them counts as live in each row.
+-- The table of a function's labels is settled: it was checked (`fits`), or everything is live at each label. A row has only the 32
+-- registers, so a number above them counts as live in each row.
 use Rattle.std.proofs.Common.{◌≡◌, ℕ, zero, suc, ◌<◌, ◌≤◌, ◌⊎◌, List, [], ◌∷◌, true, false, Bool, refl, ap, ◌∙◌, subst, inl, inr, arith}
 use Rattle.std.proofs.lemmas.Bool.{cases_lt}
 use Rattle.std.proofs.lemmas.Bool.Decides.{nat_tests, eqb_tells}
@@ -44,7 +44,7 @@ row_has t l s high e r i = by (cases r)
     by (inl lt) = implied (s r) (t l r) (all_says 32 (λ r. not (s r) || t l r) e r lt) i
     by (inr le) = high r le
 
--- what is live before steps is live at the label
+-- what is live before the steps is live at the label
 abbrev Has : Table → ℕ → List Step → Type 0
 Has t l steps = (r : ℕ) → live t steps r ≡ true → t l r ≡ true
 

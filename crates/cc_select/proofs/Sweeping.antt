@@ -1,5 +1,5 @@
--- The table of labels as a vector: one sweep, a step more at a time, from the back; the look, which notes what is live behind each step;
--- and the sweeps until one fits. All is said of the 32 registers alone: what a set has for a number depends on what the sets behind it have
+-- The table of labels as a vector: one sweep, one more step at a time, from the back; the check, which notes what is live after each step;
+-- and the sweeps until one fits. Everything is about the 32 registers: what a set has for a number depends on what the sets after it have
 -- for that number.
 use Rattle.std.proofs.Common.{◌≡◌, ℕ, zero, suc, ◌+◌, ◌-◌, ◌<◌, ◌≤◌, List, [], ◌∷◌, length, get_or, set, drop, refl, sym, ap, ◌∙◌, subst, Bool, true, false, ◌==◌, ◌&&◌, ◌||◌, not, nat_lt, nat_le, if◌then◌else◌, Some, None, inl, inr, arith}
 use Rattle.std.proofs.lemmas.List.{get_or-set_same, get_or-set_other, length-set, drop_more, drop_all}
@@ -78,7 +78,7 @@ swept_other : (t : Table) (step : Step) (steps : List Step) → IsNoLabel step �
 swept_other t (One (Label n)) steps f = absurd (f n refl)
 swept_other t _ steps f = refl
 
--- the steps from number `at` on are swept
+-- the steps from number `at` on have been swept
 pub record Sweeping (steps : List Step) (old : rows.LiveTable) (at : ℕ) (live : bits.Registers) (new : rows.LiveTable) : Type 0 where
   pub within : at ≤ length steps
   pub same : (t : Table) → SameTable (table_of old) t → Same (holds live) (swept t (drop at steps)).0 × SameTable (table_of new) (swept t (drop at steps)).1
@@ -140,7 +140,7 @@ pub sweep_ends : (steps : List Step) (old : rows.LiveTable) (at : ℕ) (live : b
 sweep_ends steps old zero live new le w t h = (w.same t h).1
 sweep_ends steps old (suc at) live new le w t h = absurd (omega arith)
 
--- ---- the look
+-- ---- the check
 
 all_below_same : (n : ℕ) (f g : ℕ → Bool) → ((r : ℕ) → r < n → f r ≡ g r) → all_below n f ≡ all_below n g
 all_below_same zero f g h = refl
@@ -158,7 +158,7 @@ all_true : (n : ℕ) (f : ℕ → Bool) → ((r : ℕ) → f r ≡ true) → all
 all_true zero f h = refl
 all_true (suc n) f h = ap (λ b. b && all_below n f) (h n) ∙ all_true n f h
 
--- where it does not fit from some step on, it does not fit
+-- if the steps from some number on do not fit, the steps do not fit
 misfit : (t : Table) (i : ℕ) (steps : List Step) → fits t (drop i steps) ≡ false → fits t steps ≡ false
 misfit t zero steps e = e
 misfit t (suc i) [] e = e
@@ -168,7 +168,7 @@ misfit t (suc i) (step ∷ steps) e = fits_more t step steps ∙ ap (λ b. is_me
     none true = refl
     none false = refl
 
--- the steps from number `at` on fit, and what is live behind each is noted
+-- the steps from number `at` on fit, and what is live after each is noted
 pub record Looking (steps : List Step) (table : rows.LiveTable) (at : ℕ) (before : bits.Registers) (behind : List bits.Registers) : Type 0 where
   pub within : at ≤ length steps
   pub long : length behind ≡ length steps
@@ -187,7 +187,7 @@ look_begins steps table before behind e long =
       noted = λ t h j d le lt. absurd (omega arith);
     }
 
--- one step more, of which the row has what is live there
+-- one more step, whose row has everything that is live there
 pub look_more : (steps : List Step) (table : rows.LiveTable) (at : ℕ) (before before' : bits.Registers) (behind : List bits.Registers) (step : Step) → At steps at step → is_met (table_of table) step (holds before) ≡ true
     → holds before' ≡ live_before step (table_of table) (holds before) → Looking steps table at before behind → Looking steps table (at - 1) before' (set behind (at - 1) before)
 look_more steps table at before before' behind step a met is w =
@@ -211,7 +211,7 @@ look_more steps table at before before' behind step a met is w =
       ];
     }
 
--- one of which it has not
+-- a step whose row lacks something that is live there
 pub look_fails : (steps : List Step) (table : rows.LiveTable) (at : ℕ) (before : bits.Registers) (behind : List bits.Registers) (step : Step) → At steps at step → is_met (table_of table) step (holds before) ≡ false
     → Looking steps table at before behind → (t : Table) → SameTable (table_of table) t → false ≡ fits t steps
 look_fails steps table at before behind step a met w t h =
@@ -231,7 +231,7 @@ settled_more : (n : ℕ) (t : Table) (code : List Step) → 0 < n → settled_in
 settled_more zero t code lt = absurd (omega arith)
 settled_more (suc n) t code lt = (let e : n ≡ suc n - 1 = omega arith in ap (λ k. if fits (swept_rows t code) code then swept_rows t code else settled_in k (swept_rows t code) code) e)
 
--- so many sweeps more, from a table on, give the table that is wanted
+-- this many more sweeps, from a table on, give the wanted table
 pub record Settling (steps : List Step) (wanted : Table) (left : ℕ) (table : rows.LiveTable) (behind : List bits.Registers) : Type 0 where
   pub long : length behind ≡ length steps
   pub from : Table
@@ -249,7 +249,7 @@ settle_more steps wanted left table new behind behind' pos sweeps long misses w 
       ∙ sym (settled_more left w.from steps pos) ∙ w.gives;
 }
 
--- the table that fits is the one
+-- the table that fits is the wanted one
 pub settle_ends : (steps : List Step) (wanted : Table) (left : ℕ) (table new : rows.LiveTable) (behind : List bits.Registers) → 0 < left → ((t : Table) → SameTable (table_of table) t → SameTable (table_of new) (swept_rows t steps))
     → ((t : Table) → SameTable (table_of new) t → true ≡ fits t steps) → Settling steps wanted left table behind → SameTable (table_of new) wanted
 settle_ends steps wanted left table new behind pos sweeps fit w =
@@ -257,12 +257,12 @@ settle_ends steps wanted left table new behind pos sweeps fit w =
     (sym (ap (λ (b : Bool). if b then swept_rows w.from steps else settled_in (left - 1) (swept_rows w.from steps) steps) (sym (fit (swept_rows w.from steps) (sweeps w.from w.same)))) ∙ sym (settled_more left w.from steps pos) ∙ w.gives)
     (sweeps w.from w.same)
 
--- where no sweep is left, it is everywhere
+-- if no sweep is left, everything is live at each label
 pub settle_none : (steps : List Step) (wanted : Table) (left : ℕ) (table new : rows.LiveTable) (behind : List bits.Registers) → left ≤ 0 → SameTable (table_of new) everywhere → Settling steps wanted left table behind → SameTable (table_of new) wanted
 settle_none steps wanted zero table new behind le h w = subst (SameTable (table_of new)) w.gives h
 settle_none steps wanted (suc left) table new behind le h w = absurd (omega arith)
 
--- everywhere fits
+-- the table in which everything is live fits
 pub everywhere_fits : (steps : List Step) → fits everywhere steps ≡ true
 everywhere_fits [] = refl
 everywhere_fits (step ∷ steps) = fits_more everywhere step steps ∙ ap (λ b. b && fits everywhere steps) (met step) ∙ everywhere_fits steps

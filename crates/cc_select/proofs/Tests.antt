@@ -1,5 +1,5 @@
--- Tests that go before labels: each stands directly behind its label, where that stands first; what a test does, and what stands for it where
--- something is known.
+-- Tests that go before labels: each is directly after its label, if that is the first occurrence; what a test does, and what replaces it if
+-- its word is known.
 use Rattle.std.proofs.Common.{◌≡◌, ◌≢◌, ℕ, suc, ◌<◌, List, [], ◌∷◌, length, Option, Some, None, Bool, true, false, refl, sym, ap, ◌∙◌, subst, inl, inr, arith}
 use Rattle.std.proofs.lemmas.Bool.Decides.{eqb_tells}
 use Rattle.std.specs.Prelude.{if◌then◌else◌, ◌==◌, not, Contains}
@@ -44,7 +44,7 @@ test_does arity code (IfNonzero r m) items l h ws is = ap (λ xs. Goes (at_items
 test_does arity code (IfZero r m) items l h ws is = refl
 test_does arity code i items l h ws is = absurd is
 
--- ---- what stands for it
+-- ---- what replaces it
 
 nonzero_known : (z : Option ℕ) → is_taken true z ≡ true → (w : ℕ) × (z ≡ Some w) × ((w == 0) ≡ false)
 nonzero_known None e = absurd (let z : false ≡ true = e in cc)
@@ -82,9 +82,9 @@ test_before_jump (IfNonzero r m) n is = refl
 test_before_jump (IfZero r m) n is = refl
 test_before_jump i n is = absurd is
 
--- ---- where it stands
+-- ---- where it is
 
--- at the label's place it stands behind the label
+-- at the label's place it is after the label
 pub record Gone (code : List LinearItem) (n : ℕ) (t : LinearItem) : Type 0 where
   pub rest : List LinearItem
   pub at : place code n ≡ Label n ∷ t ∷ rest
@@ -115,7 +115,7 @@ gone_tests code n t e = by (branches_to code n) e
     by true x = none_some t x
     by false x = found_behind code n t x
 
--- ---- items whose labels stand first, and whose branches lead to labels before which no test goes
+-- ---- items whose labels are the first, and whose branches lead to labels before which no test goes
 
 abbrev pub Fine : (code : List LinearItem) (ts : Tests) → List LinearItem → Type 0
 Fine code ts [] = Unit {0}

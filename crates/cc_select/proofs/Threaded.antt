@@ -1,5 +1,6 @@
--- With tests before labels a run keeps up as without. Where it jumps to a label before which a test goes, the jump is made when the test is,
--- so one of the two moves is matched by none (`Waiting`); else each move is matched by one, with what is known (`Normal`).
+-- With tests before labels a run keeps up as without them. When it jumps to a label before which a test goes, the jump is made together
+-- with the test, so one of the two moves is matched by nothing (`Waiting`). Any other move is matched by one, with what is known
+-- (`Normal`).
 use Rattle.std.proofs.Common.{◌≡◌, ℕ, ◌<◌, ◌≤◌, ◌⊎◌, List, [], ◌∷◌, ◌++◌, Option, Some, None, Bool, true, false, refl, sym, ap, ◌∙◌, subst, inl, inr, arith}
 use Rattle.std.specs.Prelude.{if◌then◌else◌, ◌==◌}
 use Rattle.cc_words.specs.Operators.{apply_unary, apply_binary}
@@ -72,7 +73,7 @@ rest_of [] = []
 rest_of (i ∷ items) = items
 
 module _ (code : List LinearItem) (ts : Tests) (stands : (n : ℕ) (t : LinearItem) → ts n ≡ Some t → Gone code n t) where
-  -- items begin with a test, where one has gone before their label
+  -- the items begin with a test if one was moved before their label
   abbrev Begins : Bool → List LinearItem → Type 0
   Begins false items = Unit {0}
   Begins true [] = Unit {0}
@@ -88,7 +89,7 @@ module _ (code : List LinearItem) (ts : Tests) (stands : (n : ℕ) (t : LinearIt
       by None e = tt
       by (Some t) e = subst (λ xs. Begins true xs) (sym (behind_label n t items e at)) (stands n t e).test
 
-  -- what stands at a label's place
+  -- what is at a label's place
   abbrev seen : Option LinearItem → List LinearItem → List LinearItem
   seen None items = threaded_by ts unknown false items
   seen (Some t) [] = []
@@ -164,7 +165,7 @@ module _ (code : List LinearItem) (ts : Tests) (stands : (n : ℕ) (t : LinearIt
     place_made : (n : ℕ) → place made n ≡ seen (ts n) (place code n)
     place_made n = place_is n unknown false code all_fine tt
 
-    -- a configuration at what is made of the items of another
+    -- a configuration at what is made from another's items
     pub record Exact (c d : Configuration) : Type 0 where
       pub known : Known
       pub holds : Holds known c.locations
@@ -174,7 +175,7 @@ module _ (code : List LinearItem) (ts : Tests) (stands : (n : ℕ) (t : LinearIt
       pub world : d.world ≡ c.world
       pub words : d.words ≡ c.words
 
-    -- one that moves as such a one does
+    -- a configuration that moves as such a one does
     pub record Normal (c d : Configuration) : Type 0 where
       pub known : Known
       pub holds : Holds known c.locations
@@ -182,7 +183,7 @@ module _ (code : List LinearItem) (ts : Tests) (stands : (n : ℕ) (t : LinearIt
       pub moves : new d ≡ does arity made (threaded_by ts known false c.items) c.locations c.world c.words
       pub world : d.world ≡ c.world
 
-    -- at a label before which a test goes; the other is at the jump yet
+    -- at a label before which a test goes; the other run is still at the jump
     pub record Waiting (c d : Configuration) : Type 0 where
       pub known : Known
       pub holds : Holds known c.locations
@@ -214,12 +215,12 @@ module _ (code : List LinearItem) (ts : Tests) (stands : (n : ℕ) (t : LinearIt
     normal_of : (c d : Configuration) → Exact c d → Normal c d
     normal_of c d s = record { known = s.known; holds = s.holds; fine = s.fine; moves = λ i. does arity made (s.items i) (s.locations i) (s.world i) (s.words i); world = s.world }
 
-    -- ---- what is owed of a move
+    -- ---- what a move owes
 
     abbrev Moves : Configuration → Configuration → Type 0
     Moves c d = Advances old linear_output new linear_output Related 1 c d
 
-    -- the measure: 1 where the next move is a jump
+    -- the measure: 1 if the next move is a jump
     abbrev rank : List LinearItem → ℕ
     rank [] = 0
     rank (Label n ∷ items) = rank items
@@ -329,7 +330,7 @@ module _ (code : List LinearItem) (ts : Tests) (stands : (n : ℕ) (t : LinearIt
       by_jump_on : (d : Configuration) → leads t l ≡ false → new d ≡ Goes (at_items (place made n) l h ws) → Moves (led (leads t l)) d
       by_jump_on d q m = subst (λ b. Moves (led b) d) (sym q) (advance (led false) (at_items (place made n) l h ws) d m on_at_label)
 
-      -- the test, and the label behind it
+      -- the test, and the label after it
       entered : (d : Configuration) → new d ≡ does arity made (way k t n ∷ Label n ∷ threaded_by ts unknown false rest) l h ws → Moves (led (leads t l)) d
       entered d =
           way_gives (λ w. new d ≡ does arity made (w ∷ Label n ∷ threaded_by ts unknown false rest) l h ws → Moves (led (leads t l)) d) k l holds n t is (by_jump_there d) (by_jump_on d)
@@ -339,7 +340,7 @@ module _ (code : List LinearItem) (ts : Tests) (stands : (n : ℕ) (t : LinearIt
           by true m = advance (led true) _ d m there
           by false m = advance (led false) _ d m (on (Label n ∷ threaded_by ts unknown false rest) refl)
 
-      -- the test, and the jump to the label behind it
+      -- the test, and the jump to the label after it
       passed : (d : Configuration) (behind : List LinearItem) → new d ≡ does arity made (before_jump (way k t n) n ++ behind) l h ws → Moves (led (leads t l)) d
       passed d behind =
           way_gives (λ w. new d ≡ does arity made (before_jump w n ++ behind) l h ws → Moves (led (leads t l)) d) k l holds n t is (by_jump_there d) (by_jump_on d)
@@ -368,7 +369,7 @@ module _ (code : List LinearItem) (ts : Tests) (stands : (n : ℕ) (t : LinearIt
       waits items behind m d at moves =
           subst (λ xs. Owes (does arity code xs l h ws) m h d) (sym (at ∙ (stands n t e).at)) (subst (λ x. Owes x m h d) (sym (test_does arity code t rest l h ws is)) (inl (passed d behind moves)))
 
-      -- no jump stands at its place
+      -- there is no jump at its place
       still : rank (place code n) ≡ 0
       still = ap rank (stands n t e).at ∙ by t is
         where
@@ -431,7 +432,7 @@ module _ (code : List LinearItem) (ts : Tests) (stands : (n : ℕ) (t : LinearIt
 pub threaded_labels : (code : List LinearItem) → Distinct (labels code) → labels (threaded code) ≡ labels code
 threaded_labels code distinct = labels_are code (tests code) (gone_tests code) unknown false code (fine_tests code distinct) tt
 
--- what keeps up with a function keeps up with tests before labels, at a slower rate
+-- code that keeps up with a function keeps up with tests before labels, at a slower rate
 pub threaded_tracks : (meaning : Meaning) (f rate slots : ℕ) (code : List LinearItem) → Distinct (labels code) → TracksForAll meaning f rate (linear_move meaning.arity code) linear_output (linear_start slots code)
     → TracksForAll meaning f (coarser rate 1) (linear_move meaning.arity (threaded code)) linear_output (linear_start slots (threaded code))
 threaded_tracks meaning f rate slots code distinct keeps = made_tracks code (tests code) (gone_tests code) meaning.arity (fine_tests code distinct) meaning f rate slots keeps

@@ -1,4 +1,4 @@
--- With tests before labels the items are those of a function of Linear still.
+-- With tests before labels the items are still those of a function of Linear.
 use Rattle.std.proofs.Common.{◌≡◌, ◌≢◌, ℕ, List, [], ◌∷◌, ◌++◌, Option, Some, None, Bool, true, false, refl, sym, subst}
 use Rattle.std.specs.Prelude.{if◌then◌else◌, ◌==◌, Contains}
 use Rattle.std.specs.List.{AllByRecursion, AllPairs}

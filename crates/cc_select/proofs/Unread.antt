@@ -1,5 +1,5 @@
--- A run is the same whatever the registers hold that are not live, for any settled table: two configurations at the same steps that agree on
--- what is live there make the same move, to two that agree again (`does_alike`).
+-- A run is the same whatever the registers that are not live hold, for any settled table: two configurations at the same steps that agree
+-- on what is live there make the same move, to two that agree again (`does_alike`).
 use Rattle.std.proofs.Common.{◌≡◌, ℕ, zero, suc, ◌+◌, ◌<◌, ◌≤◌, List, [], ◌∷◌, Option, Some, None, true, false, Bool, refl, sym, ap, ap₂, ◌∙◌, subst, arith}
 use Rattle.std.proofs.lemmas.Bool.Decides.{nat_tests}
 use Rattle.std.specs.Prelude.{if◌then◌else◌, ◌==◌, ◌&&◌, ◌||◌, not, nat_le}
@@ -163,7 +163,7 @@ module _ (arity : ℕ → ℕ) (code : List Step) (at : ℕ → Registers) (sett
       by true e = absurd (let z : false ≡ true = e in cc)
       by false e = e
 
-  -- the order of two registers says nothing
+  -- the order of two registers makes no difference
   turned : (a b x : ℕ) (s : Registers) → In (without a (without b s)) x → In (without b (without a s)) x
   turned a b x s i = by (a == x) (b == x) (s x) i
     where

@@ -1,4 +1,4 @@
--- The operators on a register and a word: which words each can have, which operator it is, and which operators of Linear become it.
+-- The operators on a register and a word: which words each can have, what each does, and which operators of Linear have such a form.
 use Rattle.std.specs.Prelude.{ℕ, ◌+◌, ◌-◌, ◌%◌, ◌^◌, Bool, true, false, ◌&&◌, ◌||◌, not, ◌==◌, nat_lt, if◌then◌else◌, Option, Some, None}
 use Rattle.std.specs.Int.{w32, trailing_zeros}
 use Rattle.cc_words.specs.Words.{add, neg}
@@ -10,7 +10,7 @@ use Rattle.cc_select.specs.declared.step.WordOperator.TheVariants.{Add, Sub, Shl
 
 -- ---- what each does
 
--- the operator that it is
+-- the operator of Linear that it is
 abbrev pub operator_of : WordOperator → binary.Binary
 operator_of Add = operators.Add
 operator_of Sub = operators.Sub
@@ -26,7 +26,7 @@ operator_of LtS = operators.LtS
 operator_of LtU = operators.LtU
 operator_of LeS = operators.LeS
 operator_of LeU = operators.LeU
--- the register's word is more: the word is less
+-- the register's word is greater, so the word is less
 operator_of GtS = operators.LtS
 operator_of GtU = operators.LtU
 operator_of GeS = operators.LeS
@@ -44,7 +44,7 @@ abbrev pub applied : (exchanged : Bool) → binary.Binary → (register word : �
 applied true o a w = apply_binary o w a
 applied false o a w = apply_binary o a w
 
--- what it gives of a register's word and a word
+-- its value for a register's word and a word
 abbrev pub apply_immediate : WordOperator → (register word : ℕ) → Option ℕ
 apply_immediate o a w = applied (is_exchanged o) (operator_of o) a w
 
@@ -65,33 +65,33 @@ has_word ShrU w = nat_lt w 32
 has_word And w = is_short w
 has_word Or w = is_short w
 has_word Xor w = is_short w
--- words are equal where their difference is 0
+-- words are equal exactly if their difference is 0
 has_word Eq w = is_short (neg w)
 has_word Ne w = is_short (neg w)
 has_word LtS w = is_short w
 -- the machine extends the immediate with its sign here too, before it compares it as unsigned
 has_word LtU w = is_short w
--- at most a word is less than the next one; 2^31 - 1 is the greatest signed word, and the one behind it is not short
+-- a word is at most w exactly if it is less than w + 1; 2^31 - 1 is the greatest signed word, and the word after it is not short
 has_word LeS w = is_short (add w 1)
--- 2^32 - 1 is the greatest unsigned word, and the one behind it is 0
+-- 2^32 - 1 is the greatest unsigned word, and the word after it is 0
 has_word LeU w = is_short (add w 1) && not (w == 2 ^ 32 - 1)
--- more than 0 is one instruction; more than another word would be two, and is two with the word in its register
+-- "more than 0" is one instruction; "more than another word" would be two, and it is two with the word in its register
 has_word GtS w = w == 0
 has_word GtU w = w == 0
--- at least a word is not less than it
+-- a word is at least w exactly if it is not less than w
 has_word GeS w = is_short w
 has_word GeU w = is_short w
 
 -- ---- powers of two
 
--- the place of a word's lowest 1: of a power of two its exponent
+-- the place of a word's lowest 1; for a power of two, its exponent
 abbrev pub exponent : (word : ℕ) → ℕ
 exponent w = trailing_zeros w32 w
 
 abbrev pub is_power : (word : ℕ) → Bool
 is_power w = w == 2 ^ exponent w
 
--- ---- which operators have one
+-- ---- which operators have such a form
 
 -- an operator on a register and a word, and the word
 abbrev pub Form : Type 0
@@ -100,8 +100,8 @@ Form = WordOperator × ℕ
 abbrev pub if_power : (word : ℕ) → Form → Option Form
 if_power w form = if is_power w then Some form else None
 
--- with the word on their right; where it is 2^k, a product is a shift to the left by k, an unsigned quotient a shift to the right by k, and
--- an unsigned remainder the word's k lowest digits
+-- the form with the word on the right; if the word is 2^k, a product is a shift to the left by k, an unsigned quotient a shift to the right
+-- by k, and an unsigned remainder the word's k lowest digits
 abbrev pub immediate_of : binary.Binary → (word : ℕ) → Option Form
 immediate_of operators.Add w = Some (Add, w)
 immediate_of operators.Sub w = Some (Sub, w)
@@ -122,8 +122,8 @@ immediate_of operators.DivU w = if_power w (ShrU, exponent w)
 immediate_of operators.RemU w = if_power w (And, w - 1)
 immediate_of operator w = None
 
--- with the word on their left: the same where the order of operands makes no difference; where the word is less than a register's, that
--- is more than the word
+-- the form with the word on the left: the same if the order of operands makes no difference; "the word is less than the register's" is "the
+-- register's is more than the word"
 abbrev pub immediate_of_left : binary.Binary → (word : ℕ) → Option Form
 immediate_of_left operators.Add w = Some (Add, w)
 immediate_of_left operators.And w = Some (And, w)
@@ -138,7 +138,7 @@ immediate_of_left operators.LeU w = Some (GeU, w)
 immediate_of_left operators.Mul w = if_power w (Shl, exponent w)
 immediate_of_left operator w = None
 
--- whether the operator compares: its value is 1 or 0, and a branch can have it
+-- whether the operator compares: its value is 1 or 0, and there is a branch for it
 abbrev pub is_comparison : binary.Binary → Bool
 is_comparison operators.Eq = true
 is_comparison operators.Ne = true
@@ -148,8 +148,8 @@ is_comparison operators.LeS = true
 is_comparison operators.LeU = true
 is_comparison o = false
 
--- whether a branch on such a comparison with the word takes fewer instructions than the comparison and a branch on its value: one, where
--- the comparison is one with 0, and two in place of three for others
+-- whether a branch on such a comparison with the word takes fewer instructions than the comparison and a branch on its value: one if the
+-- comparison is with 0, and for others two instead of three
 abbrev pub gains : WordOperator → (word : ℕ) → Bool
 gains Eq w = true
 gains Ne w = true

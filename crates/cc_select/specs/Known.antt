@@ -1,6 +1,6 @@
--- The steps that stand for a function's items, one for each: an operation of which an operand is a known constant has it as a word, where its
--- instructions can have that word, an access to an element whose number is known has the number, and a branch that is certain to be taken is a
--- jump. What is known of a register is what the items since the last label say.
+-- The steps for a function's items, one for each. An operation with an operand that is a known constant has it as a word, if its
+-- instructions can have that word. An access to an element whose number is known has the number. A branch that is certain to be taken is a
+-- jump. What is known about a register is what the items since the last label say.
 use Rattle.std.specs.Prelude.{ℕ, Bool, true, false, not, if◌then◌else◌, ◌==◌, Option, Some, None, List, [], ◌∷◌}
 use Rattle.cc_words.specs.declared.operators.Binary as binary
 use Rattle.cc_simulation.specs.Unknown.{survives}
@@ -13,7 +13,7 @@ use Rattle.cc_select.specs.Immediates.{Form, has_word, immediate_of, immediate_o
 
 -- ---- what is known
 
--- the word of each register of which one is known
+-- the word of each register whose word is known
 abbrev pub Known : Type 0
 Known = ℕ → Option ℕ
 
@@ -26,7 +26,8 @@ forget to k r = if to == r then None else k r
 abbrev pub learn : (register word : ℕ) → Known → Known
 learn to w k r = if to == r then Some w else k r
 
--- behind an item; nothing behind a label, since a run may come there from elsewhere, nor where a run does not go on to the next item
+-- after an item; nothing is known after a label, since a run may come there from elsewhere, nor after an item from which a run does not go
+-- on to the next one
 abbrev pub known_behind : LinearItem → Known → Known
 known_behind (Label label) k = unknown
 known_behind (Jump to) k = unknown
@@ -47,7 +48,7 @@ known_behind Return k = unknown
 
 -- ---- what is chosen
 
--- an operator with a word, where it can have that, else another step
+-- an operator with a word, if it can have the word; else another step
 abbrev pub with_word : Option Form → (to from : ℕ) → (other : Step) → Step
 with_word None to a s = s
 with_word (Some form) to a s = if has_word form.0 form.1 then Immediate form.0 to a form.1 else s
@@ -60,7 +61,7 @@ abbrev pub with_right : Option ℕ → binary.Binary → (to left : ℕ) → (ot
 with_right None o to a s = s
 with_right (Some w) o to a s = with_word (immediate_of o w) to a s
 
--- an access with its element's number, where that is known
+-- an access with its element's number, if that is known
 abbrev pub with_number : Option ℕ → (other : Step) → (access : ℕ → Step) → Step
 with_number None s f = s
 with_number (Some w) s f = f w
@@ -71,8 +72,8 @@ is_taken nonzero None = false
 is_taken true (Some w) = not (w == 0)
 is_taken false (Some w) = w == 0
 
--- The step of an item; a word on the right goes before one on the left. A branch that is certain not to be taken stays: each item is one
--- step, and none does nothing.
+-- The step of an item; a word on the right has priority over one on the left. A branch that is certain not to be taken stays, since each
+-- item is one step, and no step does nothing.
 abbrev pub choose : Known → LinearItem → Step
 choose k (IfNonzero from to) = if is_taken true (k from) then One (Jump to) else One (IfNonzero from to)
 choose k (IfZero from to) = if is_taken false (k from) then One (Jump to) else One (IfZero from to)

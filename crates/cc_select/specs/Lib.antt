@@ -2,14 +2,15 @@
 pub mod Immediates
 -- the language: the functions of Selected, and what one step does
 pub mod Selected
--- what is known of registers, and the steps that it gives
+-- known words, and the steps that they give
 pub mod Known
--- sums that are known, and the accesses near by
+-- known sums, and the accesses to nearby elements
 pub mod Near
 -- tests that go before labels and into jumps
 pub mod Threading
--- which registers are live, and the table of labels
+-- which registers are live before a step
 pub mod Live
+-- the registers that are live at labels, found by sweeps
 pub mod Table
 -- the steps of a function's items
 pub mod Selection

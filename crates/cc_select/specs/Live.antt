@@ -1,5 +1,5 @@
--- Which registers are live: those that may be read on some way before they are written; each call counts as reading x10 to x17. Those of each
--- label are given by a table.
+-- Which registers are live: those that may be read on some way before they are written. Each call counts as reading x10 to x17. A table
+-- gives the registers that are live at each label.
 use Rattle.std.specs.Prelude.{ℕ, Bool, false, not, ◌&&◌, ◌||◌, ◌==◌, nat_le, List, [], ◌∷◌}
 use Rattle.cc_simulation.specs.Unknown.{survives}
 use Rattle.cc_ltl.specs.declared.operation.Move.{Move}
@@ -25,7 +25,7 @@ without a s r = not (a == r) && s r
 abbrev pub either : (s t : Registers) → Registers
 either s t r = s r || t r
 
--- before a move, where these are live behind it
+-- before a move, if these are live after it
 abbrev pub live_move : Move → Registers → Registers
 live_move (Between to from) s = with from (without to s)
 live_move (Reload to slot) s = without to s
@@ -35,7 +35,7 @@ live_move (Spill slot from) s = with from s
 abbrev pub is_argument : (register : ℕ) → Bool
 is_argument r = nat_le 10 r && nat_le r 17
 
--- before an item of Linear, where these are live behind it
+-- before an item of Linear, if these are live after it
 abbrev pub live_item : LinearItem → (at_label : ℕ → Registers) → Registers → Registers
 live_item (Label label) at s = s
 live_item (Jump to) at s = at to

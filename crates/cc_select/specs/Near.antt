@@ -1,6 +1,6 @@
--- Elements near by. Where the number of an access was made by adding a word to a register, and both registers hold what they held then, the access
--- is to the element whose number is that register's word plus the word: so the sum need not be made for it. Of such sums the last one is known,
--- within a straight piece.
+-- Nearby elements. If the number of an access was made by adding a word to a register, and both registers still hold what they held then,
+-- the access is to the element whose number is that register's word plus the added word, so the sum need not be made for it. Only the last
+-- such sum is known, within a straight piece.
 use Rattle.std.specs.Prelude.{ℕ, ◌||◌, ◌==◌, if◌then◌else◌, Option, Some, None, List, [], ◌∷◌}
 use Rattle.cc_words.specs.Words.{neg}
 use Rattle.cc_ltl.specs.declared.operation.Move.TheVariants.{Between, Reload, Spill}
@@ -14,16 +14,16 @@ use Rattle.cc_select.specs.declared.step.Step.TheVariants.{One, Immediate, LoadA
 
 -- ---- what is known
 
--- where a register is written
+-- after a register is written
 abbrev pub unless : (register : ℕ) → Option Sum → Option Sum
 unless r None = None
 unless r (Some s) = if (r == s.to) || (r == s.from) then None else Some s
 
--- where a sum is put into a register
+-- after a sum is put in a register
 abbrev pub summed : (to from word : ℕ) → Option Sum
 summed to from word = if to == from then None else Some (record { to = to; from = from; word = word })
 
--- behind an item; nothing behind a label, since a run may come there from elsewhere, nor behind a call
+-- after an item; no sum is known after a label, since a run may come there from elsewhere, nor after a call
 abbrev pub sum_item : LinearItem → Option Sum → Option Sum
 sum_item (Label label) z = None
 sum_item (Jump to) z = None
@@ -42,7 +42,7 @@ sum_item Read z = unless 10 (unless 17 z)
 sum_item Write z = unless 17 z
 sum_item Return z = None
 
--- behind an operator on a register and a word: a difference is the sum with the word's negative
+-- after an operator on a register and a word: a difference is the sum with the word's negative
 abbrev pub sum_immediate : WordOperator → (to from word : ℕ) → Option Sum → Option Sum
 sum_immediate Add to from word z = summed to from word
 sum_immediate Sub to from word z = summed to from (neg word)
@@ -58,14 +58,14 @@ sum_behind (StoreNear width object index word from) z = z
 sum_behind (Branch operator nonzero left right to) z = z
 sum_behind (BranchImmediate operator nonzero from word to) z = z
 
--- ---- what stands for a step
+-- ---- the step that is made
 
--- the sum that a register has, where it is known
+-- the sum that a register has, if it is known
 abbrev pub sum_in : Option Sum → (register : ℕ) → Option Sum
 sum_in None r = None
 sum_in (Some s) r = if r == s.to then Some s else None
 
--- an access by it, else another step
+-- an access by it, if it is known; else another step
 abbrev pub with_sum : Option Sum → (other : Step) → (access : Sum → Step) → Step
 with_sum None other access = other
 with_sum (Some s) other access = access s

@@ -1,5 +1,5 @@
--- Selected: the code of a function as one list of steps, and what one step does. A step is an item of Linear, an operation with a word or
--- an element's number within it, or a branch that compares.
+-- Selected: the code of a function as one list of steps, and what one step does. A step is an item of Linear, an operation that contains a
+-- word or an element's number, or a branch that compares.
 use Rattle.std.specs.Prelude.{◌≡◌, ◌≢◌, ℕ, ◌≤◌, ◌==◌, Bool, true, false, if◌then◌else◌, List, [], ◌∷◌, Contains}
 use Rattle.std.specs.List.{AllByRecursion, AllPairs}
 use Rattle.cc_words.specs.Words.{add}
@@ -18,14 +18,14 @@ use Rattle.cc_select.specs.Immediates.{operator_of, apply_immediate, has_word, i
 
 -- ---- which functions there are
 
--- the labels that stand in a list
+-- the labels that are in a list
 abbrev pub labels : List Step → List ℕ
 labels [] = []
 labels (One (Label label) ∷ steps) = label ∷ labels steps
 labels (step ∷ steps) = labels steps
 
--- a step of a function with this many slots, in a unit with this many functions: jumps and branches lead to labels of the list, the operator
--- of a branch is a comparison, and each word of an operator is one that its instructions can have
+-- a step of a function with this many slots, in a unit with this many functions: jumps and branches lead to labels of the list, the
+-- operator of a branch is a comparison, and each word of an operator is one that its instructions can have
 abbrev pub IsStep : (slots functions : ℕ) → (labels : List ℕ) → Step → Type 0
 IsStep slots functions labels (One item) = IsItem slots functions labels item
 IsStep slots functions labels (Immediate operator to from word) = IsAllocatable to × IsAllocatable from × IsWord word × (has_word operator word ≡ true)
@@ -37,7 +37,7 @@ IsStep slots functions labels (Branch operator nonzero left right to) = (is_comp
 IsStep slots functions labels (BranchImmediate operator nonzero from word to) =
     (is_comparison (operator_of operator) ≡ true) × IsAllocatable from × IsWord word × (has_word operator word ≡ true) × Contains labels to
 
--- no label stands twice
+-- no label occurs twice
 pub record IsSelected (slots functions : ℕ) (steps : List Step) : Type 0 where
   pub few : slots ≤ most_slots
   pub distinct : AllPairs (λ (a b : ℕ). a ≢ b) (labels steps)
@@ -45,7 +45,7 @@ pub record IsSelected (slots functions : ℕ) (steps : List Step) : Type 0 where
 
 -- ---- what one step does
 
--- where a run is: the steps from the next one on, the words of the locations, what is shared, and the words that unknown locations
+-- the state of a run: the steps from the next one on, the words of the locations, the shared world, and the words that unknown locations
 -- will hold
 pub record Configuration : Type 0 where
   pub steps : List Step
@@ -56,7 +56,7 @@ pub record Configuration : Type 0 where
 abbrev pub at_steps : List Step → Locations → World → (words : List ℕ) → Configuration
 at_steps steps at world words = record { steps = steps; locations = at; world = world; words = words }
 
--- the place of a label: the steps from its first one on, and none where it does not stand
+-- the place of a label: the steps from its first occurrence on, or no steps if it does not occur
 abbrev pub place : List Step → (label : ℕ) → List Step
 place [] label = []
 place (One (Label other) ∷ steps) label = if other == label then One (Label other) ∷ steps else place steps label
@@ -66,13 +66,13 @@ place (step ∷ steps) label = place steps label
 abbrev pub steps_after_answer : List Step → Locations → (words : List ℕ) → Answer → Configuration
 steps_after_answer steps at words a = at_steps steps (put result_location a.value (after_call words at)) a.world (left_after_call words)
 
--- where a branch leads, by its word: to the label's place where the word is not 0 (`nonzero`), or where it is 0 (not `nonzero`), else on
+-- where a branch leads, by its word: to the label's place if the word is not 0 (`nonzero`), or if it is 0 (not `nonzero`); else on
 abbrev pub led : (nonzero : Bool) → (word : ℕ) → (on there : List Step) → List Step
 led true word on there = if word == 0 then on else there
 led false word on there = if word == 0 then there else on
 
--- The next step, in the whole code; `arity` says how many parameters each function has. A label is no move: what is done there is what
--- the step after it does. Behind the last step a run goes wrong, as where a jump leads to no place.
+-- The next step, in the whole code; `arity` says how many parameters each function has. A label is no move: the step after it is executed.
+-- A run goes wrong after the last step, and if a jump leads to no place.
 abbrev pub does : (arity : ℕ → ℕ) → (code : List Step) → List Step → Locations → World → (words : List ℕ) → Moving Configuration
 does arity code [] at world words = Fails
 does arity code (One (Label label) ∷ steps) at world words = does arity code steps at world words
@@ -113,10 +113,10 @@ does arity code (BranchImmediate operator nonzero from word to ∷ steps) at wor
 abbrev pub selected_move : (arity : ℕ → ℕ) → List Step → Configuration → Moving Configuration
 selected_move arity code c = does arity code c.steps c.locations c.world c.words
 
--- what is written so far
+-- what has been written so far
 abbrev pub selected_output : Configuration → List ℕ
 selected_output c = c.world.output
 
--- where the run of a function with this many slots begins
+-- the start of a run of a function with this many slots
 abbrev pub selected_start : (slots : ℕ) → List Step → (words arguments : List ℕ) → World → Configuration
 selected_start slots code words arguments world = at_steps code (at_entry slots words arguments) world (left_after_entry slots words)

@@ -1,6 +1,6 @@
--- What is live at labels, by sweeps from the back of the list. A sweep takes the rows that it has just made for labels further on, and those of
--- the last sweep for labels before. The table is the first one that a look finds to have what is live at each label's place; where 32 sweeps
--- give none, everything is live at each label.
+-- What is live at labels, found by sweeps from the back of the list. A sweep uses the rows that it has just made for labels further on, and
+-- those of the last sweep for labels before. The first table that a check finds to have what is live at each label's place is taken; if 32
+-- sweeps give none, everything is live at each label.
 use Rattle.std.specs.Prelude.{ℕ, zero, suc, Bool, true, not, ◌&&◌, ◌||◌, ◌==◌, nat_le, if◌then◌else◌, List, [], ◌∷◌}
 use Rattle.cc_linear_language.specs.declared.item.LinearItem.TheVariants.{Label}
 use Rattle.cc_select.specs.declared.step.Step.{Step}
@@ -11,7 +11,7 @@ use Rattle.cc_select.specs.Live.{Registers, nothing, live_before, live}
 abbrev pub Table : Type 0
 Table = ℕ → Registers
 
--- a row: of the 32 registers it says which are live; all above count as live
+-- a row: for the 32 registers it says which are live; all numbers above them count as live
 abbrev pub row : Registers → Registers
 row s r = nat_le 32 r || s r
 
@@ -31,20 +31,20 @@ abbrev pub all_below : ℕ → (ℕ → Bool) → Bool
 all_below zero f = true
 all_below (suc n) f = f n && all_below n f
 
--- whether each label's row has what is live there
+-- whether each label's row has everything that is live there
 abbrev pub fits : Table → List Step → Bool
 fits t [] = true
 fits t (One (Label label) ∷ steps) = all_below 32 (λ r. not (live t steps r) || t label r) && fits t steps
 fits t (step ∷ steps) = fits t steps
 
--- before the first sweep: of the 32 registers none is live at any label
+-- before the first sweep none of the 32 registers is live at any label
 abbrev pub nowhere : Table
 nowhere label = row nothing
 
 abbrev pub everywhere : Table
 everywhere label r = true
 
--- the first table that fits among those of so many sweeps more
+-- the first table that fits, within this many more sweeps
 abbrev pub settled_in : (sweeps : ℕ) → Table → List Step → Table
 settled_in zero t code = everywhere
 settled_in (suc n) t code = if fits (rows t code) code then rows t code else settled_in n (rows t code) code
@@ -52,6 +52,6 @@ settled_in (suc n) t code = if fits (rows t code) code then rows t code else set
 abbrev pub most_sweeps : ℕ
 most_sweeps = 32
 
--- the table of a function's labels; by name, since its 32 sweeps would else stand in each goal above that has a function's items
+-- the table of a function's labels; it is not unfolded, since its 32 sweeps would otherwise be in each goal that has a function's items
 unfoldable pub table : List Step → Table
 table code = settled_in most_sweeps nowhere code

@@ -1,6 +1,6 @@
--- Jump threading. A test that stands directly behind a label goes before the label and into each jump there, if only jumps lead to the label;
--- so the label has its place behind the test. Where the word that is tested is known, the test becomes a jump. C's `a && b` needs this: 0 or
--- the value of `b` is put into a register, and a test of that register stands where the two ways meet.
+-- Jump threading. A test directly after a label goes before the label and into each jump there, if only jumps lead to the label; so the
+-- label's place is after the test. If the word that is tested is known, the test becomes a jump. C's `a && b` needs this: 0 or the value of
+-- `b` is put in a register, and that register is tested where the two ways meet.
 use Rattle.std.specs.Prelude.{ℕ, Bool, true, false, ◌||◌, if◌then◌else◌, ◌==◌, Option, Some, None, List, [], ◌∷◌, ◌++◌}
 use Rattle.cc_linear_language.specs.declared.item.LinearItem.{LinearItem}
 use Rattle.cc_linear_language.specs.declared.item.LinearItem.TheVariants.{Label, Jump, IfNonzero, IfZero}
@@ -22,7 +22,7 @@ first_test (IfNonzero from to ∷ items) = Some (IfNonzero from to)
 first_test (IfZero from to ∷ items) = Some (IfZero from to)
 first_test (item ∷ items) = None
 
--- the test directly behind a label
+-- the test directly after a label
 abbrev pub test_behind : List LinearItem → (label : ℕ) → Option LinearItem
 test_behind [] n = None
 test_behind (Label other ∷ items) n = if other == n then first_test items else test_behind items n
@@ -35,9 +35,9 @@ Tests = ℕ → Option LinearItem
 abbrev pub tests : List LinearItem → Tests
 tests items n = if branches_to items n then None else test_behind items n
 
--- ---- what stands for an item
+-- ---- what an item becomes
 
--- a test before a jump to a label or the label itself: a jump, where the word is known
+-- a test before a jump to a label, or before the label itself: it is a jump if the word is known
 abbrev pub way : Known → (test : LinearItem) → (label : ℕ) → LinearItem
 way k (IfNonzero from to) n = if is_taken true (k from) then Jump to else (if is_taken false (k from) then Jump n else IfNonzero from to)
 way k (IfZero from to) n = if is_taken false (k from) then Jump to else (if is_taken true (k from) then Jump n else IfZero from to)
@@ -51,7 +51,7 @@ abbrev pub before_label : Known → Option LinearItem → (label : ℕ) → List
 before_label k None n = Label n ∷ []
 before_label k (Some test) n = way k test n ∷ Label n ∷ []
 
--- behind a test that became a jump the other jump would never be reached
+-- after a test that became a jump, the other jump would never be reached
 abbrev pub before_jump : (way : LinearItem) → (label : ℕ) → List LinearItem
 before_jump item n = item ∷ (if is_jump item then [] else Jump n ∷ [])
 
@@ -70,12 +70,12 @@ abbrev pub is_some : Option LinearItem → Bool
 is_some None = false
 is_some (Some test) = true
 
--- whether the next item is a test that has gone before its label
+-- whether the next item is a test that was moved before its label
 abbrev pub is_before_gone : Tests → LinearItem → Bool
 is_before_gone ts (Label n) = is_some (ts n)
 is_before_gone ts item = false
 
--- with what is known before the items, and whether the first one is a test that has gone before its label
+-- with what is known before the items, and whether the first one is a test that was moved before its label
 abbrev pub threaded_by : Tests → Known → (gone : Bool) → List LinearItem → List LinearItem
 threaded_by ts k gone [] = []
 threaded_by ts k true (item ∷ items) = threaded_by ts k false items

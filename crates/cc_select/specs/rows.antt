@@ -1,4 +1,4 @@
--- constants, dead ones, comparisons and their tests
+-- constants, dead constants, comparisons and their tests
 pub mod Selected
 -- tests before labels
 pub mod Threading

@@ -1,6 +1,6 @@
 // The steps without the constants that nobody reads.
 
-ghost use Rattle.std.specs.Prelude.{◌≡◌, ℕ, Bool, length, IfOk};
+ghost use Rattle.std.specs.Prelude.{◌≡◌, length, IfOk};
 ghost use Rattle.cc_select.specs.Live.{Registers as set};
 ghost use Rattle.cc_select.specs.Table.{Table};
 ghost use Rattle.cc_select.specs.Selection.{lean};
@@ -12,14 +12,14 @@ use crate::step::Step;
 use cc_linear_language::LinearItem;
 use std::alloc::{AllocError, Global};
 
-/// Steps, and what is live behind each.
+/// Steps, and what is live after each.
 #[derive(Drop)]
 pub(crate) struct Lean {
     pub(crate) steps: Vec<Step>,
     pub(crate) behind: Vec<Registers>,
 }
 
-// Whether a step stays, where these are live behind it.
+// Whether a step stays, if these registers are live after it.
 fn stays(step: &Step, behind: Registers) -> bool
     ensures { (s : set) → Same (holds behind) s → result ≡ stays step.now s }
 {
@@ -32,7 +32,7 @@ fn stays(step: &Step, behind: Registers) -> bool
     }
 }
 
-/// The steps that stay, where these are live behind each.
+/// The steps that stay, given the registers that are live after each of them. Err: memory ran out.
 pub(crate) fn without_unread(
     alloc: Global,
     steps: &[Step],

@@ -1,6 +1,6 @@
-// A comparison and the test of its truth value directly behind it as one branch, where nobody else reads that value.
+// A comparison, and the test of its truth value directly after it, become one branch if nothing else reads that value.
 
-ghost use Rattle.std.specs.Prelude.{◌≡◌, ◌<◌, ℕ, Bool, length, IfOk, MatchOption, drop, None, Some};
+ghost use Rattle.std.specs.Prelude.{◌≡◌, ◌<◌, length, IfOk, MatchOption, drop, None, Some};
 ghost use Rattle.cc_select.specs.Table.{Table};
 ghost use Rattle.cc_select.specs.Selection.{fused};
 ghost use Rattle.cc_select.specs.internal.Sets.{table_of, SameTable, AreBehind};
@@ -15,7 +15,7 @@ use cc_ltl::Register;
 use cc_words::{Binary, Unary};
 use std::alloc::{AllocError, Global};
 
-// A test: of which register, whether for nonzero, where it leads.
+// A test: its register, whether it is for nonzero, and where it leads.
 #[derive(Clone, Copy)]
 struct Test {
     register: Register,
@@ -23,7 +23,7 @@ struct Test {
     to: u32,
 }
 
-// The test that a step is.
+// The step as a test, if it is one.
 fn test_in(step: &Step) -> Option<Test>
     ensures { MatchOption result (test_in step.now ≡ None) (λ test. test_in step.now ≡ Some (shown test)) }
 {
@@ -42,7 +42,7 @@ fn test_in(step: &Step) -> Option<Test>
     }
 }
 
-// The branch on whether a register is 0 (`nonzero`) or not.
+// The branch on whether a register is 0 (`nonzero`), or is not.
 fn branch_on_zero(from: Register, test: Test) -> Step
     ensures { result ≡ branch_on_zero from (shown test) }
 {
@@ -54,7 +54,7 @@ fn branch_on_zero(from: Register, test: Test) -> Step
     }
 }
 
-// The comparison of which a test of an operator's value is one: words differ where their xor is not 0.
+// The comparison that a test of an operator's value makes: words differ exactly if their xor is not 0.
 fn compared(operator: Binary) -> Option<Binary>
     ensures { result ≡ compared operator }
 {
@@ -65,7 +65,7 @@ fn compared(operator: Binary) -> Option<Binary>
     }
 }
 
-// The branch that a step and a test of the register that it writes are.
+// The one branch for a step and a test of the register that it writes.
 fn branch_on(step: &Step, test: Test) -> Option<Step>
     ensures { result ≡ branch_on step.now (shown test) }
 {
@@ -112,7 +112,7 @@ fn branch_on(step: &Step, test: Test) -> Option<Step>
     }
 }
 
-// The branch that a step and the one behind it are.
+// The one branch for a step and the step after it.
 fn branch_at(table: &LiveTable, steps: &[Step], behind: &[Registers], at: usize) -> Option<Step>
     requires at { at < length steps.now }
     requires long { length behind.now ≡ length steps.now }
@@ -126,7 +126,8 @@ fn branch_at(table: &LiveTable, steps: &[Step], behind: &[Registers], at: usize)
     branch_on(&steps[at], test)
 }
 
-/// The steps with such branches, where these are live behind each.
+/// The steps, with comparisons and the tests of their values joined into branches, given the registers that are live after each step. Err:
+/// memory ran out.
 pub(crate) fn fused(
     alloc: Global,
     table: &LiveTable,

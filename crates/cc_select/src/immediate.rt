@@ -1,4 +1,4 @@
-// The operators on a register and a word: which words each can have, and which operators have one.
+// The operators on a register and a word: which words each can have, and which operators of Linear have such a form.
 
 ghost use Rattle.std.specs.Prelude.{◌≡◌};
 ghost use Rattle.cc_select.specs.Immediates.{is_short, has_word, is_power, immediate_of, immediate_of_left, is_comparison, gains};
@@ -13,7 +13,7 @@ fn is_short(word: u32) -> bool
     word.wrapping_add(2048) < 4096
 }
 
-/// Whether the operator's instructions can have the word.
+/// Whether the operator's instructions can have the word as an immediate.
 pub(crate) fn has_word(operator: WordOperator, word: u32) -> bool
     ensures { result ≡ has_word operator word }
 {
@@ -34,7 +34,7 @@ pub(crate) fn has_word(operator: WordOperator, word: u32) -> bool
     }
 }
 
-// Whether the word is a power of two; `trailing_zeros` then is its exponent.
+// Whether the word is a power of two; its exponent is then `trailing_zeros`.
 fn is_power(word: u32) -> bool
     ensures { result ≡ is_power word }
 {
@@ -42,7 +42,7 @@ fn is_power(word: u32) -> bool
     exponent < 32 && word == 1 << exponent
 }
 
-/// An operator with a word on its right as one on a register and a word, which may be another word: `x % 8` is `x & 7`.
+/// An operator with a word on its right, as an operator on a register and a word. The word may be another one: `x % 8` is `x & 7`.
 pub(crate) fn immediate_of(operator: Binary, word: u32) -> Option<(WordOperator, u32)>
     ensures { result ≡ immediate_of operator word }
 {
@@ -69,7 +69,7 @@ pub(crate) fn immediate_of(operator: Binary, word: u32) -> Option<(WordOperator,
     }
 }
 
-/// The same with the word on the operator's left.
+/// Does the same for a word on the operator's left.
 pub(crate) fn immediate_of_left(operator: Binary, word: u32) -> Option<(WordOperator, u32)>
     ensures { result ≡ immediate_of_left operator word }
 {

@@ -1,5 +1,6 @@
-// Which words are known: what the items since the last label say of the registers. An operation of which an operand is known has it as a
-// word, where it can, an access to an element whose number is known has the number, and a branch that is certain to be taken is a jump.
+// Known words: what the items since the last label say about the registers. An operation with a known operand gets it as a word, if its
+// instructions can have it; an access to an element whose number is known gets the number; and a branch that is certain to be taken becomes
+// a jump.
 
 ghost use Rattle.std.specs.Prelude.{◌≡◌, ◌<◌, None, Some};
 ghost use Rattle.cc_select.specs.Known.{unknown, learn, forget, known_behind, choose, is_taken, with_left, with_number, with_right, with_word};
@@ -14,7 +15,7 @@ use cc_linear_language::LinearItem;
 use cc_ltl::{Move, Register};
 use cc_words::{Binary, Width};
 
-/// Of which registers a word is known, and which.
+/// The registers whose word is known, and the words.
 #[derive(Drop)]
 pub(crate) struct Known {
     some: Registers,
@@ -22,7 +23,7 @@ pub(crate) struct Known {
 }
 
 impl Known {
-    /// Of none.
+    /// Nothing is known.
     pub(crate) fn nothing() -> Known
         ensures { known_in result ≡ unknown }
     {
@@ -32,7 +33,7 @@ impl Known {
         }
     }
 
-    /// The word of a register, where one is known.
+    /// The word of a register, if one is known.
     pub(crate) fn word(&self, register: Register) -> Option<u32>
         ensures { result ≡ known_in self.now register }
     {
@@ -44,7 +45,7 @@ impl Known {
         }
     }
 
-    // A word goes into a register.
+    // Notes that a register gets a word.
     fn learn(&mut self, register: Register, word: u32)
         ensures { known_in self.new ≡ learn register word (known_in self.old) }
     {
@@ -53,7 +54,7 @@ impl Known {
         self.words[register as usize] = word;
     }
 
-    // A word that nobody knows goes into the register of a number.
+    // Notes that a register gets an unknown word.
     fn forget(&mut self, register: u8)
         requires { register < 32 }
         ensures { known_in self.new ≡ forget register (known_in self.old) }
@@ -68,14 +69,14 @@ impl Known {
         self.some = Registers::none();
     }
 
-    // A call destroys registers.
+    // Notes that a call destroys registers.
     fn forget_destroyed(&mut self)
         ensures { known_in self.new ≡ kept_by_call (known_in self.old) }
     {
         self.some = self.some.surviving();
     }
 
-    // A word goes from one location to another.
+    // Notes that a word moves from one location to another.
     fn go_behind_move(&mut self, between: Move)
         ensures { known_in self.new ≡ known_behind (Copy between) (known_in self.old) }
     {
@@ -85,7 +86,7 @@ impl Known {
         }
     }
 
-    /// What is known behind an item.
+    /// Advances past an item.
     pub(crate) fn go_behind(&mut self, item: &LinearItem)
         ensures { known_in self.new ≡ known_behind item.now (known_in self.old) }
     {
@@ -111,7 +112,7 @@ impl Known {
     }
 }
 
-// An operator with a word, where it can have that, else another step.
+// An operator with a word, if its instructions can have the word; else another step.
 fn with_word(form: Option<(WordOperator, u32)>, to: Register, from: Register, other: Step) -> Step
     ensures { result ≡ with_word form to from other }
 {
@@ -158,7 +159,7 @@ fn with_right(
     }
 }
 
-// A load of an element whose number may be known, else another step.
+// A load of an element whose number is known; else another step.
 fn load_at(number: Option<u32>, width: Width, object: u32, to: Register, other: Step) -> Step
     ensures { result ≡ with_number number other (λ w. LoadAt width object to w) }
 {
@@ -173,7 +174,7 @@ fn load_at(number: Option<u32>, width: Width, object: u32, to: Register, other: 
     }
 }
 
-// A store into an element whose number may be known, else another step.
+// A store into an element whose number is known; else another step.
 fn store_at(number: Option<u32>, width: Width, object: u32, from: Register, other: Step) -> Step
     ensures { result ≡ with_number number other (λ w. StoreAt width object w from) }
 {

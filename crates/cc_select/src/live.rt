@@ -1,10 +1,9 @@
-// Which registers are live: before a step, where those behind it are known, by a table of the labels.
+// Which registers are live before a step, from those after it and a table of the labels.
 
-ghost use Rattle.std.specs.Prelude.{◌≡◌, get_or, IfOk, ◌==◌, if◌then◌else◌, ℕ, Bool};
+ghost use Rattle.std.specs.Prelude.{◌≡◌, IfOk, ◌==◌, if◌then◌else◌, ℕ};
 ghost use Rattle.cc_select.specs.Live.{live_move, live_item, live_before};
 ghost use Rattle.cc_select.specs.Table.{nowhere, everywhere};
 ghost use Rattle.cc_select.specs.internal.Sets.{holds, row_of, table_of, SameTable};
-ghost use Rattle.cc_select.specs.declared.registers.Registers.{Registers as bits};
 
 use crate::registers::{DESTROYED, RESULT, Registers};
 use crate::step::Step;
@@ -12,7 +11,7 @@ use cc_linear_language::LinearItem;
 use cc_ltl::Move;
 use std::alloc::{AllocError, Global};
 
-/// Which registers are live at each label, by its number; `rest` has those of every label past the rows.
+/// The registers that are live at each label, by its number; `rest` has those of every label past the rows.
 #[derive(Drop)]
 pub(crate) struct LiveTable {
     rows: Vec<Registers>,
@@ -20,7 +19,7 @@ pub(crate) struct LiveTable {
 }
 
 impl LiveTable {
-    /// None at any label.
+    /// No register is live at any label.
     pub(crate) fn nowhere(alloc: Global) -> LiveTable
         ensures { SameTable (table_of result) nowhere }
     {
@@ -30,7 +29,7 @@ impl LiveTable {
         }
     }
 
-    /// Each at every label.
+    /// Every register is live at every label.
     pub(crate) fn everywhere(alloc: Global) -> LiveTable
         ensures { SameTable (table_of result) everywhere }
     {
@@ -40,7 +39,7 @@ impl LiveTable {
         }
     }
 
-    /// Those of a label.
+    /// The registers that are live at a label.
     pub(crate) fn row(&self, label: u32) -> Registers
         ensures { result ≡ row_of self.now label }
     {
@@ -50,7 +49,7 @@ impl LiveTable {
         }
     }
 
-    /// Puts those of a label in. Without memory all stays as it was.
+    /// Sets the registers that are live at a label. If memory runs out, everything stays as it was.
     pub(crate) fn put(&mut self, label: u32, row: Registers) -> Result<(), AllocError>
         ensures { IfOk result (λ _. (l : ℕ) → row_of self.new l ≡ (if label == l then row else row_of self.old l)) }
     {
@@ -63,7 +62,7 @@ impl LiveTable {
     }
 }
 
-// Before a move.
+// What is live before a move.
 fn live_move(between: Move, behind: Registers) -> Registers
     ensures { holds result ≡ live_move between (holds behind) }
 {
@@ -74,7 +73,7 @@ fn live_move(between: Move, behind: Registers) -> Registers
     }
 }
 
-// Before an item.
+// What is live before an item.
 fn live_item(item: &LinearItem, table: &LiveTable, behind: Registers) -> Registers
     ensures { holds result ≡ live_item item.now (table_of table.now) (holds behind) }
 {
@@ -107,7 +106,7 @@ fn live_item(item: &LinearItem, table: &LiveTable, behind: Registers) -> Registe
     }
 }
 
-/// Before a step.
+/// What is live before a step.
 pub(crate) fn live_before(step: &Step, table: &LiveTable, behind: Registers) -> Registers
     ensures { holds result ≡ live_before step.now (table_of table.now) (holds behind) }
 {

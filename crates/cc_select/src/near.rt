@@ -1,8 +1,8 @@
-// Elements near by: where the number of an access was made by adding a word to a register, and both registers hold what they held then, the
-// access is to the element whose number is that register's word plus the word. So the sum need not be made for it, and accesses to elements
-// near each other have one register between them. Of such sums the last one is known.
+// Nearby elements. If the number of an access was made by adding a word to a register, and both registers still hold what they held then,
+// the access is to the element whose number is that register's word plus the added word. So the sum need not be made for it, and accesses
+// to nearby elements share one register. Only the last such sum is known.
 
-ghost use Rattle.std.specs.Prelude.{◌≡◌, ◌++◌, IfOk, None};
+ghost use Rattle.std.specs.Prelude.{◌≡◌, IfOk, None};
 ghost use Rattle.cc_select.specs.Near.{unless, summed, sum_item, sum_behind, sum_in, with_sum, near, nearer};
 ghost use Rattle.cc_select.specs.declared.step.Step.TheVariants.{One, LoadNear, StoreNear};
 
@@ -13,7 +13,7 @@ use cc_ltl::{Move, Register};
 use cc_words::{Width, sub};
 use std::alloc::{AllocError, Global};
 
-/// A register holds another's word plus a word.
+/// One register holds another's word plus a word.
 #[derive(Clone, Copy)]
 pub(crate) struct Sum {
     to: Register,
@@ -21,7 +21,7 @@ pub(crate) struct Sum {
     word: u32,
 }
 
-// Where the register of a number is written.
+// The known sum after the register with a number is written.
 fn unless(register: u8, known: &Option<Sum>) -> Option<Sum>
     ensures { result ≡ unless register known.now }
 {
@@ -37,7 +37,7 @@ fn unless(register: u8, known: &Option<Sum>) -> Option<Sum>
     }
 }
 
-// Where a sum is put into a register.
+// The known sum after a sum is put in a register.
 fn summed(to: Register, from: Register, word: u32) -> Option<Sum>
     ensures { result ≡ summed to from word }
 {
@@ -48,7 +48,7 @@ fn summed(to: Register, from: Register, word: u32) -> Option<Sum>
     }
 }
 
-// Behind an item of Linear.
+// The known sum after an item of Linear.
 fn sum_item(item: &LinearItem, known: &Option<Sum>) -> Option<Sum>
     ensures { result ≡ sum_item item.now known.now }
 {
@@ -75,7 +75,7 @@ fn sum_item(item: &LinearItem, known: &Option<Sum>) -> Option<Sum>
     }
 }
 
-// Behind a step.
+// The known sum after a step.
 fn sum_behind(step: &Step, known: &Option<Sum>) -> Option<Sum>
     ensures { result ≡ sum_behind step.now known.now }
 {
@@ -103,7 +103,7 @@ fn sum_behind(step: &Step, known: &Option<Sum>) -> Option<Sum>
     }
 }
 
-// The sum that a register has, where it is known.
+// The sum that a register holds, if it is known.
 fn sum_in(known: &Option<Sum>, register: Register) -> Option<Sum>
     ensures { result ≡ sum_in known.now register }
 {
@@ -119,7 +119,7 @@ fn sum_in(known: &Option<Sum>, register: Register) -> Option<Sum>
     }
 }
 
-// A load, by the sum that its index has, where that is known.
+// A load by the sum in its index, if the sum is known.
 fn near_load(sum: &Option<Sum>, width: Width, object: u32, to: Register, other: Step) -> Step
     ensures { result ≡ with_sum sum.now other (λ s. LoadNear width object to s.from s.word) }
 {
@@ -135,7 +135,7 @@ fn near_load(sum: &Option<Sum>, width: Width, object: u32, to: Register, other: 
     }
 }
 
-// A store, by the sum that its index has, where that is known.
+// A store by the sum in its index, if the sum is known.
 fn near_store(sum: &Option<Sum>, width: Width, object: u32, value: Register, other: Step) -> Step
     ensures { result ≡ with_sum sum.now other (λ s. StoreNear width object s.from s.word value) }
 {
@@ -151,7 +151,7 @@ fn near_store(sum: &Option<Sum>, width: Width, object: u32, value: Register, oth
     }
 }
 
-// An item of Linear, by the sum that is known before it.
+// The step for an item of Linear, from the sum that is known before it.
 fn near_item(known: &Option<Sum>, item: LinearItem) -> Step
     ensures { result ≡ near known.now (One item) }
 {
@@ -172,7 +172,7 @@ fn near_item(known: &Option<Sum>, item: LinearItem) -> Step
     }
 }
 
-// A step, by the sum that is known before it.
+// A step, from the sum that is known before it.
 fn near(known: &Option<Sum>, step: Step) -> Step
     ensures { result ≡ near known.now step }
 {
@@ -182,7 +182,7 @@ fn near(known: &Option<Sum>, step: Step) -> Step
     }
 }
 
-/// The steps with accesses near by.
+/// The steps with accesses to nearby elements. Err: memory ran out.
 pub(crate) fn nearer(alloc: Global, steps: &[Step]) -> Result<Vec<Step>, AllocError>
     ensures { IfOk result (λ made. made.items ≡ nearer None steps.now) }
 {

@@ -1,4 +1,4 @@
-// The steps of one function of a unit, with the fact that their run keeps up with the function.
+// The steps of one function of a unit, together with the fact that their run keeps up with the function.
 
 ghost use Rattle.std.specs.Prelude.{◌≡◌, ◌<◌, ◌≤◌, length};
 ghost use Rattle.std.specs.Arc.{arc_value};
@@ -17,8 +17,8 @@ use cc_types::TypedUnit;
 use std::marker::Model;
 use std::sync::Arc;
 
-/// The steps of one function of a typed unit. Contracts see the unit, the function's number, the LTL and the steps; that their run keeps
-/// up with the function, whatever words nobody knows, belongs to the type, so nobody holds a pair of which it is not true.
+/// The steps of one function of a typed unit. Contracts see the unit, the function's number, the LTL and the steps. The type carries the
+/// fact that their run keeps up with the function, whatever the unknown words are, so no pair exists for which this is false.
 #[derive(Drop)]
 pub struct SelectedPair {
     mode: Mode,
@@ -45,7 +45,7 @@ impl Model for SelectedPair {
 }
 
 impl SelectedPair {
-    // The one place where a pair is made.
+    // The only place where a pair is made.
     pub(crate) fn new(
         mode: Mode,
         unit: Arc<TypedUnit>,
@@ -65,7 +65,7 @@ impl SelectedPair {
         }
     }
 
-    /// What the code owes if the function goes wrong.
+    /// The mode: what the code owes if the function goes wrong.
     pub fn mode(&self) -> Mode
         ensures answer { result ≡ self.now.mode }
     {
@@ -87,7 +87,7 @@ impl SelectedPair {
         self.function
     }
 
-    /// How many slots its frame has: at most 495, as many as the LTL.
+    /// The number of slots in its frame: at most 495, as many as the LTL has.
     pub fn slots(&self) -> u16
         ensures answer { result ≡ self.now.ltl.slots }
         ensures few { self.now.ltl.slots ≤ most_slots }
@@ -95,9 +95,9 @@ impl SelectedPair {
         self.ltl.slots()
     }
 
-    /// The steps. No label stands twice, and each that a jump or a branch leads to stands; each call is of a function of the unit; each
-    /// word of an operator is one that its instructions can have. The run keeps up with the function, for every list of words that unknown
-    /// locations may hold.
+    /// The steps. No label occurs twice, each label to which a jump or a branch leads is in the list, each call is of a function of the
+    /// unit, and each word of an operator is one that its instructions can have. The run keeps up with the function, for every list of
+    /// words that unknown locations may hold.
     pub fn code(&self) -> &[Step]
         ensures code { result.now ≡ self.now.code }
         ensures typed { IsTyped (tree_of self.now) }
@@ -107,7 +107,7 @@ impl SelectedPair {
         self.code.as_slice()
     }
 
-    /// The unit's owner and the LTL, for the piece.
+    /// The unit's owner and the LTL, from which the piece is made.
     pub fn into_parts(self) -> (Arc<TypedUnit>, Ltl)
         ensures unit { arc_value result.0 ≡ self.unit }
         ensures ltl { result.1 ≡ self.ltl }

@@ -1,10 +1,10 @@
 // Sets of registers.
 
-ghost use Rattle.std.specs.Prelude.{◌≡◌, ◌<◌, ◌||◌, not};
+ghost use Rattle.std.specs.Prelude.{◌≡◌, ◌<◌};
 ghost use Rattle.cc_select.specs.Live.{nothing, with, without, either};
 ghost use Rattle.cc_select.specs.internal.Sets.{holds, surviving, every, alone, before_call, within};
 
-/// The register that has the result of a call, and the word that is read or written: x10.
+/// The register of a call's result, and of the word that is read or written: x10.
 pub(crate) const RESULT: u8 = 10;
 
 /// The register that a read and a write destroy: x17.
@@ -13,10 +13,10 @@ pub(crate) const DESTROYED: u8 = 17;
 // The registers that a call keeps: x8, x9 and x18 to x27.
 const SURVIVORS: u32 = 0x0FFC_0300;
 
-// Those in which arguments may be: x10 to x17.
+// The registers in which arguments may be: x10 to x17.
 const ARGUMENTS: u32 = 0x0003_FC00;
 
-/// A set of registers: a bit for each.
+/// A set of registers: one bit for each.
 #[derive(Clone, Copy)]
 pub(crate) struct Registers {
     bits: u32,
@@ -30,21 +30,21 @@ impl Registers {
         Registers { bits: 0 }
     }
 
-    /// Each of the 32.
+    /// All 32 registers.
     pub(crate) fn all() -> Registers
         ensures { holds result ≡ every }
     {
         Registers { bits: u32::MAX }
     }
 
-    /// That of a result alone: x10.
+    /// Only the register of a result: x10.
     pub(crate) fn result() -> Registers
         ensures { holds result ≡ alone 10 }
     {
         Registers { bits: 1 << RESULT }
     }
 
-    /// Whether the register of a number is in it.
+    /// Whether the register with a number is in the set.
     pub(crate) fn has(self, register: u8) -> bool
         requires { register < 32 }
         ensures { result ≡ holds self register }
@@ -52,7 +52,7 @@ impl Registers {
         (self.bits >> register) & 1 == 1
     }
 
-    /// The same with a register.
+    /// The set with one more register.
     pub(crate) fn with(self, register: u8) -> Registers
         requires { register < 32 }
         ensures { holds result ≡ with register (holds self) }
@@ -62,7 +62,7 @@ impl Registers {
         }
     }
 
-    /// The same without a register.
+    /// The set without a register.
     pub(crate) fn without(self, register: u8) -> Registers
         requires { register < 32 }
         ensures { holds result ≡ without register (holds self) }
@@ -72,7 +72,7 @@ impl Registers {
         }
     }
 
-    /// What is in one of two.
+    /// The union of two sets.
     pub(crate) fn or(self, other: Registers) -> Registers
         ensures { holds result ≡ either (holds self) (holds other) }
     {
@@ -81,7 +81,7 @@ impl Registers {
         }
     }
 
-    /// Those of it that a call keeps.
+    /// The registers of the set that a call keeps.
     pub(crate) fn surviving(self) -> Registers
         ensures { holds result ≡ surviving (holds self) }
     {
@@ -90,7 +90,7 @@ impl Registers {
         }
     }
 
-    /// Those that are live before a call, where these are behind it.
+    /// The registers that are live before a call, if these are live after it.
     pub(crate) fn before_call(self) -> Registers
         ensures { holds result ≡ before_call (holds self) }
     {

@@ -16,7 +16,7 @@ use cc_linear_language::{LinearItem, LinearPair};
 use cc_types::TypedUnit;
 use std::alloc::{AllocError, Global};
 
-// The steps without the constants that nobody reads, with comparisons and their tests as one.
+// The steps without the constants that nobody reads, with each comparison and its test as one.
 fn trimmed(alloc: Global, steps: &[Step]) -> Result<Vec<Step>, AllocError>
     ensures { IfOk result (λ made. made.items ≡ trimmed steps.now) }
 {
@@ -39,17 +39,17 @@ fn selected(alloc: Global, items: &[LinearItem]) -> Result<Vec<Step>, AllocError
     trimmed(alloc, steps.as_slice())
 }
 
-// A typed unit is within the limits: so no function has more parameters than there are registers for them.
+// A typed unit is within the limits, so no function has more parameters than there are registers for them.
 fn is_within_limits(unit: &TypedUnit)
     ensures { IsWithinLimits (source unit.now).externals }
 {
     unit.externals();
 }
 
-/// The steps of a function of a unit, those of `specs/Selection.antt`: at most one for each item of Linear, and one more for each jump. That
-/// their run keeps up with the function belongs to the answer's type. The LTL is kept beside them.
+/// The steps of a function of a unit, as `specs/Selection.antt` defines them: at most one for each item of Linear, and one more for each
+/// jump. The answer's type says that their run keeps up with the function. The pair keeps the LTL as well.
 ///
-/// It fails only for lack of memory (40); the pair is gone then.
+/// It fails only if memory runs out (40); the pair is dropped then.
 pub fn select(alloc: Global, pair: LinearPair) -> Result<SelectedPair, AllocError>
     ensures mode { IfOk result (λ made. made.mode ≡ pair.mode) }
     ensures unit { IfOk result (λ made. made.unit ≡ pair.unit) }

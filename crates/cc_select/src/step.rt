@@ -1,11 +1,11 @@
-// The steps of a function: an item of Linear, an operation with a word or an element's number within it, or a branch that compares.
+// The steps of a function: an item of Linear, an operation that contains a word or an element's number, or a branch that compares.
 
 use cc_linear_language::LinearItem;
 use cc_ltl::Register;
 use cc_words::{Binary, Width};
 
-/// The operators on a register and a word: those that take fewer instructions than with the word in a register, where nobody else reads it
-/// there. Which words each can have is `has_word` of `specs/Immediates.antt`.
+/// The operators on a register and a word: those that take fewer instructions than with the word in a register, if nothing else reads it
+/// there. `has_word` of `specs/Immediates.antt` says which words each can have.
 #[derive(Clone, Copy)]
 pub enum WordOperator {
     Add,
@@ -22,15 +22,15 @@ pub enum WordOperator {
     LtU,
     LeS,
     LeU,
-    /// The register's word is more.
+    /// The register's word is greater.
     GtS,
     GtU,
-    /// The register's word is at least the other.
+    /// The register's word is at least the other word.
     GeS,
     GeU,
 }
 
-/// One step of a function. What it does is defined in `specs/Selected.antt`.
+/// One step of a function. `specs/Selected.antt` defines what it does.
 #[derive(Clone, Copy)]
 pub enum Step {
     /// An item of Linear.
@@ -42,14 +42,14 @@ pub enum Step {
         from: Register,
         word: u32,
     },
-    /// A load of the element of that number.
+    /// A load of the element with that number.
     LoadAt {
         width: Width,
         object: u32,
         to: Register,
         number: u32,
     },
-    /// A store into the element of that number.
+    /// A store into the element with that number.
     StoreAt {
         width: Width,
         object: u32,
@@ -72,7 +72,7 @@ pub enum Step {
         word: u32,
         from: Register,
     },
-    /// On at a label where a comparison of two registers gives 1 (`nonzero`) or 0 (not `nonzero`), else at the next step.
+    /// Goes on at a label if a comparison of two registers gives 1 (`nonzero`) or 0 (not `nonzero`), else at the next step.
     Branch {
         operator: Binary,
         nonzero: bool,
@@ -80,7 +80,7 @@ pub enum Step {
         right: Register,
         to: u32,
     },
-    /// The same of a register and a word.
+    /// The same for a register and a word.
     BranchImmediate {
         operator: WordOperator,
         nonzero: bool,

@@ -1,6 +1,6 @@
-// The table of labels. Each sweep goes over the steps from the back and notes what is live at labels, with what the last sweep found; the
-// first table that a look finds to have what is live at each label's place is the one, and where 32 sweeps give none, everything is live
-// at each label. The look notes what is live behind each step, which is what the passes need.
+// The table of labels. Each sweep goes over the steps from the back and notes what is live at labels, using what the last sweep found. The
+// first table that a check finds to have what is live at each label's place is taken; if 32 sweeps give none, everything is live at each
+// label. The check notes what is live after each step, which the passes need.
 
 ghost use Rattle.std.specs.Prelude.{◌≡◌, length, IfOk, true};
 ghost use Rattle.cc_select.specs.Table.{Table, table, rows, fits};
@@ -13,17 +13,17 @@ use crate::step::Step;
 use cc_linear_language::LinearItem;
 use std::alloc::{AllocError, Global};
 
-// The most sweeps.
+// There are at most this many sweeps.
 const MOST_SWEEPS: u32 = 32;
 
-/// The table of a function's steps, and what is live behind each of them.
+/// The table of a function's steps, and what is live after each of them.
 #[derive(Drop)]
 pub(crate) struct Settled {
     pub(crate) table: LiveTable,
     pub(crate) behind: Vec<Registers>,
 }
 
-// The label that a step is.
+// The label, if the step is one.
 fn label_of(step: &Step) -> Option<u32>
     ensures { result ≡ label_of step.now }
 {
@@ -50,7 +50,7 @@ fn sweep(table: &mut LiveTable, steps: &[Step]) -> Result<(), AllocError>
     Ok(())
 }
 
-// Whether a label's row has what is live there.
+// Whether a label's row has everything that is live there.
 fn is_met(table: &LiveTable, step: &Step, live: Registers) -> bool
     ensures { result ≡ is_met (table_of table.now) step.now (holds live) }
 {
@@ -60,7 +60,7 @@ fn is_met(table: &LiveTable, step: &Step, live: Registers) -> bool
     }
 }
 
-// Whether each label's row has what is live there. Where it is so, what is live behind each step is noted.
+// Whether each label's row has everything that is live there. If so, what is live after each step is noted.
 fn fits(table: &LiveTable, steps: &[Step], behind: &mut Vec<Registers>) -> bool
     requires { length behind.old.items ≡ length steps.now }
     ensures long { length behind.new.items ≡ length steps.now }
@@ -81,7 +81,7 @@ fn fits(table: &LiveTable, steps: &[Step], behind: &mut Vec<Registers>) -> bool
     true
 }
 
-/// The table of these steps.
+/// The table of these steps, and what is live after each. Err: memory ran out.
 #[tactic(auto, unfolding(crate::specs::Table::table))]
 pub(crate) fn settle(alloc: Global, steps: &[Step]) -> Result<Settled, AllocError>
     ensures table { IfOk result (λ s. SameTable (table_of s.table) (table steps.now)) }

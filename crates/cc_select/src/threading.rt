@@ -1,13 +1,13 @@
-// Jump threading: a test that stands directly behind a label goes before the label and into each jump there, if only jumps lead to the label.
-// So a truth value is tested where it is made, and a jump takes the place of the test where the value is known. The steps of the items are
-// chosen as they come.
+// Jump threading: a test directly after a label goes before the label and into each jump there, if only jumps lead to the label. So a truth
+// value is tested where it is made, and if the value is known, a jump replaces the test. The steps of the items are chosen along the way.
 //
-// Two walks make the table of these tests: from the back, the test behind each label, and then none for the labels that branches lead to.
+// Two walks make the table of these tests. The first goes from the back and finds the test after each label; the second clears the labels
+// to which branches lead.
 
 ghost use Rattle.std.specs.Prelude.{◌≡◌, ◌++◌, ◌∷◌, [], ℕ, ◌+◌, ◌≤◌, drop, None, false, not, IfOk, vec_len, vec_capacity, if◌then◌else◌, ◌==◌};
 ghost use Rattle.cc_linear_language.specs.declared.item.LinearItem.TheVariants.{Jump};
 ghost use Rattle.cc_select.specs.Known.{unknown, is_taken, chosen};
-ghost use Rattle.cc_select.specs.Threading.{branches_to, first_test, test_behind, tests, way, is_jump, before_label, before_jump, in_jump, piece, is_before_gone, threaded_by, threaded};
+ghost use Rattle.cc_select.specs.Threading.{branches_to, first_test, test_behind, tests, way, is_jump, before_label, in_jump, piece, is_before_gone, threaded_by, threaded};
 ghost use Rattle.cc_select.specs.internal.Sets.{known_in, tests_in};
 ghost use Rattle.cc_select.specs.internal.Passes.{branched_to};
 
@@ -23,7 +23,7 @@ struct Tests {
 }
 
 impl Tests {
-    // That of a label.
+    // The test of a label.
     fn row(&self, label: u32) -> Option<LinearItem>
         ensures { result ≡ tests_in self.now label }
     {
@@ -33,7 +33,7 @@ impl Tests {
         }
     }
 
-    // Puts that of a label in. Without memory all stays as it was.
+    // Sets the test of a label. If memory runs out, everything stays as it was.
     fn put(&mut self, label: u32, row: Option<LinearItem>) -> Result<(), AllocError>
         ensures { IfOk result (λ _. (n : ℕ) → tests_in self.new n ≡ (if label == n then row else tests_in self.old n)) }
     {
@@ -49,7 +49,7 @@ impl Tests {
     }
 }
 
-// The test that these items have at a place.
+// The item at a place, if it is a test.
 fn first_test(items: &[LinearItem], at: usize) -> Option<LinearItem>
     ensures { result ≡ first_test (drop at items.now) }
 {
@@ -66,7 +66,7 @@ fn first_test(items: &[LinearItem], at: usize) -> Option<LinearItem>
     }
 }
 
-// The test directly behind each label.
+// The test directly after each label.
 fn tests_behind(alloc: Global, items: &[LinearItem]) -> Result<Tests, AllocError>
     ensures { IfOk result (λ found. (n : ℕ) → tests_in found n ≡ test_behind items.now n) }
 {
@@ -83,7 +83,7 @@ fn tests_behind(alloc: Global, items: &[LinearItem]) -> Result<Tests, AllocError
     Ok(found)
 }
 
-// The label that an item may lead to beside the next item.
+// The label to which an item may lead besides the next item.
 fn branched_to(item: &LinearItem) -> Option<u32>
     ensures { result ≡ branched_to item.now }
 {
@@ -93,7 +93,7 @@ fn branched_to(item: &LinearItem) -> Option<u32>
     }
 }
 
-// None for the labels to which branches lead.
+// Clears the tests of the labels to which branches lead.
 fn without_branched(found: &mut Tests, items: &[LinearItem]) -> Result<(), AllocError>
     ensures { IfOk result (λ _. (n : ℕ) → tests_in found.new n ≡ (if branches_to items.now n then None else tests_in found.old n)) }
 {
@@ -114,7 +114,7 @@ fn find_tests(alloc: Global, items: &[LinearItem]) -> Result<Tests, AllocError>
     Ok(found)
 }
 
-// What is done in place of a test: a jump to one of two labels where the word is known, else the test.
+// What replaces a test: a jump to one of two labels if the word is known, else the test.
 fn decided(nonzero: bool, word: Option<u32>, to: u32, label: u32, test: LinearItem) -> LinearItem
     ensures { result ≡ (if is_taken nonzero word then Jump to else (if is_taken (not nonzero) word then Jump label else test)) }
 {
@@ -127,7 +127,7 @@ fn decided(nonzero: bool, word: Option<u32>, to: u32, label: u32, test: LinearIt
     }
 }
 
-// A test before a jump to a label or the label itself.
+// A test before a jump to a label, or before the label itself.
 fn way(known: &Known, test: LinearItem, label: u32) -> LinearItem
     ensures { result ≡ way (known_in known.now) test label }
 {
@@ -156,7 +156,7 @@ fn push_label(steps: &mut Vec<Step>, tests: &Tests, known: &Known, label: u32)
     steps.push_reserved(Step::One(LinearItem::Label { label }));
 }
 
-// Pushes the step of an item, and a jump to the label behind it unless the item is `alone`.
+// Pushes the step of an item, and a jump to a label after it unless the item is `alone`.
 fn push_step(steps: &mut Vec<Step>, known: &Known, item: LinearItem, label: u32, alone: bool)
     requires { vec_len steps.old + 2 ≤ vec_capacity steps.old }
     ensures { steps.new.items ≡ steps.old.items ++ chosen (known_in known.now) (item ∷ (if alone then [] else Jump label ∷ [])) }
@@ -182,7 +182,7 @@ fn push_jump(steps: &mut Vec<Step>, tests: &Tests, known: &Known, label: u32)
     }
 }
 
-// Pushes the steps of what stands for an item: at most two, for which there is room.
+// Pushes the steps for an item: at most two, for which there is room.
 fn push_piece(steps: &mut Vec<Step>, tests: &Tests, known: &Known, item: LinearItem)
     requires { vec_len steps.old + 2 ≤ vec_capacity steps.old }
     ensures { steps.new.items ≡ steps.old.items ++ chosen (known_in known.now) (piece (tests_in tests.now) (known_in known.now) item) }
@@ -194,7 +194,7 @@ fn push_piece(steps: &mut Vec<Step>, tests: &Tests, known: &Known, item: LinearI
     }
 }
 
-// Whether the item behind this one is a test that has gone before its label.
+// Whether the item after this one is a test that was moved before its label.
 fn is_before_gone(tests: &Tests, item: &LinearItem) -> bool
     ensures { result ≡ is_before_gone (tests_in tests.now) item.now }
 {
@@ -204,7 +204,7 @@ fn is_before_gone(tests: &Tests, item: &LinearItem) -> bool
     }
 }
 
-// The steps of the items with these tests before labels.
+// The steps of the items, with these tests before labels.
 fn chosen_by(alloc: Global, tests: &Tests, items: &[LinearItem]) -> Result<Vec<Step>, AllocError>
     ensures { IfOk result (λ steps. steps.items ≡ chosen unknown (threaded_by (tests_in tests.now) unknown false items.now)) }
 {
@@ -224,8 +224,8 @@ fn chosen_by(alloc: Global, tests: &Tests, items: &[LinearItem]) -> Result<Vec<S
     Ok(steps)
 }
 
-/// The steps of a function's items with tests before the labels to which only jumps lead: one for each item, and at most one more for each
-/// jump.
+/// The steps of a function's items, with tests before the labels to which only jumps lead: one step for each item, and at most one more for
+/// each jump. Err: memory ran out.
 pub(crate) fn chosen(alloc: Global, items: &[LinearItem]) -> Result<Vec<Step>, AllocError>
     ensures { IfOk result (λ steps. steps.items ≡ chosen unknown (threaded items.now)) }
 {

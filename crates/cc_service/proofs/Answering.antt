@@ -25,7 +25,7 @@ use Rattle.cc_recorded.specs.declared.fault.BookFault.TheVariants as book
 use Rattle.cc_service.specs.declared.fault.ServiceFault.{ServiceFault}
 use Rattle.cc_service.specs.declared.fault.ServiceFault.TheVariants.{Opening, TooManyClients, BadName, Text, Piece, WorkersGone, ImageTooLarge, Book, OutOfMemory, Changed}
 
--- ---- what the book answers to a look
+-- ---- what the book answers to a look-up
 
 seen : (before : Chronicle) (old : MemberView) (asked : Asked) (after : Chronicle) (new : MemberView) (receipt : Receipt)
     → IsRecorded before old asked (reply_of before.units asked) after new receipt → IsSeen asked old new receipt
@@ -49,7 +49,7 @@ there : (b : Bool) (made : Units) → reply.Absent ≡ reply_of_change (if b the
 there true made is = cc
 there false made is = cc
 
--- what the map's reply says of the change that it refuses
+-- what the map's reply says about the change that it refuses
 exists_is : (units : Units) (command : Command) → reply.Exists ≡ reply_of units (Change command) → refusal_of command ≡ reply.Exists
 exists_is units (commands.Add name unit) is = refl
 exists_is units (commands.Replace name unit) is = absurd (not_there (contains_key units name) (insert units name unit) is)
@@ -78,7 +78,7 @@ module _ {D : Type 0} (failures : D → ℕ) (before : BookView D) (old : Member
 
 -- ---- what the service answers
 
--- of a change that is this one, where the call asks for it
+-- for this change, if the call asks for it
 module _ (Asks : Command → Type 0) (command : Command) (asked : Asks command) (old new : MemberView) where
   pub entered_as : (answer : Reply) (receipt : Receipt) → IsEntered (λ c. c ≡ command) old answer new receipt → IsEntered Asks old answer new receipt
   entered_as answer receipt e = record { command = command; asked = asked; answered = subst (λ (c : Command). IsAnswered old (Change c) answer new receipt) e.asked e.answered }
@@ -113,7 +113,7 @@ module _ (Asks : Command → Type 0) (command : Command) (asked : Asks command) 
   put mode name source named program (Err OutOfMemory) none = absurd none
   put mode name source named program (Err (Changed receipt)) none = none
 
--- what the book answers is no refusal of a text
+-- what the book answers is not a refusal of the text
 pub past_text : (command : Command) (old new : MemberView) (result : Result Receipt ServiceFault) → MakesAnswers command old new result → IfErr result (λ fault. IsPastText fault)
 past_text command old new (Ok receipt) e = tt
 past_text command old new (Err (Book f)) e = tt
@@ -127,7 +127,7 @@ past_text command old new (Err ImageTooLarge) none = tt
 past_text command old new (Err OutOfMemory) none = tt
 past_text command old new (Err (Changed receipt)) none = tt
 
--- why a text is not handed in is a reason for which it is not compiled
+-- why a text was not handed in is a reason why it was not compiled
 pub not_prepared : (mode : Mode) (text : List ℕ) (fault : ServiceFault) → IsNotPrepared text fault → IsCompileRefusal mode text fault
 not_prepared mode text (Text f) e = e
 not_prepared mode text WorkersGone e = e
@@ -140,7 +140,7 @@ not_prepared mode text BadName none = none
 not_prepared mode text (Book f) none = none
 not_prepared mode text (Changed receipt) none = none
 
--- of a text that was not compiled
+-- for a text that was not compiled
 pub not_put : (mode : Mode) (Asks : Command → Type 0) (name source : List ℕ) (old new : MemberView) → IsTrue (is_name name) → new ≡ old → (fault : ServiceFault) → IsCompileRefusal mode source fault → PutAnswers mode Asks name source old new (Err fault)
 not_put mode Asks name source old new named same (Text f) e = (named, e, same)
 not_put mode Asks name source old new named same (Piece function f) e = (named, e, same)

@@ -1,4 +1,4 @@
--- What its client sees of a commit that compacts where this makes room.
+-- What the client sees of a commit that compacts if this makes room.
 use Rattle.std.proofs.Common.{◌≡◌, ◌⊎◌, inl, inr, IfOk, IfErr, Result, Ok, Err, sym, subst}
 use Rattle.cc_disk.specs.declared.disk.Disk.{Ghosts}
 use Rattle.cc_history.specs.declared.command.Command.{Command}

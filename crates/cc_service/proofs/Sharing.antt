@@ -1,4 +1,4 @@
--- Threads may share a service, and it may go to another thread, and a client may.
+-- Threads may share a service; it may go to another thread, and so may a client.
 use denote.RattleType.{RattleType}
 use denote.Param.Send.{IsSend, IsSync, sendable, recorded_send, recorded_sync, view_send, struct_send, struct_sync}
 use denote.Struct.Declared.{shape}

@@ -1,15 +1,17 @@
 -- An update is a look and a change with no other call between them: after a look that found the unit the book refuses the change neither by 32 nor by 36 or 39; and
 -- what the client sees of it.
-use Rattle.std.proofs.Common.{◌≡◌, ◌∙◌, ◌⊎◌, inl, inr, ℕ, ◌+◌, ◌-◌, Bool, true, false, IsTrue, IfOk, IfErr, List, [], ◌∷◌, ◌++◌, length, Option, Some, None, Result, Ok, Err, refl, sym, ap, subst, arith}
+use Rattle.std.proofs.Common.{◌≡◌, ◌∙◌, ◌⊎◌, inl, inr, ℕ, ◌+◌, ◌-◌, Bool, true, false, IsTrue, IfOk, IfErr, List, [], ◌∷◌, ◌++◌, length, Option, Some, None, Result, Ok, Err, append_assoc, refl, sym, ap, subst, arith}
 use Rattle.std.specs.Prelude.{IfSome, if◌then◌else◌, is_some, slice_get}
 use Rattle.std.specs.FinMap.{contains_key, get, insert}
 use Rattle.std.proofs.lemmas.List.{length-append}
+use Rattle.cc_disk.specs.Images.{LeavesOnly}
 use Rattle.cc_disk.specs.declared.disk.Disk.{Ghosts}
 use Rattle.cc_library.specs.unit.StoredUnit.{StoredUnit}
-use Rattle.cc_library.specs.Apply.{Units, absent}
+use Rattle.cc_library.specs.Apply.{Units, absent, after}
 use Rattle.cc_library.specs.Name.{is_name}
-use Rattle.cc_library.specs.Recovered.{View}
-use Rattle.cc_history.specs.Calls.{reply_of_change, reply_of_found}
+use Rattle.cc_library.specs.Recovered.{RecoversOneOf, View}
+use Rattle.cc_history.specs.Calls.{change_of, reply_of_change, reply_of_found}
+use Rattle.cc_history.specs.declared.command.Asked.{Asked}
 use Rattle.cc_history.specs.declared.command.Asked.TheVariants.{Fetch}
 use Rattle.cc_history.specs.declared.command.Command.{Command}
 use Rattle.cc_history.specs.declared.command.Command.TheVariants.{Replace}
@@ -20,9 +22,10 @@ use Rattle.cc_history.specs.declared.reply.Reply.TheVariants as reply
 use Rattle.cc_history.specs.History.{IsAnswered, LastStands, MemberView, Stands, entry_at}
 use Rattle.cc_recorded.specs.Answers.{CommitAnswers, CompactAnswers, LookAnswers}
 use Rattle.cc_recorded.specs.Book.{BookView}
-use Rattle.cc_recorded.specs.Changed.{IsBookChanged}
+use Rattle.cc_recorded.specs.Changed.{AllRecover, ChangesAtOnce, IsBookChanged}
 use Rattle.cc_recorded.specs.Compacting.{CommitsBehind, IsCompactedFor}
 use Rattle.cc_recorded.specs.Promise.{IsSound}
+use Rattle.cc_recorded.specs.Since.{BookSince}
 use Rattle.cc_recorded.specs.declared.fault.BookFault.{BookFault}
 use Rattle.cc_recorded.specs.declared.fault.BookFault.TheVariants as book
 use Rattle.cc_c_laws.specs.declared.mode.Mode.{Mode}
@@ -36,10 +39,11 @@ use Rattle.cc_service.specs.declared.fault.ServiceFault.TheVariants.{Opening, To
 use Rattle.cc_service.specs.internal.Under.{HasCompared, UpdatesBy, UpdatesSeen, answer_of}
 use Rattle.cc_service.proofs.Answering.{entered_as, entered_where_ok, not_there, turned_down_where_err}
 use Rattle.cc_service.proofs.Storing.{newest, stored}
+use Rattle.cc_recorded.proofs.Committing.{no_call_between}
 
--- ---- the reply of a look
+-- ---- the reply of a look-up
 
--- the unit that a reply has
+-- the unit in a reply
 abbrev unit_in : Reply → Option StoredUnit
 unit_in (reply.Unit unit) = Some unit
 unit_in answer = None
@@ -55,7 +59,7 @@ none_in : (found : Option StoredUnit) (answer : Reply) → answer ≡ reply_of_f
 none_in None answer is not = refl
 none_in (Some unit) answer is not = absurd (not unit is)
 
--- ---- the receipt of a look stands
+-- ---- the receipt of a look-up matches
 
 last_of : (receipts : List Receipt) (receipt : Receipt) → slice_get (receipts ++ receipt ∷ []) (length receipts) ≡ Some receipt
 last_of [] receipt = refl
@@ -83,14 +87,14 @@ May book.DiskFault = Unit {0}
 May book.OutOfMemory = Unit {0}
 
 module _ {Disk : Type 0} (D : Ghosts Disk) where
-  -- a change is neither refused by 36, nor by 39, nor by 32
+  -- a change is refused by none of 36, 39 and 32
   record IsReady (b : BookView Disk) (name : List ℕ) (heard : MemberView) : Type 0 where
     idle : b.library.closed ≡ false
     unit : StoredUnit
     found : get b.library.units name ≡ Some unit
     stands : LastStands b.history heard.receipts
 
-  -- so it is after a look
+  -- it is so after a look-up
   ready_after : (before between : BookView Disk) (old heard : MemberView) (name : List ℕ) (seen : Receipt) (unit : StoredUnit) → before.library.closed ≡ false
       → LookAnswers before old (Fetch name) between heard (Ok seen) → get before.library.units name ≡ Some unit → IsReady between name heard
   ready_after before between old heard name seen unit idle looked found =
@@ -126,7 +130,7 @@ module _ {Disk : Type 0} (D : Ghosts Disk) where
   refused_ready b after_it name heard new made book.DiskFault ready it = tt
   refused_ready b after_it name heard new made book.OutOfMemory ready it = tt
 
-  -- ---- the change, which compacts before it, or does not
+  -- ---- the change, with or without a compaction before it
 
   change_refused : (b after_it : BookView Disk) (name : List ℕ) (heard new : MemberView) (made : StoredUnit) (fault : BookFault) → IsReady b name heard
       → IsBookChanged D b heard (Replace name made) after_it new (Err fault) ⊎ IsCompactedFor D b heard (Replace name made) after_it new (Err fault) → May fault
@@ -160,9 +164,40 @@ module _ {Disk : Type 0} (D : Ghosts Disk) where
           (entered_where_ok D.failures c heard command after_it new (Ok receipt) commits.0, commits.0.0.recorded.number ∙ ap (λ (x : BookView Disk). length x.history + 1) compacts.3)
       behind c (Err why) compacts commits = absurd (let is = commits.0 in cc)
 
+  -- ---- what it leaves on the disk
+
+  -- a look that was refused leaves the book
+  pub look_leaves : (before after_it : BookView Disk) (old new : MemberView) (asked : Asked) (fault : BookFault) → LookAnswers before old asked after_it new (Err fault) → after_it ≡ before
+  look_leaves before after_it old new asked (book.Estranged number found) it = it.1
+  look_leaves before after_it old new asked book.OutOfMemory it = it.0
+  look_leaves before after_it old new asked (book.Exists receipt) it = absurd it
+  look_leaves before after_it old new asked (book.Absent receipt) it = absurd it
+  look_leaves before after_it old new asked book.Full it = absurd it
+  look_leaves before after_it old new asked book.Closed it = absurd it
+  look_leaves before after_it old new asked book.DiskFault it = absurd it
+
+  -- so whatever the change is that does not come
+  pub nothing_at_once : (before after_it : BookView Disk) (command : Command) → after_it ≡ before
+      → (IsTrue D.honest → (image : List ℕ) → D.left_since before.library.disk (D.moment before.library.disk) image → D.may_leave before.library.disk image) → AllRecover D before
+      → (before.library.closed ≡ false → before.failed ≡ []) → ChangesAtOnce D command before after_it
+  nothing_at_once before after_it command same only_now images idle =
+      subst (λ (b : BookView Disk). ChangesAtOnce D command before b) (sym same) (no_call_between D before (after before.library.units (change_of command)) only_now images idle)
+
+  -- a change after a look, which leaves the library
+  pub at_once_after : (before between after_it : BookView Disk) (command : Command) → between.library ≡ before.library → ChangesAtOnce D command between after_it → ChangesAtOnce D command before after_it
+  at_once_after before between after_it command same moments =
+      subst (λ (l : View Disk). IsTrue D.honest → l.closed ≡ false → LeavesOnly D.moment D.left_since l.disk after_it.library.disk (RecoversOneOf l.units (after l.units (change_of command)))) same moments
+
+  -- the books after a look, and those after what comes then
+  pub since_after : (a b c : BookSince Disk) → b.since ≡ a.since ++ b.book ∷ [] → (c ≡ b) ⊎ ((between : List (BookView Disk)) × (c.since ≡ b.since ++ (between ++ c.book ∷ [])))
+      → (c ≡ a) ⊎ ((between : List (BookView Disk)) × (c.since ≡ a.since ++ (between ++ c.book ∷ [])))
+  since_after a b c one (inl same) = inr ([], subst (λ (x : BookSince Disk). x.since ≡ a.since ++ x.book ∷ []) (sym same) one)
+  since_after a b c one (inr two) =
+      inr (b.book ∷ two.0, two.1 ∙ ap (λ (l : List (BookView Disk)). l ++ (two.0 ++ c.book ∷ [])) one ∙ append_assoc a.since (b.book ∷ []) (two.0 ++ c.book ∷ []))
+
   -- ---- of a book
 
-  -- a look that was refused
+  -- a look-up that was refused
   pub look_refused : (before after_it : BookView Disk) (old new : MemberView) (name expected : List ℕ) (command : Command) (fault : BookFault) → before.library.closed ≡ false
       → LookAnswers before old (Fetch name) after_it new (Err fault) → UpdatesBook D before old name expected command after_it new (Err (Book fault))
   look_refused before after_it old new name expected command (book.Estranged number found) idle it = (idle, it.0, it.1, it.2)
@@ -188,7 +223,7 @@ module _ {Disk : Type 0} (D : Ghosts Disk) where
     replied : seen.entry.reply ≡ reply_of_found (get before.library.units name)
     replied = ap (λ (e : Entry). e.reply) looked.0.answered.entry
 
-    -- nothing came after the look
+    -- nothing came after the look-up
     still : after_it ≡ between → new ≡ heard → LookAnswers before old (Fetch name) after_it new (Ok seen)
     still same_book same_member =
         subst (λ (b : BookView Disk). LookAnswers before old (Fetch name) b new (Ok seen)) (sym same_book)
@@ -316,7 +351,7 @@ update mode name expected source made old new of named program (Err WorkersGone)
 update mode name expected source made old new of named program (Err ImageTooLarge) none = absurd none
 update mode name expected source made old new of named program (Err OutOfMemory) none = absurd none
 
--- of a text that was not compiled
+-- for a text that was not compiled
 pub not_updated : (mode : Mode) (name expected source : List ℕ) (old new : MemberView) → IsTrue (is_name name) → new ≡ old → (fault : ServiceFault) → IsCompileRefusal mode source fault
     → UpdateAnswers mode name expected source old new (Err fault)
 not_updated mode name expected source old new named same (Text f) e = (named, e, same)

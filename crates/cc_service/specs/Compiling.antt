@@ -1,4 +1,4 @@
--- Why a text is not compiled by the workers.
+-- Why the workers did not compile a text.
 use Rattle.std.specs.Prelude.{◌≡◌, ◌⊎◌, ◌++◌, ℕ, List, length}
 use Rattle.cc_ast.specs.Tree.{External}
 use Rattle.cc_link.specs.Meaning.{functions}
@@ -22,8 +22,8 @@ pub record IsProgram (text : List ℕ) : Type 0 where
   pub tree : List External
   pub is : IsProgramText text tree
 
--- What a pass has sent after a text was compiled, or was not: what it had before; and, where the text is a program, the first functions of one
--- job of it, in the order of their definitions and each once.
+-- What a pass has sent after a text was compiled or refused: what it had sent before; and, if the text is a program, the first functions of
+-- one job of it, in the order of their definitions and each once.
 abbrev pub HasSentFor : (text : List ℕ) → (before after : List Item) → Type 0
 HasSentFor text before after = (after ≡ before) ⊎ ((tree : List External) × IsProgramText text tree × HasSentSome before after (length (functions tree)))
 
@@ -34,7 +34,7 @@ pub record HasHandedIn (text : List ℕ) (before after : List Item) : Type 0 whe
   pub job : ℕ
   pub sent : after ≡ before ++ pieces_of job (length (functions tree))
 
--- Why a text is not handed in: it is no program's; 41, of a program; 40.
+-- Why a text is not handed in: it is not a program; 41, if it is a program; 40.
 abbrev pub IsNotPrepared : List ℕ → ServiceFault → Type 0
 IsNotPrepared text (Text f) = IsTextRefusal text f
 IsNotPrepared text WorkersGone = IsProgram text
@@ -47,8 +47,8 @@ IsNotPrepared text ImageTooLarge = ⊥
 IsNotPrepared text (Book f) = ⊥
 IsNotPrepared text (Changed receipt) = ⊥
 
--- A text that is no program's is refused as one. Only a program has another fault: 22 or 24 of the first function that has no piece in the
--- mode; 41; 25 where linking refuses pieces of all functions so.
+-- A text that is not a program is refused as such. Only a program can have another fault: 22 or 24 for the first function that has no piece
+-- in the mode; 41; 25 if linking refuses pieces of all functions with it.
 abbrev pub IsCompileRefusal : Mode → List ℕ → ServiceFault → Type 0
 IsCompileRefusal mode text (Text f) = IsTextRefusal text f
 IsCompileRefusal mode text (Piece function f) = IsProgram text × IsJobRefusal mode text (pool.Piece function f)
@@ -61,7 +61,7 @@ IsCompileRefusal mode text BadName = ⊥
 IsCompileRefusal mode text (Book f) = ⊥
 IsCompileRefusal mode text (Changed receipt) = ⊥
 
--- it is no refusal of a text
+-- the fault is not a refusal of the text
 abbrev pub IsPastText : ServiceFault → Type 0
 IsPastText (Text f) = ⊥
 IsPastText (Opening f) = ⊥

@@ -5,17 +5,19 @@ pub mod Fault
 pub mod Named
 -- what contracts see of a client
 pub mod Client
--- why a text is not compiled
+-- why a text was not compiled
 pub mod Compiling
--- what a service's calls answer, as their clients see it
+-- the answers of a service's calls, as their clients see them
 pub mod Serving
--- what an update answers, which looks before it changes
+-- the answers of an update, which looks before it changes
 pub mod Updating
 -- what a change that was answered has done to the book
 pub mod Stored
+-- what is answered to how much of its area the library takes
+pub mod Space
 -- what serves private contracts
 pub mod internal
--- Pages of crates below that clauses here cite, handed on.
+-- Pages of lower crates that clauses here cite, handed on.
 pub use Rattle.cc_recorded.specs.Book
 pub use Rattle.cc_recorded.specs.Fault as BookFault
 pub use Rattle.cc_recorded.specs.Opened

@@ -1,5 +1,5 @@
--- What a call of a service answers, as its client sees it. The value of the lock at that moment is no client's to name: what becomes of
--- it is said of the book's calls.
+-- What a call of a service answers, as its client sees it. No client can name the value of the lock at that moment; the book's calls say
+-- what becomes of it.
 use Rattle.std.specs.Prelude.{◌≡◌, ◌≢◌, ℕ, ◌-◌, Bool, IsTrue, List, length, Option, Some, slice_get, Result, Ok, Err}
 use Rattle.cc_library.specs.unit.StoredUnit.{StoredUnit}
 use Rattle.cc_c_laws.specs.declared.mode.Mode.{Mode}
@@ -27,16 +27,17 @@ use Rattle.cc_service.specs.declared.fault.ServiceFault.TheVariants.{Opening, Ba
 
 -- ---- what a call asks of the book
 
--- the unit was compiled from this source in this mode: its image agrees with it, and follows on every input what the program shows in the mode
+-- the unit was compiled from this source in this mode: its image agrees with it, and follows on every input what the program shows in the
+-- mode
 abbrev pub IsOf : Mode → (source : List ℕ) → StoredUnit → Type 0
 IsOf mode source unit = (unit.source ≡ source) × Agree unit.source unit.image × AgreeIn mode unit.source unit.image
 
--- such a unit of this source is added under this name
+-- such a unit of this source is added with this name
 abbrev pub Adds : Mode → (name source : List ℕ) → Command → Type 0
 Adds mode name source (Add n unit) = (n ≡ name) × IsOf mode source unit
 Adds mode name source _ = ⊥
 
--- it takes the place of the name's unit
+-- it replaces the name's unit
 abbrev pub Replaces : Mode → (name source : List ℕ) → Command → Type 0
 Replaces mode name source (Replace n unit) = (n ≡ name) × IsOf mode source unit
 Replaces mode name source _ = ⊥
@@ -46,20 +47,20 @@ abbrev pub Puts : Put → Mode → (name source : List ℕ) → Command → Type
 Puts put.Add = Adds
 Puts put.Replace = Replaces
 
--- the name's unit goes
+-- the name's unit is removed
 abbrev pub Withdraws : (name : List ℕ) → Command → Type 0
 Withdraws name (Withdraw n) = n ≡ name
 Withdraws name _ = ⊥
 
--- how the map refuses a change: 31 where a name is added, 32 where one is to be there
+-- how the map refuses a change: 31 if a name is to be added, 32 if one must be there
 abbrev pub refusal_of : Command → Reply
 refusal_of (Add n unit) = reply.Exists
 refusal_of (Replace n unit) = reply.Absent
 refusal_of (Withdraw n) = reply.Absent
 
--- ---- what is answered
+-- ---- the answers
 
--- one of these changes was asked and answered so, and the receipt is the client's last
+-- one of these changes was asked for and answered like this, and the receipt is the client's last
 pub record IsEntered (Asks : Command → Type 0) (old : MemberView) (answer : Reply) (new : MemberView) (receipt : Receipt) : Type 0 where
   pub command : Command
   pub asked : Asks command
@@ -72,7 +73,7 @@ pub record IsOfAnother (old : MemberView) (number : ℕ) (found : Option Entry) 
   pub number_is : number ≡ last.number
   pub found_is : found ≢ Some last.entry
 
--- how the book refuses a change: 31 and 32 with a receipt, which is the client's last; every other refusal leaves it as it was
+-- how the book refuses a change: 31 and 32 with a receipt, which is the client's last; every other refusal leaves the client as it was
 abbrev pub IsTurnedDown : (Asks : Command → Type 0) (old new : MemberView) → BookFault → Type 0
 IsTurnedDown Asks old new (book.Exists receipt) = IsEntered (λ c. Asks c × (refusal_of c ≡ reply.Exists)) old reply.Exists new receipt
 IsTurnedDown Asks old new (book.Absent receipt) = IsEntered (λ c. Asks c × (refusal_of c ≡ reply.Absent)) old reply.Absent new receipt
@@ -82,7 +83,7 @@ IsTurnedDown Asks old new book.DiskFault = new ≡ old
 IsTurnedDown Asks old new book.Closed = new ≡ old
 IsTurnedDown Asks old new book.OutOfMemory = new ≡ old
 
--- The answer to `add` or `replace`: 33 exactly where the bytes are no name; then, of a name, why the text is not compiled; then, of a
+-- The answer to `add` or `replace`: 33 exactly if the bytes are not a name; then, for a name, why the text was not compiled; then, for a
 -- program, what the book answers.
 abbrev pub PutAnswers : Mode → (Asks : Command → Type 0) (name source : List ℕ) (old new : MemberView) → Result Receipt ServiceFault → Type 0
 PutAnswers mode Asks name source old new (Ok receipt) = IsTrue (is_name name) × IsProgram source × IsEntered Asks old reply.Done new receipt
@@ -95,34 +96,34 @@ PutAnswers mode Asks name source old new (Err OutOfMemory) = IsTrue (is_name nam
 PutAnswers mode Asks name source old new (Err (Book f)) = IsTrue (is_name name) × IsProgram source × IsTurnedDown Asks old new f
 PutAnswers mode Asks name source old new (Err _) = ⊥
 
--- the answer to `withdraw`: 33 exactly where the bytes are no name; else what the book answers
+-- the answer to `withdraw`: 33 exactly if the bytes are not a name; else what the book answers
 abbrev pub WithdrawAnswers : (name : List ℕ) (old new : MemberView) → Result Receipt ServiceFault → Type 0
 WithdrawAnswers name old new (Ok receipt) = IsTrue (is_name name) × IsEntered (Withdraws name) old reply.Done new receipt
 WithdrawAnswers name old new (Err BadName) = (¬ IsTrue (is_name name)) × (new ≡ old)
 WithdrawAnswers name old new (Err (Book f)) = IsTrue (is_name name) × IsTurnedDown (Withdraws name) old new f
 WithdrawAnswers name old new (Err _) = ⊥
 
--- how a look is refused: 39 or 40, and the client is as it was
+-- how a look-up is refused: 39 or 40, and the client is as it was
 abbrev pub IsTurnedAway : (old new : MemberView) → BookFault → Type 0
 IsTurnedAway old new (book.Estranged number found) = IsOfAnother old number found × (new ≡ old)
 IsTurnedAway old new book.OutOfMemory = new ≡ old
 IsTurnedAway old new _ = ⊥
 
--- so is `get`, and by 32, with a receipt, where the name has no unit
+-- so is `get`, and also by 32, with a receipt, if the name has no unit
 abbrev pub IsNotFound : (name : List ℕ) (old new : MemberView) → BookFault → Type 0
 IsNotFound name old new (book.Absent receipt) = IsAnswered old (Fetch name) reply.Absent new receipt
 IsNotFound name old new (book.Estranged number found) = IsTurnedAway old new (book.Estranged number found)
 IsNotFound name old new book.OutOfMemory = IsTurnedAway old new book.OutOfMemory
 IsNotFound name old new _ = ⊥
 
--- the entry has a unit; it has all names
+-- the entry has a unit; the entry has all names
 abbrev pub HasUnit : Entry → Type 0
 HasUnit entry = (unit : StoredUnit) × (entry.reply ≡ reply.Unit unit)
 
 abbrev pub HasNames : Entry → Type 0
 HasNames entry = (names : List (List ℕ)) × (entry.reply ≡ reply.Names names)
 
--- the answer to `get`: 33 exactly where the bytes are no name
+-- the answer to `get`: 33 exactly if the bytes are not a name
 abbrev pub GetAnswers : (name : List ℕ) (old new : MemberView) → Result Receipt ServiceFault → Type 0
 GetAnswers name old new (Ok receipt) = IsTrue (is_name name) × HasUnit receipt.entry × IsAnswered old (Fetch name) receipt.entry.reply new receipt
 GetAnswers name old new (Err BadName) = (¬ IsTrue (is_name name)) × (new ≡ old)
@@ -135,7 +136,7 @@ ListAnswers old new (Ok receipt) = HasNames receipt.entry × IsAnswered old Name
 ListAnswers old new (Err (Book f)) = IsTurnedAway old new f
 ListAnswers old new (Err _) = ⊥
 
--- ---- beside the calls of clients
+-- ---- besides the calls of clients
 
 -- why a compaction is refused: 34, 35, 36 or 40
 abbrev pub IsNotCompacted : BookFault → Type 0
@@ -145,7 +146,7 @@ IsNotCompacted book.Closed = Unit {0}
 IsNotCompacted book.OutOfMemory = Unit {0}
 IsNotCompacted _ = ⊥
 
--- Why a service is not opened: as the library's opening has it; where that is Ok, 41 or 40 of the workers, and then an honest disk's bytes
+-- Why a service is not opened: as the library's opening has it; if that is Ok, 41 or 40 from the workers, and an honest disk's bytes then
 -- recover to this map.
 abbrev pub IsNotOpened : (honest : Bool) (seen : List ℕ) (base : Units) (before after : ℕ) → ServiceFault → Type 0
 IsNotOpened honest seen base before after (Opening f) = OpenFaults honest seen before after f
@@ -153,14 +154,14 @@ IsNotOpened honest seen base before after WorkersGone = (after ≡ before) × (I
 IsNotOpened honest seen base before after OutOfMemory = (after ≡ before) × (IsTrue honest → Recovers seen base)
 IsNotOpened honest seen base before after _ = ⊥
 
--- why its workers are not started: 41 or 40
+-- why its workers could not be started: 41 or 40
 abbrev pub IsNotStarted : ServiceFault → Type 0
 IsNotStarted WorkersGone = Unit {0}
 IsNotStarted OutOfMemory = Unit {0}
 IsNotStarted _ = ⊥
 
--- Why a service is not ended: 40; or 39, and there is a history, legal from the map that the service began with, by which a receipt of these
--- clients does not stand, the first, with what stands there in place of it; or they are not all that were made.
+-- Why a service is not ended: 40; or 39, and there is a history, legal from the map with which the service began, with which a receipt of
+-- these clients does not match, the first such one, together with what is there instead; or these are not all the clients that were made.
 pub record IsNotEnded (honest : Bool) (base : Units) (clients : List MemberView) (fault : ServiceFault) : Type 0 where
   pub found : Units
   pub found_is : IsTrue honest → found ≡ base

@@ -1,4 +1,5 @@
--- What a change that was answered has done to the book under the lock, as it was then. No client can name that book; so a clause says that there was one.
+-- What a change that was answered has done to the book under the lock at that moment. No client can name that book, so a clause says that
+-- there was one.
 use Rattle.std.specs.Prelude.{◌≡◌, ℕ, IsTrue, List, Some}
 use Rattle.cc_disk.specs.declared.disk.Disk.{Ghosts}
 use Rattle.cc_library.specs.Apply.{Units}
@@ -8,8 +9,8 @@ use Rattle.cc_history.specs.History.{entry_at, units_after}
 use Rattle.cc_recorded.specs.Book.{BookView}
 use Rattle.cc_recorded.specs.Promise.{IsSound}
 
--- When it was answered there was a book of this service, which keeps what every book of it does, and the call was one of its entries. What a crash left then
--- recovers to the first map after all of its entries, and to no other.
+-- When it was answered there was a book of this service, which keeps what every book of it does, and the call was one of its entries. What
+-- a crash left then recovers to the first map after all of its entries, and to no other.
 pub record IsStored {Disk : Type 0} (D : Ghosts Disk) (base : Units) (from : ℕ) (left : List ℕ → Type 0) (receipt : Receipt) : Type 0 where
   pub book : BookView Disk
   pub sound : IsSound D base from left book

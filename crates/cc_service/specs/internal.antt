@@ -1,3 +1,3 @@
--- What serves private contracts.
+-- Definitions for private contracts.
 -- what is answered under the lock
 pub mod Under

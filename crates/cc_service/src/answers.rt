@@ -1,4 +1,4 @@
-// What the service's looks answer: a receipt, in whose entry the reply stands.
+// The answers of the service's look-ups: a receipt, whose entry has the reply.
 
 ghost use Rattle.std.specs.Prelude.{◌≡◌, ◌↔◌, IsTrue};
 ghost use Rattle.cc_history.specs.declared.reply.Reply.TheVariants as reply;
@@ -8,12 +8,12 @@ use cc_history::{NameList, Receipt, Reply};
 use cc_library::SharedUnit;
 use std::marker::Model;
 
-/// The answer of `get`: its receipt, and the name's unit. A clause sees the receipt, whose entry has the unit.
+/// The answer of `get`: its receipt, and the name's unit. Contracts see the receipt, whose entry has the unit.
 pub struct Found {
     receipt: Receipt,
 }
 
-// By hand, so that crates above call it and do not prove anew how each part is dropped.
+// Written by hand, so that crates above call it and need not prove again how each part is dropped.
 impl Drop for Found {
     fn drop(self) {
         let Found { receipt } = self;
@@ -57,12 +57,12 @@ impl Found {
     }
 }
 
-/// The answer of `list`: its receipt, and all names in the order of their bytes. A clause sees the receipt, whose entry has the names.
+/// The answer of `list`: its receipt, and all names in the order of their bytes. Contracts see the receipt, whose entry has the names.
 pub struct Listing {
     receipt: Receipt,
 }
 
-// By hand, so that crates above call it and do not prove anew how each part is dropped.
+// Written by hand, so that crates above call it and need not prove again how each part is dropped.
 impl Drop for Listing {
     fn drop(self) {
         let Listing { receipt } = self;

@@ -21,18 +21,18 @@ use cc_link::CompiledUnit;
 use cc_recorded::{Book, BookFault};
 use std::alloc::Global;
 
-// What a look at a name found.
+// What a look-up of a name found.
 #[derive(Clone, Copy, Drop)]
 pub(crate) enum Compared {
     // No unit.
     NoUnit,
-    // A unit with another source than the one that is expected.
+    // A unit with another source than the expected one.
     Other,
     // One with that source.
     Same,
 }
 
-// Whether the reply of a look has a unit, and whether its source is the one that is expected.
+// Whether the reply of a look-up has a unit, and whether its source is the expected one.
 fn comparison_of(seen: &Receipt, expected: &[u8]) -> Compared
     ensures { HasCompared seen.now.entry.reply expected.now result }
 {
@@ -47,8 +47,8 @@ fn comparison_of(seen: &Receipt, expected: &[u8]) -> Compared
 }
 
 impl<N: Named> Client<N> {
-    /// Makes a change of the book: `commit_compacting` of it where the client's changes compact, else `commit`. What becomes of the book is as
-    /// these say.
+    /// Makes a change of the book: by `commit_compacting` if the client's changes compact, else by `commit`. What becomes of the book is
+    /// what these say.
     #[tactic(auto, using(crate::proofs::Answering::entered_where_ok, crate::proofs::Answering::turned_down_where_err, crate::proofs::Mending::compacting_entered, crate::proofs::Mending::compacting_turned_down))]
     pub fn change<D: Disk>(
         &mut self,
@@ -76,7 +76,7 @@ impl<N: Named> Client<N> {
         book.commit(alloc, member, command)
     }
 
-    /// Looks at a name or at all names of the book.
+    /// Looks up a name or all names of the book.
     pub fn look<D: Disk>(
         &mut self,
         alloc: Global,
@@ -85,15 +85,15 @@ impl<N: Named> Client<N> {
     ) -> Result<Receipt, BookFault>
         requires { IsLook asked }
         ensures answers { LookAnswers book.old.book self.old.member asked book.new.book self.new.member result }
+        ensures since { book.new.since ≡ book.old.since ++ book.new.book ∷ [] }
         ensures sent { self.new.sent ≡ self.old.sent }
     {
         book.look(alloc, &mut self.member, asked)
     }
 
-    /// Puts a unit in the place of that of a name, if that one's source is the one that is expected: `look`, and then `change`, with no other
-    /// call between them.
+    /// Replaces the unit of a name, if that unit's source is the expected one: `look`, and then `change`, with no other call between them.
     ///
-    /// Refusals, in this order: 36, 39, 32, 60 where the name's unit has another source, 34, 35. 40 where memory ran out. From 32 on the look
+    /// Refusals, in this order: 36, 39, 32, 60 if the name's unit has another source, 34, 35. 40 if memory ran out. From 32 on the look-up
     /// has an entry, and its receipt is the client's last.
     pub fn update<D: Disk>(
         &mut self,
@@ -104,8 +104,12 @@ impl<N: Named> Client<N> {
         unit: CompiledUnit,
     ) -> Result<Receipt, ServiceFault>
         ensures answers { UpdatesBook D.Disk book.old.book self.old.member name expected.now (Replace name unit) book.new.book self.new.member result }
+        ensures since { (book.new ≡ book.old) ⊎ ((between : List (BookView D)) × (book.new.since ≡ book.old.since ++ (between ++ book.new.book ∷ []))) }
+        ensures moments { ChangesAtOnce D.Disk (Replace name unit) book.old.book book.new.book }
+        ensures kept { AllRecover D.Disk book.new.book }
         ensures sent { self.new.sent ≡ self.old.sent }
     {
+        book.kept();
         if book.is_closed() {
             return Err(ServiceFault::Book(BookFault::Closed));
         }
@@ -118,7 +122,7 @@ impl<N: Named> Client<N> {
         }
     }
 
-    // The same after the look.
+    // Does the rest after the look-up.
     pub(crate) fn update_seen<D: Disk>(
         &mut self,
         alloc: Global,
@@ -129,8 +133,12 @@ impl<N: Named> Client<N> {
         seen: Receipt,
     ) -> Result<Receipt, ServiceFault>
         ensures answers { UpdatesSeen D.Disk book.old.book self.old.member expected.now (Replace name unit) seen book.new.book self.new.member result }
+        ensures since { (book.new ≡ book.old) ⊎ ((between : List (BookView D)) × (book.new.since ≡ book.old.since ++ (between ++ book.new.book ∷ []))) }
+        ensures moments { ChangesAtOnce D.Disk (Replace name unit) book.old.book book.new.book }
+        ensures kept { AllRecover D.Disk book.new.book }
         ensures sent { self.new.sent ≡ self.old.sent }
     {
+        book.kept();
         match comparison_of(&seen, expected) {
             Compared::NoUnit => Err(ServiceFault::Book(BookFault::Absent(seen))),
             Compared::Other => Err(ServiceFault::Changed(seen)),

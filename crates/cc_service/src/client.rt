@@ -1,4 +1,4 @@
-// Who calls.
+// The caller.
 
 ghost use Rattle.std.specs.Prelude.{◌≡◌, ◌-◌, [], drop, length, slice_get};
 ghost use Rattle.std.specs.Option.{option_map};
@@ -12,13 +12,13 @@ use std::alloc::Global;
 use std::marker::Model;
 use std::sync::ledger::Share;
 
-/// Who calls. It keeps the receipts of its calls, its share of the ledger counts them, and its pass hands its jobs to the workers. A
-/// clause sees its number and its receipts, and what its pass has sent.
+/// The caller. It keeps the receipts of its calls, its share of the ledger counts them, and its pass hands its jobs to the workers.
+/// Contracts see its number and its receipts, and what its pass has sent.
 #[derive(Drop)]
 pub struct Client<N: Named> {
     pub(crate) member: Member<N>,
     pub(crate) pass: Pass<N>,
-    // Whether its changes compact the library where that makes room for them.
+    // Whether its changes compact the library if that makes room for them.
     pub(crate) compacts: bool,
 }
 
@@ -52,7 +52,7 @@ impl<N: Named> Client<N> {
         }
     }
 
-    /// The same client, whose changes compact the library where 34 would refuse them and would not behind a compaction, as
+    /// The same client, but its changes compact the library if 34 would refuse them now and would not after a compaction, as
     /// `Book::commit_compacting` does.
     pub fn compacting(self) -> Client<N>
         ensures { result ≡ self }
@@ -86,8 +86,8 @@ impl<N: Named> Client<N> {
         self.receipts().last()
     }
 
-    /// The bytes that the entries of its receipts behind the first so many are counted to hold, as `held_by` counts them: of a caller that
-    /// had seen so many, those of the new ones.
+    /// The bytes for which the entries of its receipts after the first `seen` ones are counted, as `held_by` counts them: for a caller that
+    /// has seen that many, the bytes of the new ones.
     pub fn held_since(&self, seen: usize) -> u64
         ensures { result ≡ at_most_told (receipts_bytes (drop seen self.now.member.receipts)) }
     {

@@ -1,6 +1,6 @@
 // The end of a service's book, with all its clients.
 
-ghost use Rattle.std.specs.Prelude.{◌≡◌, ◌+◌, ◌≤◌, [], IsTrue, IfErr, IfOk, OnOk, length, map, vec_len};
+ghost use Rattle.std.specs.Prelude.{◌≡◌, ◌+◌, ◌≤◌, [], IfErr, IfOk, OnOk, length, map, vec_len};
 ghost use Rattle.std.specs.Vec.{vec_capacity};
 ghost use Rattle.cc_history.specs.Closing.{AreApart, AreOwn, IsClosed, ReceiptsStand, receipts_of};
 ghost use Rattle.cc_recorded.specs.Answers.{IsNotClosed};
@@ -17,14 +17,14 @@ use cc_recorded::{Book, BookFault, Ended};
 use std::alloc::{AllocError, Global};
 use std::sync::ledger::Share;
 
-/// What is left of a service: the map that it began with, its library, the history, and the receipts of each client, in the order of
-/// the clients.
+/// What is left of a service: the map with which it began, its library, the history, and the receipts of each client, in the order of the
+/// clients.
 #[derive(Drop)]
 pub struct Closed<D: Disk> {
     pub base: UnitMap,
     pub library: Library<D>,
     pub history: Vec<SharedEntry>,
-    /// The change in whose call the device failed, where one did. For contracts alone.
+    /// The change in whose call the device failed, if there was one. For contracts only.
     pub failed: History<LibraryCommand>,
     pub receipts: Vec<Vec<Receipt>>,
 }
@@ -37,7 +37,7 @@ pub(crate) struct Left<N: Named> {
 }
 
 impl<N: Named> Left<N> {
-    // Of no client yet, with room for this many.
+    // For no client yet, with room for this many. Err: memory ran out.
     fn with_room(alloc: Global, clients: usize) -> Result<Left<N>, AllocError>
         ensures receipts { IfOk result (λ left. (left.receipts.items ≡ []) × (vec_len left.receipts ≡ 0) × (clients ≤ vec_capacity left.receipts)) }
         ensures passes { IfOk result (λ left. (vec_len left.passes ≡ 0) × (clients ≤ vec_capacity left.passes)) }
@@ -48,7 +48,7 @@ impl<N: Named> Left<N> {
     }
 }
 
-// Takes the shares of all clients, and puts down what they leave.
+// Takes the shares of all clients, and stores what they leave.
 fn gather<N: Named>(rest: &mut Share<N>, clients: Vec<Client<N>>, left: &mut Left<N>)
     requires receipts { (left.old.receipts.items ≡ []) × (vec_len left.old.receipts ≡ 0) × (length clients.items ≤ vec_capacity left.old.receipts) }
     requires passes { (vec_len left.old.passes ≡ 0) × (length clients.items ≤ vec_capacity left.old.passes) }
@@ -68,7 +68,7 @@ fn gather<N: Named>(rest: &mut Share<N>, clients: Vec<Client<N>>, left: &mut Lef
     }
 }
 
-// That a book can be ended with these clients, as many as were made. Answers the room for what they leave, which is taken first.
+// Ok if a book can be ended with these clients, as many as were made. Answers the room for what they leave, which is taken first.
 pub(crate) fn ready<N: Named, D: Disk>(
     alloc: Global,
     book: &Book<N, D>,
@@ -94,7 +94,7 @@ pub(crate) fn ready<N: Named, D: Disk>(
     }
 }
 
-// Ends a book with its clients. At the end the shares of all clients and the rest are the whole ledger.
+// Ends a book with its clients. The shares of all clients and the rest are then the whole ledger.
 pub(crate) fn end<N: Named, D: Disk>(
     book: Book<N, D>,
     mut rest: Share<N>,
@@ -133,10 +133,10 @@ pub(crate) fn end<N: Named, D: Disk>(
     (closed, passes)
 }
 
-/// Ends a book with its clients, as many as were made, whose shares with the rest are the whole ledger. Their passes are let go.
+/// Ends a book with its clients, as many as were made, whose shares with the rest are the whole ledger. Their passes are dropped.
 ///
-/// 39 for the first receipt that does not stand; 39 with the history's length and no entry where these are not all the clients that
-/// were made; 40 where memory ran out. All is handed back then.
+/// 39 for the first receipt that does not match the history; 39 with the history's length and no entry if these are not all the clients
+/// that were made; 40 if memory ran out. Everything is handed back then.
 pub fn close<N: Named, D: Disk>(
     alloc: Global,
     book: Book<N, D>,

@@ -1,6 +1,6 @@
 // From a text to a compiled unit, by the workers of a pool: handed in first, collected later. No lock is held here.
 
-ghost use Rattle.std.specs.Prelude.{◌≡◌, ℕ, List, length, All, IfErr, IfOk};
+ghost use Rattle.std.specs.Prelude.{◌≡◌, List, length, All, IfErr, IfOk};
 ghost use Rattle.std.specs.Arc.{arc_value};
 ghost use Rattle.cc_ast.specs.Source.{source};
 ghost use Rattle.cc_ast.specs.Tree.{External};
@@ -22,8 +22,8 @@ use std::alloc::Global;
 use std::marker::{Model, PhantomData};
 use std::sync::{Arc, Wait};
 
-/// A program's text whose functions were handed to the workers of a service, for a `put_prepared` of that service. Contracts see the
-/// mode and the text. One that is let go is compiled for nothing, and nobody waits for it.
+/// A program's text whose functions were handed to the workers of a service, for a `put_prepared` of that service. Contracts see the mode
+/// and the text. If it is dropped, it is compiled for nothing, and nobody waits for it.
 pub struct Prepared<N: Named> {
     mode: Mode,
     unit: Arc<TypedUnit>,
@@ -31,7 +31,7 @@ pub struct Prepared<N: Named> {
     of: PhantomData<N>,
 }
 
-// By hand, so that crates above call it and do not prove anew how each part is dropped.
+// Written by hand, so that crates above call it and need not prove again how each part is dropped.
 impl<N: Named> Drop for Prepared<N> {
     fn drop(self) {
         let Prepared {
@@ -44,7 +44,7 @@ impl<N: Named> Drop for Prepared<N> {
 }
 
 impl<N: Named> Model for Prepared<N> {
-    ghost use Rattle.std.specs.Prelude.{◌≡◌, ℕ, List, length};
+    ghost use Rattle.std.specs.Prelude.{◌≡◌, List, length};
     ghost use Rattle.std.specs.Arc.{arc_value};
     ghost use Rattle.cc_ast.specs.Source.{source};
     ghost use Rattle.cc_types.specs.Typed.{defined_names};
@@ -67,14 +67,14 @@ impl<N: Named> Prepared<N> {
         self.unit.text()
     }
 
-    /// The mode of the code that was asked for. It takes no memory.
+    /// The mode for which code was asked. It takes no memory.
     pub fn mode(&self) -> Mode
         ensures { result ≡ self.now.mode }
     {
         self.mode
     }
 
-    /// How many functions it has. It takes no memory.
+    /// The number of its functions. It takes no memory.
     pub fn functions(&self) -> usize
         ensures { (tree : List External) × IsProgramText self.now.text tree × (result ≡ length (functions tree)) }
     {
@@ -162,7 +162,7 @@ impl<N: Named + Send + Sync + 'static> Prepared<N> {
     }
 }
 
-// The pieces of a job's functions, one of each in their order.
+// The pieces of a job's functions, one for each in their order.
 fn collected<N: Named + Send + Sync + 'static, R: Wait>(
     rt: &R,
     alloc: Global,
@@ -184,7 +184,7 @@ fn collected<N: Named + Send + Sync + 'static, R: Wait>(
     }
 }
 
-// The unit that its pieces in a mode make.
+// The unit to which its pieces in a mode are linked.
 fn linked(
     alloc: Global,
     mode: Mode,
@@ -208,7 +208,7 @@ fn linked(
         }
         Err(LinkFault::ImageTooLarge) => Err(ServiceFault::ImageTooLarge),
         Err(LinkFault::OutOfMemory) => Err(ServiceFault::OutOfMemory),
-        // There is one piece of each function, and no other.
+        // There is one piece for each function, and no other.
         Err(LinkFault::Missing { .. }) => unreachable!(),
         Err(LinkFault::Doubled { .. }) => unreachable!(),
         Err(LinkFault::Stranger { .. }) => unreachable!(),

@@ -1,4 +1,4 @@
-// Who makes a service's clients.
+// Makes a service's clients.
 
 ghost use Rattle.std.specs.Prelude.{◌≡◌, ◌+◌, ◌≤◌, [], IfNone, IfSome};
 
@@ -8,7 +8,7 @@ use std::alloc::Global;
 use std::marker::Model;
 use std::sync::ledger::Share;
 
-/// How many clients were made, and the parts of the ledger that none of them has. Contracts see how many.
+/// The number of clients that were made, and the parts of the ledger that none of them has. Contracts see the number.
 #[derive(Drop)]
 pub(crate) struct Desk<N: Named> {
     pub(crate) made: u64,
@@ -35,7 +35,7 @@ impl<N: Named> Desk<N> {
         Desk { made: 0, rest }
     }
 
-    /// One more client, where fewer than 1,024 were made.
+    /// One more client, if fewer than 1,024 were made.
     pub(crate) fn seat(&mut self, alloc: Global) -> Option<Member<N>>
         ensures some { IfSome result (λ c. (c ≡ record { number = self.old; receipts = [] }) × (self.new ≡ self.old + 1)) }
         ensures none { IfNone result ((self.new ≡ self.old) × (1024 ≤ self.old)) }

@@ -14,6 +14,7 @@ ghost use Rattle.cc_recorded.specs.Opened.{IsOpened};
 ghost use Rattle.cc_recorded.specs.Promise.{FailedByDevice, IsGivenUp, IsSound};
 ghost use Rattle.cc_recorded.specs.Since.{IsPast};
 ghost use Rattle.cc_service.specs.Serving.{Adds, GetAnswers, IsNotCompacted, IsNotEnded, IsNotOpened, IsNotStarted, IsOf, IsTurnedAway, ListAnswers, PutAnswers, Puts, Replaces, WithdrawAnswers};
+ghost use Rattle.cc_service.specs.Space.{IsSpaceThen, SpaceAnswers};
 ghost use Rattle.cc_service.specs.Stored.{IsStored};
 ghost use Rattle.cc_recorded.specs.Answers.{IsLook};
 ghost use Rattle.cc_service.specs.Updating.{UpdateAnswers};
@@ -31,7 +32,7 @@ use crate::fault::ServiceFault;
 use crate::named::{Fresh, Named};
 use cc_disk::Disk;
 use cc_history::{Asked, Command, Receipt};
-use cc_library::{Library, Name};
+use cc_library::{Library, Name, SpaceUse};
 use cc_link::{CompiledUnit, Mode};
 use cc_pool::{Gate, Pool, PoolFault};
 use cc_recorded::{Book, BookFault};
@@ -40,16 +41,16 @@ use std::sync::atomic::{AtomicU64, Ordering};
 use std::sync::{Mutex, Wait};
 use std::thread::Threads;
 
-/// How a unit is put under a name.
+/// How a unit is put in a library.
 #[derive(Clone, Copy, Debug, Drop, PartialEq, Eq)]
 pub enum Put {
-    /// The name has none yet.
+    /// The name has no unit yet.
     Add,
-    /// In place of the one that the name has.
+    /// It replaces the name's unit.
     Replace,
 }
 
-// The change that puts a unit under a name.
+// The change that puts a unit with a name in the library.
 fn change_of(put: Put, name: Name, unit: CompiledUnit) -> Command
     ensures { (mode : Mode) (source : List ℕ) → IsOf mode source unit → Puts put mode name source result }
 {
@@ -59,20 +60,32 @@ fn change_of(put: Put, name: Name, unit: CompiledUnit) -> Command
     }
 }
 
+// How much of its area the library of a book takes.
+fn space_of<N: Named, D: Disk>(book: &Book<N, D>) -> Result<SpaceUse, ServiceFault>
+    ensures answers { SpaceAnswers result }
+    ensures moment { IfOk result (λ space. IsSpaceThen D.Disk N.base N.from N.left space) }
+{
+    book.survives();
+    match book.space() {
+        Ok(space) => Ok(space),
+        Err(fault) => Err(ServiceFault::Book(fault)),
+    }
+}
+
 /// A library for many clients on threads of their own. Workers compile function by function; changes are committed one at a time, under
 /// the book's lock.
 ///
-/// Each call is made from the caller's own thread. A worker holds no lock, and parsing, checking, compiling and linking come before the
+/// Each call is made on the caller's own thread. A worker holds no lock, and parsing, checking, compiling and linking are done before the
 /// book's lock is taken. No two locks are ever held together.
 pub struct Service<N: Named, D: Disk> {
     book: Mutex<Book<N, D>>,
     desk: Mutex<Desk<N>>,
     pool: Pool<N>,
-    // How many clients wait for a unit, or put it.
+    // The number of clients that wait for a unit, or are putting it.
     putting: AtomicU64,
 }
 
-// By hand, so that crates above call it and do not prove anew how each part is dropped.
+// Written by hand, so that crates above call it and need not prove again how each part is dropped.
 impl<N: Named, D: Disk + Drop> Drop for Service<N, D> {
     fn drop(self) {
         let Service {
@@ -85,10 +98,10 @@ impl<N: Named, D: Disk + Drop> Drop for Service<N, D> {
 }
 
 impl<N: Named + Send + Sync + 'static, D: Disk> Service<N, D> {
-    /// Opens the library on a disk, and starts this many workers, 1 to 8, which pass the gate before each piece.
+    /// Opens the library on a disk, and starts this many workers, 1 to 8, which call the gate before each piece.
     ///
-    /// Refusals, with the disk handed back: 35, 38, 37 and 40 as the library's opening has them; then 41 where a thread could not be
-    /// started, or 40. None of the workers is left then. No refusal changes a byte.
+    /// Refusals, with the disk handed back: 35, 38, 37 and 40 as the library's opening has them; then 41 if a thread could not be started,
+    /// or 40 if memory ran out. No worker is left then. No refusal changes a byte.
     pub fn open<R, G>(
         rt: &R,
         alloc: Global,
@@ -100,13 +113,13 @@ impl<N: Named + Send + Sync + 'static, D: Disk> Service<N, D> {
     where
         R: Threads + Wait + Copy + Send + 'static,
         G: Gate + Drop + Send + Sync + 'static,
-        // The parameter names this ledger and this queue, and, where an honest disk's bytes recover to a map, that map.
+        // The parameter names this ledger, this queue, and, if an honest disk's bytes recover to a map, that map.
         requires ledger { fresh.ledger ≡ N.name }
         requires parts { N.parts ≡ 1025 }
         requires queue { fresh.queue ≡ N.queue }
         requires named { IsTrue D.honest → (units : Units) → Recovers (D.seen disk) units → units ≡ N.base }
-        // It names a moment up to now, too, and what a crash has left since then: `finish` tells what one leaves later. And how many calls of
-        // the device had failed, or fewer.
+        // It also names a moment up to now, and what a crash has left since then: `finish` says what one leaves later. And a number no
+        // larger than that of the device calls that had failed.
         requires past { IsTrue D.honest → IsPast D.Disk N.from N.left disk }
         requires failures { N.failures ≤ D.failures disk }
         requires some { 1 ≤ workers }
@@ -137,10 +150,10 @@ impl<N: Named + Send + Sync + 'static, D: Disk> Service<N, D> {
         }
     }
 
-    /// The service over a library as its opening left it, which is not read again: with this many workers, 1 to 8, which pass the gate before
-    /// each piece.
+    /// The service over a library as its opening left it, which is not read again: with this many workers, 1 to 8, which call the gate
+    /// before each piece.
     ///
-    /// Refusals, with the disk handed back as it was: 40; 41 where a thread could not be started. None of the workers is left then.
+    /// Refusals, with the disk handed back as it was: 40 if memory ran out; 41 if a thread could not be started. No worker is left then.
     pub fn over<R, G>(
         rt: &R,
         alloc: Global,
@@ -152,8 +165,8 @@ impl<N: Named + Send + Sync + 'static, D: Disk> Service<N, D> {
     where
         R: Threads + Wait + Copy + Send + 'static,
         G: Gate + Drop + Send + Sync + 'static,
-        // The parameter names this ledger and this queue, and, of an honest disk, the library's map and a moment up to now; of any disk, how
-        // many calls of the device had failed, or fewer.
+        // The parameter names this ledger and this queue. On an honest disk it names the library's map and a moment up to now; on any disk,
+        // a number no larger than that of the device calls that had failed.
         requires ledger { fresh.ledger ≡ N.name }
         requires parts { N.parts ≡ 1025 }
         requires queue { fresh.queue ≡ N.queue }
@@ -187,14 +200,14 @@ impl<N: Named + Send + Sync + 'static, D: Disk> Service<N, D> {
         }
     }
 
-    /// One more client, which has made no call. Its number is that of the clients made before.
+    /// One more client, which has made no call. Its number is the number of clients made before.
     ///
-    /// 30 where 1,024 were made.
+    /// 30 if 1,024 were made.
     pub fn client<R: Wait>(&self, rt: &R, alloc: Global) -> Result<Client<N>, ServiceFault>
         ensures ok { IfOk result (λ c. (c.member.receipts ≡ []) × (c.sent ≡ [])) }
         ensures err { IfErr result (λ fault. fault ≡ service.TooManyClients) }
     {
-        // The desk's lock is let go before the pool's is taken.
+        // The desk's lock is released before the pool's is taken.
         let seat = self.desk.lock(rt).seat(alloc);
         match seat {
             Some(member) => {
@@ -205,7 +218,7 @@ impl<N: Named + Send + Sync + 'static, D: Disk> Service<N, D> {
         }
     }
 
-    /// Compiles a text to a plain image and puts its unit under a name: `put_in`.
+    /// Compiles a text to a plain image and puts its unit in the library, as `put_in` does.
     pub fn put<R: Wait>(
         &self,
         rt: &R,
@@ -222,12 +235,12 @@ impl<N: Named + Send + Sync + 'static, D: Disk> Service<N, D> {
         self.put_in(rt, alloc, client, Mode::Plain, put, name, source)
     }
 
-    /// Compiles a text in a mode and puts its unit under a name: one that has none, or in place of the unit that it has.
+    /// Compiles a text in a mode and puts its unit in the library: with a name that has none, or in place of the name's unit.
     ///
-    /// Refusals, in this order: 33; 7, 1 to 6, 11 to 21 of the text; of the first function of which no piece came 22 or 24, where a
-    /// worker refused it, else 41; 25; then under the lock 36, 39, 31 of `Add` and 32 of `Replace`, 34, 35. 40 where memory ran out. Of
-    /// these 31 and 32 have a receipt; the others leave number and receipts of the client as they were, and its pass may have sent some of
-    /// the functions.
+    /// Refusals, in this order: 33; 7, 1 to 6, 11 to 21 for the text; for the first function whose piece did not come, 22 or 24 if a worker
+    /// refused it, else 41; 25; then under the lock 36, 39, 31 (for `Add`) and 32 (for `Replace`), 34, 35. 40 if memory ran out. Only 31
+    /// and 32 come with a receipt. The others leave number and receipts of the client as they were, but its pass may have sent some of the
+    /// functions.
     pub fn put_in<R: Wait>(
         &self,
         rt: &R,
@@ -251,7 +264,7 @@ impl<N: Named + Send + Sync + 'static, D: Disk> Service<N, D> {
         }
     }
 
-    /// Hands the functions of a text to the workers, for a `put_prepared` of a plain image: `prepare_in`.
+    /// Hands the functions of a text to the workers, for a `put_prepared` of a plain image, as `prepare_in` does.
     pub fn prepare<R: Wait>(
         &self,
         rt: &R,
@@ -269,10 +282,10 @@ impl<N: Named + Send + Sync + 'static, D: Disk> Service<N, D> {
         self.prepare_in(rt, alloc, client, Mode::Plain, source)
     }
 
-    /// Hands the functions of a text to the workers, for a `put_prepared` of an image in a mode, and waits for none of them: only while the
-    /// queue is full.
+    /// Hands the functions of a text to the workers, for a `put_prepared` of an image in a mode. It does not wait for them to be compiled:
+    /// it waits only while the queue is full.
     ///
-    /// Refusals, in this order: 7, 1 to 6, 11 to 21 of the text; 41. 40 where memory ran out. Each leaves number and receipts of the client
+    /// Refusals, in this order: 7, 1 to 6, 11 to 21 for the text; 41. 40 if memory ran out. Each leaves number and receipts of the client
     /// as they were, as an Ok does; after 40 and 41 its pass may have sent some of the functions.
     pub fn prepare_in<R: Wait>(
         &self,
@@ -292,11 +305,11 @@ impl<N: Named + Send + Sync + 'static, D: Disk> Service<N, D> {
         begun(rt, alloc, &self.pool, &mut client.pass, mode, source)
     }
 
-    /// Waits for the functions of a text that was prepared, and puts its unit under a name, as `put_in` does in that mode.
+    /// Waits for the functions of a prepared text, and puts its unit in the library, as `put_in` does in that mode.
     ///
-    /// Refusals, in this order: 33; of the first function of which no piece came 22 or 24, where a worker refused it, else 41; 25; then
-    /// under the lock as those of `put`. 40 where memory ran out. Of these 31 and 32 have a receipt; the others leave number and receipts
-    /// of the client as they were. What was prepared is used up in any case.
+    /// Refusals, in this order: 33; for the first function whose piece did not come, 22 or 24 if a worker refused it, else 41; 25; then
+    /// under the lock those of `put`. 40 if memory ran out. Only 31 and 32 come with a receipt; the others leave number and receipts of the
+    /// client as they were. The prepared text is used up in any case.
     pub fn put_prepared<R: Wait>(
         &self,
         rt: &R,
@@ -306,7 +319,7 @@ impl<N: Named + Send + Sync + 'static, D: Disk> Service<N, D> {
         name: &[u8],
         prepared: Prepared<N>,
     ) -> Result<Receipt, ServiceFault>
-        // Of a `put` of its text.
+        // The answers are those of a `put` of its text.
         ensures answers { PutAnswers prepared.mode (Puts put prepared.mode name.now prepared.text) name.now prepared.text client.old.member client.new.member result }
         ensures stored { IfOk result (λ receipt. IsStored D.Disk N.base N.from N.left receipt) }
         ensures past_text { IfErr result (λ fault. IsPastText fault) }
@@ -319,7 +332,7 @@ impl<N: Named + Send + Sync + 'static, D: Disk> Service<N, D> {
         self.put_counted(rt, alloc, client, put, name, prepared)
     }
 
-    // Puts the unit of a text that was prepared under a name, and counts as one that waits for it.
+    // Puts the unit of a prepared text in the library, and counts as a client that waits for it.
     fn put_counted<R: Wait>(
         &self,
         rt: &R,
@@ -341,7 +354,7 @@ impl<N: Named + Send + Sync + 'static, D: Disk> Service<N, D> {
         answer
     }
 
-    // Puts the unit of a text that was prepared under a name.
+    // Puts the unit of a prepared text in the library.
     fn put_unit<R: Wait>(
         &self,
         rt: &R,
@@ -363,13 +376,12 @@ impl<N: Named + Send + Sync + 'static, D: Disk> Service<N, D> {
         }
     }
 
-    /// Compiles a text in a mode and puts its unit in the place of that of a name, if that one's source is the one that is expected. It is
-    /// compared under the lock under which the change is made: in the history no call is between the look and the change.
+    /// Compiles a text in a mode and replaces the unit of a name with it, if that unit's source is the expected one. The comparison and the
+    /// change happen under one lock: in the history no call is between the look-up and the change.
     ///
-    /// Refusals, in this order: those of `put_in` up to 25; then under the lock 36, 39, 32, 60 where the name's unit has another source, 34,
-    /// 35. 40 where memory ran out. Of these 32 and 60 have a receipt, which is that of the look; after 34, 35 and a 40 of the change the
-    /// client has that receipt too; the others leave number and receipts of the client as they were. The pass may have sent some of the
-    /// functions.
+    /// Refusals, in this order: those of `put_in` up to 25; then under the lock 36, 39, 32, 60 if the name's unit has another source, 34,
+    /// 35. 40 if memory ran out. 32 and 60 come with a receipt, that of the look-up; after 34, 35 and a 40 of the change the client has
+    /// that receipt too. The others leave number and receipts of the client as they were. The pass may have sent some of the functions.
     pub fn update_in<R: Wait>(
         &self,
         rt: &R,
@@ -393,7 +405,7 @@ impl<N: Named + Send + Sync + 'static, D: Disk> Service<N, D> {
         }
     }
 
-    // Does so with the unit of a text that was prepared, and counts as one that waits for it.
+    // Does this with the unit of a prepared text, and counts as a client that waits for it.
     fn update_counted<R: Wait>(
         &self,
         rt: &R,
@@ -414,7 +426,7 @@ impl<N: Named + Send + Sync + 'static, D: Disk> Service<N, D> {
         answer
     }
 
-    // Does so with the unit of a text that was prepared.
+    // Does this with the unit of a prepared text.
     fn update_unit<R: Wait>(
         &self,
         rt: &R,
@@ -456,13 +468,13 @@ impl<N: Named + Send + Sync + 'static, D: Disk> Service<N, D> {
         answer
     }
 
-    /// Whether some client waits for a unit that it puts. No clause says so. A client that is in no call itself, and hands texts in before
-    /// their turn only where this is false, makes no other one wait longer.
+    /// Whether some client waits for a unit that it puts. No clause says so. A client that is in no call itself, and that hands texts in
+    /// early only if this is false, makes no other client wait longer.
     pub fn is_busy(&self) -> bool {
         self.putting.load(Ordering::SeqCst) != 0
     }
 
-    /// Compiles a text and adds its unit under a name that has none: `put` with `Add`.
+    /// Compiles a text and adds its unit with a name that has none: `put` with `Add`.
     pub fn add<R: Wait>(
         &self,
         rt: &R,
@@ -478,7 +490,7 @@ impl<N: Named + Send + Sync + 'static, D: Disk> Service<N, D> {
         self.put(rt, alloc, client, Put::Add, name, source)
     }
 
-    /// Compiles a text and puts its unit in place of that of a name: `put` with `Replace`.
+    /// Compiles a text and replaces a name's unit: `put` with `Replace`.
     pub fn replace<R: Wait>(
         &self,
         rt: &R,
@@ -494,10 +506,10 @@ impl<N: Named + Send + Sync + 'static, D: Disk> Service<N, D> {
         self.put(rt, alloc, client, Put::Replace, name, source)
     }
 
-    /// Takes the unit of a name out.
+    /// Removes a name and its unit.
     ///
-    /// Refusals, in this order: 33, 36, 39, 32, 34, 35. 40 where memory ran out. Of these 32 has a receipt; the others leave the client
-    /// as it was.
+    /// Refusals, in this order: 33, 36, 39, 32, 34, 35. 40 if memory ran out. Only 32 comes with a receipt; the others leave the client as
+    /// it was.
     pub fn withdraw<R: Wait>(
         &self,
         rt: &R,
@@ -539,7 +551,7 @@ impl<N: Named + Send + Sync + 'static, D: Disk> Service<N, D> {
 
     /// The unit of a name.
     ///
-    /// Refusals, in this order: 33, 39, 32. 40 where memory ran out. Of these 32 has a receipt; the others leave the client as it was.
+    /// Refusals, in this order: 33, 39, 32. 40 if memory ran out. Only 32 comes with a receipt; the others leave the client as it was.
     pub fn get<R: Wait>(
         &self,
         rt: &R,
@@ -565,7 +577,7 @@ impl<N: Named + Send + Sync + 'static, D: Disk> Service<N, D> {
 
     /// All names that have a unit, in the order of their bytes.
     ///
-    /// 39; 40 where memory ran out. Both leave the client as it was.
+    /// 39; 40 if memory ran out. Both leave the client as it was.
     pub fn list<R: Wait>(
         &self,
         rt: &R,
@@ -581,7 +593,7 @@ impl<N: Named + Send + Sync + 'static, D: Disk> Service<N, D> {
         }
     }
 
-    // Looks under the book's lock.
+    // Looks up a name or all names under the book's lock.
     fn look<R: Wait>(
         &self,
         rt: &R,
@@ -597,9 +609,9 @@ impl<N: Named + Send + Sync + 'static, D: Disk> Service<N, D> {
         client.look(alloc, &mut self.book.lock(rt), asked)
     }
 
-    /// Writes the library's records anew, one for each name. The map stays, and the history gets no entry.
+    /// Writes the library's records again, one for each name. The map stays, and the history gets no entry.
     ///
-    /// Refusals, in this order: 36, 34, 35. 40 where memory ran out.
+    /// Refusals, in this order: 36, 34, 35. 40 if memory ran out.
     pub fn compact<R: Wait>(&self, rt: &R, alloc: Global) -> Result<(), ServiceFault>
         ensures { IfErr result (λ fault. (f : BookFault) × (fault ≡ service.Book f) × IsNotCompacted f) }
     {
@@ -610,29 +622,39 @@ impl<N: Named + Send + Sync + 'static, D: Disk> Service<N, D> {
         }
     }
 
+    /// How much of its area the library takes. The history gets no entry.
+    ///
+    /// 36 if the device has failed.
+    pub fn space<R: Wait>(&self, rt: &R) -> Result<SpaceUse, ServiceFault>
+        ensures answers { SpaceAnswers result }
+        ensures moment { IfOk result (λ space. IsSpaceThen D.Disk N.base N.from N.left space) }
+    {
+        space_of(&self.book.lock(rt))
+    }
+
     /// Ends the service, with all its clients.
     ///
-    /// 39 for the first receipt that does not stand; 39 with the history's length and no entry where these are not all the clients that
-    /// it made; 40 where memory ran out. Service and clients are handed back then, and no worker was stopped. That the workers end as they
-    /// should changes nothing in the answer.
+    /// 39 for the first receipt that does not match the history; 39 with the history's length and no entry if these are not all the clients
+    /// that it made; 40 if memory ran out. Service and clients are then handed back, and no worker was stopped. A failure to end the
+    /// workers does not change the answer.
     pub fn finish<R: Wait>(
         self,
         rt: &R,
         alloc: Global,
         clients: Vec<Client<N>>,
     ) -> Result<Closed<D>, (ServiceFault, Service<N, D>, Vec<Client<N>>)>
-        // One legal history from the base leads to the library. What a crash then leaves of the disk holds each acknowledged command; what one
-        // has left at any moment since the opening holds a prefix of them.
+        // One legal history from the base leads to the library. What a crash then leaves of the disk has each acknowledged command; what
+        // one has left at any moment since the opening has a prefix of them.
         ensures sound { IfOk result (λ r. IsSound D.Disk N.base N.from N.left (record { base = r.base; library = r.library; history = r.history.items; failed = r.failed.items })) }
-        // Each change that failed did so in a call of the device that failed since the opening: if none did, whatever a crash leaves has just the
-        // map.
+        // Each change that failed did so in a device call that failed since the opening: if none did, whatever a crash leaves has exactly
+        // the map.
         ensures blamed { IfOk result (λ r. FailedByDevice D.Disk N.failures (record { base = r.base; library = r.library; history = r.history.items; failed = r.failed.items })) }
-        // Every receipt of every client stands in that history, once and in its client's order.
+        // Every receipt of every client is in that history, once and in its client's order.
         ensures closed { IfOk result (λ r. IsClosed r.history.items (members clients.items)) }
         ensures receipts { IfOk result (λ r. map (λ v. v.items) r.receipts.items ≡ map (λ c. c.receipts) (members clients.items)) }
         ensures own { IfOk result (λ _. AreOwn (members clients.items)) }
         ensures back { IfErr result (λ e. e.2 ≡ clients) }
-        // 39 with an entry is of a receipt of these clients.
+        // 39 with an entry is about a receipt of these clients.
         ensures refused { IfErr result (λ e. IsNotEnded D.honest N.base (members clients.items) e.0) }
     {
         let Service {
@@ -662,9 +684,9 @@ impl<N: Named + Send + Sync + 'static, D: Disk> Service<N, D> {
         }
     }
 
-    /// Ends the service, whoever its clients were, and hands out its disk, with whether these are all its clients: every receipt of theirs
-    /// stands, no two have one number, and every entry of the history has a receipt. It takes no memory, so it ends a service that `finish`
-    /// refuses to end, or one of whose clients is lost.
+    /// Ends the service, whoever its clients were, and hands out its disk and whether these are all its clients: every receipt of theirs
+    /// matches the history, no two have the same number, and every entry of the history has a receipt. It takes no memory, so it ends a
+    /// service that `finish` refuses to end, or one that has lost a client.
     pub fn give_up<R: Wait>(self, rt: &R, alloc: Global, clients: Vec<Client<N>>) -> (D, bool)
         ensures { IsGivenUp D.Disk N.failures N.base N.from N.left (members clients.items) result.1 result.0 }
     {
@@ -677,7 +699,7 @@ impl<N: Named + Send + Sync + 'static, D: Disk> Service<N, D> {
         drop(desk);
         let given_up = book.into_inner().give_up(clients.as_slice());
         drop(clients);
-        // The workers are stopped; the passes are let go, so this has no other answer.
+        // The workers are stopped; the passes are dropped, so this cannot answer anything else.
         drop(pool.finish(rt, Vec::new(alloc)));
         given_up
     }

@@ -3,7 +3,7 @@ use Rattle.std.proofs.Common.{◌≡◌, List, [], ℕ, Option, Some, None, Resu
 use Rattle.std.specs.Prelude.{◌⊎◌}
 use Rattle.std.specs.Io.KnownBytes.{append_known}
 use Rattle.cc_answers.specs.Telling.{Tells}
-use Rattle.cc_script.specs.Line.{ScriptRequest, Add, Replace, Withdraw, Names, Run, Compact, Audit, Image, Source, AuditOne, Update, Call}
+use Rattle.cc_script.specs.Line.{ScriptRequest, Add, Replace, Withdraw, Names, Run, Compact, Audit, Image, Source, AuditOne, Update, Call, Space}
 use Rattle.cc_script.specs.Reading.{Ahead}
 use Rattle.cc_script.specs.declared.fault.ScriptFault.{ScriptFault}
 use Rattle.cc_script.specs.declared.fault.ScriptFault.TheVariants.{BadLine, EndOfScript, ScriptTooLong, ReadFault, WriteFault, Stopped}
@@ -127,3 +127,4 @@ cut_obeyed mode (Some (Source name)) rest old last new same it = absurd it
 cut_obeyed mode (Some (AuditOne name)) rest old last new same it = absurd it
 cut_obeyed mode (Some (Update name expected count)) rest old last new same it = absurd it
 cut_obeyed mode (Some (Call name steps count)) rest old last new same it = absurd it
+cut_obeyed mode (Some Space) rest old last new same it = absurd it

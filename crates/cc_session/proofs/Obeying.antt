@@ -6,12 +6,14 @@ use Rattle.cc_script.specs.Line.{ScriptRequest}
 use Rattle.cc_script.specs.Reading.{Ahead}
 use Rattle.cc_script.specs.declared.fault.ScriptFault.{ScriptFault}
 use Rattle.cc_script.specs.declared.fault.ScriptFault.TheVariants.{BadLine, EndOfScript, ScriptTooLong, ReadFault, WriteFault, Stopped}
+use Rattle.cc_library.specs.declared.space.SpaceUse.{SpaceUse}
 use Rattle.cc_history.specs.declared.entry.Receipt.{Receipt}
 use Rattle.cc_history.specs.History.{MemberView}
 use Rattle.cc_c_laws.specs.declared.mode.Mode.{Mode}
+use Rattle.cc_service.specs.Space.{SpaceAnswers}
 use Rattle.cc_service.specs.declared.fault.ServiceFault.{ServiceFault}
-use Rattle.cc_session.specs.Playing.{CallsAndWrites, Compacts, HasUnended, IsCompacted, IsCutShort, Obeys, Talk, Writes, talk}
-use Rattle.cc_session.specs.Telling.{done_text}
+use Rattle.cc_session.specs.Playing.{CallsAndWrites, Compacts, HasUnended, IsCompacted, IsCutShort, Measures, Obeys, Talk, Writes, talk}
+use Rattle.cc_session.specs.Telling.{done_text, room_text}
 use Rattle.cc_session.specs.internal.Calls.{CallsAndTells, DoesAndTells}
 use Rattle.cc_session.specs.internal.Steps.{IsDone, IsObeyed}
 use Rattle.cc_session.proofs.Playing.{appended, does_of}
@@ -65,3 +67,9 @@ pub tells_done : {T : Type 0} (result : Result T ScriptFault) (client : MemberVi
     → DoesAndTells Compacts (talk client old) (talk client new) result
 tells_done (Ok done) client old new answer is it = (answer, is, (refl, it.1))
 tells_done (Err fault) client old new answer is it = (it.0, append_known old (done_text answer), (answer, is, (refl, appended old (done_text answer))))
+
+-- how much of its area the library takes
+pub tells_room : {T : Type 0} (result : Result T ScriptFault) (client : MemberView) (old new : Option (List ℕ)) (answer : Result SpaceUse ServiceFault) → SpaceAnswers answer → Tells old new (room_text answer) result
+    → DoesAndTells Measures (talk client old) (talk client new) result
+tells_room (Ok done) client old new answer is it = (answer, is, (refl, it.1))
+tells_room (Err fault) client old new answer is it = (it.0, append_known old (room_text answer), (answer, is, (refl, appended old (room_text answer))))

@@ -1,7 +1,7 @@
 -- What a script is to the client that does it: line by line a call of the service, what its answer makes of the client, and what is written of it.
 use Rattle.std.specs.Prelude.{◌≡◌, ◌≢◌, ◌⊎◌, ◌+◌, ◌<◌, ◌≤◌, ℕ, Bool, true, false, List, [], ◌∷◌, ◌++◌, All, drop, length, take, nat_le, if◌then◌else◌, Option, Some, None, IfSome, Result, Ok, Err, IfErr, codes}
 use Rattle.std.specs.Io.KnownBytes.{Appends}
-use Rattle.cc_script.specs.Line.{ScriptRequest, Add, Replace, Withdraw, Names, Run, Compact, Audit, Image, Source, AuditOne, Update, Call, asked_of}
+use Rattle.cc_script.specs.Line.{ScriptRequest, Add, Replace, Withdraw, Names, Run, Compact, Audit, Image, Source, AuditOne, Update, Call, Space, asked_of}
 use Rattle.cc_script.specs.Reading.{IsLine}
 use Rattle.cc_script.specs.declared.command.Dialect.{Dialect}
 use Rattle.cc_script.specs.declared.fault.ScriptFault.{ScriptFault}
@@ -9,6 +9,7 @@ use Rattle.cc_script.specs.declared.fault.ScriptFault.TheVariants.{BadLine, EndO
 use Rattle.cc_answers.specs.Text.{line}
 use Rattle.cc_answers.specs.Telling.{script_fault_text}
 use Rattle.cc_task.specs.declared.part.Part.TheVariants as part
+use Rattle.cc_library.specs.declared.space.SpaceUse.{SpaceUse}
 use Rattle.cc_history.specs.declared.command.Command.{Command}
 use Rattle.cc_history.specs.declared.entry.Receipt.{Receipt}
 use Rattle.cc_history.specs.declared.reply.Reply.TheVariants as reply
@@ -20,9 +21,10 @@ use Rattle.cc_service.specs.declared.fault.ServiceFault.TheVariants.{Book}
 use Rattle.cc_c_laws.specs.declared.mode.Mode.{Mode}
 use Rattle.cc_service.specs.Serving.{Adds, Replaces, GetAnswers, ListAnswers, PutAnswers, WithdrawAnswers}
 use Rattle.cc_service.specs.Updating.{UpdateAnswers}
+use Rattle.cc_service.specs.Space.{SpaceAnswers}
 use Rattle.cc_service.specs.declared.fault.ServiceFault.{ServiceFault}
 use Rattle.cc_runs.specs.Words.{input_in}
-use Rattle.cc_session.specs.Telling.{IsCutRun, SaysAudit, SaysChange, SaysNames, SaysRefusal, SaysRun, SaysRunOn, SaysShown, done_text, no_memory_text}
+use Rattle.cc_session.specs.Telling.{IsCutRun, SaysAudit, SaysChange, SaysNames, SaysRefusal, SaysRun, SaysRunOn, SaysShown, done_text, no_memory_text, room_text}
 
 -- a client, and what the writer of its answers holds, if that is known
 pub record Talk : Type 0 where
@@ -119,6 +121,10 @@ IsCompacted answer = IfErr answer (λ fault. (why : BookFault) × (fault ≡ Boo
 abbrev pub Compacts : (old new : Talk) → Type 0
 Compacts old new = (answer : Result (Unit {0}) ServiceFault) × IsCompacted answer × Writes (done_text answer) old new
 
+-- The service answered how much of its area the library takes, or 36. Whoever asked for it is no client, and has no receipt.
+abbrev pub Measures : (old new : Talk) → Type 0
+Measures old new = (answer : Result SpaceUse ServiceFault) × SpaceAnswers answer × Writes (room_text answer) old new
+
 -- what a line asks for is done in the mode; 50 if it asks for nothing
 -- ORDER ScriptCommand
 abbrev pub Obeys : Mode → Option ScriptRequest → (before after : List ℕ) (old new : Talk) → Type 0
@@ -134,6 +140,7 @@ Obeys mode (Some (Source name)) before after old new = (after ≡ before) × Cal
 Obeys mode (Some (AuditOne name)) before after old new = (after ≡ before) × AuditsOne mode name old new
 Obeys mode (Some (Update name expected count)) before after old new = IsSentTwice mode name expected count before after old new
 Obeys mode (Some (Call name steps count)) before after old new = IsSentTo (λ input o n. CallsOn name steps (words_of input) o n) count before after old new
+Obeys mode (Some Space) before after old new = (after ≡ before) × Measures old new
 Obeys mode None before after old new = (after ≡ before) × Writes (script_fault_text BadLine) old new
 
 -- what a line of a script asks for; one of more than 128 bytes asks for nothing

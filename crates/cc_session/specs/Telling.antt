@@ -3,6 +3,7 @@ use Rattle.std.specs.Prelude.{◌≡◌, ◌⊎◌, ◌<◌, ℕ, Bool, true, fa
 use Rattle.cc_link.specs.Text.{text_fault_place}
 use Rattle.cc_link.specs.declared.audit_answer.Audit.{Audit}
 use Rattle.cc_library.specs.unit.StoredUnit.{StoredUnit}
+use Rattle.cc_library.specs.declared.space.SpaceUse.{SpaceUse}
 use Rattle.cc_history.specs.declared.entry.Receipt.{Receipt}
 use Rattle.cc_history.specs.declared.reply.Reply.{Reply}
 use Rattle.cc_history.specs.declared.reply.Reply.TheVariants.{Unit, Names}
@@ -12,7 +13,7 @@ use Rattle.cc_rv32.specs.declared.outcome.MachineOutcome.TheVariants.{Going}
 use Rattle.cc_task.specs.declared.part.Part.{Part}
 use Rattle.cc_answers.specs.Run.{IsRunOf}
 use Rattle.cc_answers.specs.Text.{fault_line, function_text, line, place_text, run_text}
-use Rattle.cc_answers.specs.Telling.{audit_text, names_text, number_text}
+use Rattle.cc_answers.specs.Telling.{audit_text, names_text, number_text, space_text}
 use Rattle.cc_answers.specs.declared.run.ImageRun.{ImageRun}
 use Rattle.cc_c_laws.specs.declared.mode.Mode.{Mode}
 use Rattle.cc_service.specs.Fault.{fault_number}
@@ -51,6 +52,11 @@ SaysChange source answer text = text ≡ change_text source answer
 abbrev pub done_text : {T : Type 0} → Result T ServiceFault → List ℕ
 done_text (Ok done) = line (codes "ok")
 done_text (Err fault) = refusal_text [] fault
+
+-- of how much of its area the library takes
+abbrev pub room_text : Result SpaceUse ServiceFault → List ℕ
+room_text (Ok space) = space_text space
+room_text (Err fault) = refusal_text [] fault
 
 -- of a list: the names of the reply, and the number of its receipt
 abbrev pub SaysNames : Result Receipt ServiceFault → (text : List ℕ) → Type 0

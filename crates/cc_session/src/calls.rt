@@ -7,18 +7,18 @@ ghost use Rattle.cc_script.specs.Line.{asked_of};
 ghost use Rattle.cc_history.specs.History.{MemberView};
 ghost use Rattle.cc_service.specs.Serving.{GetAnswers, ListAnswers, PutAnswers, Puts, WithdrawAnswers};
 ghost use Rattle.cc_service.specs.Updating.{UpdateAnswers};
-ghost use Rattle.cc_session.specs.Playing.{Audits, AuditsOne, CallsOn, Compacts, Grows, IsPlayedBy, IsSent, IsSentTo, IsSentTwice, IsShortOfTwo, IsUnended, IsUnendedOfTwo, talk, words_of};
+ghost use Rattle.cc_session.specs.Playing.{Audits, AuditsOne, CallsOn, Compacts, Grows, IsPlayedBy, IsSent, IsSentTo, IsSentTwice, IsShortOfTwo, IsUnended, IsUnendedOfTwo, Measures, talk, words_of};
 ghost use Rattle.cc_session.specs.Telling.{SaysChange, SaysNames, SaysRunOn, SaysShown};
 ghost use Rattle.cc_session.specs.internal.Calls.{AuditsName, AuditsNames, CallsAndTells, DoesAndTells, DoesOr, RunsAndTells, TellsAudit, TellsRun, UpdatesIf};
 ghost use Rattle.cc_session.specs.internal.Steps.{IsDone, IsHalted, IsObeyed, IsShortOf};
 
-use crate::auditing::audit_found;
+use crate::auditing::{audit_found, explain_audit};
 use crate::held::Held;
 use crate::hints::Hints;
 use crate::patience::{Patience, run_in_slices};
 use crate::reading::{Reading, Sent};
 use crate::showing::text_of;
-use crate::telling::{refuse, tell_change, tell_done};
+use crate::telling::{refuse, tell_change, tell_done, tell_room};
 use cc_answers::{
     run_image, tell_audit, tell_fault, tell_names, tell_no_memory, tell_ok, tell_run, tell_text,
 };
@@ -452,6 +452,18 @@ impl<'a, N: Named + Send + Sync + 'static, H: Wait, D: Disk, P: Patience> Player
         tell_done(self.alloc, answer, answers, explanations)
     }
 
+    // Writes how much of its area the library takes. It is no client's call.
+    fn space<W: Write, E: Write>(
+        &self,
+        answers: &mut W,
+        explanations: &mut E,
+    ) -> Result<(), ScriptFault>
+        ensures { (client : MemberView) → DoesAndTells Measures (talk client (W.contents answers.old)) (talk client (W.contents answers.new)) result }
+    {
+        let answer = self.service.space(self.rt);
+        tell_room(self.alloc, answer, answers, explanations)
+    }
+
     // Writes what an audit says of a unit that was found, or that memory ran out in it: whether it said anything.
     fn audit_unit<W: Write, E: Write>(
         &self,
@@ -463,8 +475,11 @@ impl<'a, N: Named + Send + Sync + 'static, H: Wait, D: Disk, P: Patience> Player
         ensures { TellsAudit self.now.mode name.now (Ok found) (W.contents answers.old) (W.contents answers.new) result }
     {
         match audit_found(self.alloc, self.mode, &found) {
-            Ok(audit) => match tell_audit(name, audit, answers) {
-                Ok(()) => Ok(true),
+            Ok(audited) => match tell_audit(name, audited.audit, answers) {
+                Ok(()) => {
+                    explain_audit(name, &found, &audited, explanations);
+                    Ok(true)
+                }
                 Err(fault) => Err(fault),
             },
             Err(_) => match tell_no_memory(answers, explanations) {
@@ -634,6 +649,7 @@ impl<'a, N: Named + Send + Sync + 'static, H: Wait, D: Disk, P: Patience> Player
                     length,
                 },
             ) => { self.call(client, script, name, steps, length, answers, explanations) }
+            Some(ScriptCommand::Space) => self.space(answers, explanations),
             None => tell_fault(ScriptFault::BadLine, answers, explanations),
         }
     }

@@ -5,11 +5,12 @@ ghost use Rattle.cc_answers.specs.Telling.{Tells};
 ghost use Rattle.cc_answers.specs.Text.{position_text};
 ghost use Rattle.cc_service.specs.Fault.{fault_number};
 ghost use Rattle.cc_session.specs.declared.end.SessionEnd.TheVariants.{Finished};
-ghost use Rattle.cc_session.specs.Telling.{change_text, done_text, refusal_text, where_text};
+ghost use Rattle.cc_session.specs.Telling.{change_text, done_text, refusal_text, room_text, where_text};
 
 use crate::end::SessionEnd;
-use cc_answers::{Refusal, Stands, tell_number, tell_ok, tell_refusal};
+use cc_answers::{Refusal, Stands, tell_number, tell_ok, tell_refusal, tell_space};
 use cc_history::Receipt;
+use cc_library::SpaceUse;
 use cc_script::ScriptFault;
 use cc_service::ServiceFault;
 use std::alloc::Global;
@@ -134,6 +135,21 @@ pub(crate) fn tell_done<W: Write, E: Write>(
 {
     match answer {
         Ok(()) => tell_ok(answers),
+        Err(fault) => refuse(alloc, fault, &[], answers, explanations),
+    }
+}
+
+// Writes how much of its area the library takes, or why that is not known.
+pub(crate) fn tell_room<W: Write, E: Write>(
+    alloc: Global,
+    answer: Result<SpaceUse, ServiceFault>,
+    answers: &mut W,
+    explanations: &mut E,
+) -> Result<(), ScriptFault>
+    ensures { Tells (W.contents answers.old) (W.contents answers.new) (room_text answer) result }
+{
+    match answer {
+        Ok(space) => tell_space(space, answers),
         Err(fault) => refuse(alloc, fault, &[], answers, explanations),
     }
 }

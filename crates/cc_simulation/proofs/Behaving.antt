@@ -1,4 +1,4 @@
--- What begins what, and that following is reflexive and transitive.
+-- Prefixes; and following is reflexive and transitive.
 use Rattle.std.proofs.Common.{◌≡◌, ℕ, List, [], ◌++◌, refl, sym, ap, ◌∙◌, subst, append_assoc}
 use Rattle.std.proofs.lemmas.List.{append-nil}
 use Rattle.cc_simulation.specs.Behavior.{Stop, Going, Ended, Wrong, Outcome, IsRight, IsPrefixOf, EndsAlike, Shows, Follows, FollowsForAll}
@@ -31,7 +31,7 @@ follows_refl a = record {
   no_more = λ ok m. (m, begins_refl (a m).output, λ r e. e);
 }
 
--- what is the same at each bound follows
+-- a behavior that is the same at each bound follows
 pub follows_same : {B R : Type 0} (a z : B → Outcome R) → ((b : B) → a b ≡ z b) → Follows a z
 follows_same {B} {R} a z same = record {
   reaches = λ n ok. (n, shows_same (a n) (z n) (same n) ok);

@@ -1,4 +1,4 @@
--- A run that keeps up with a bounded meaning, at whatever rate, follows it; for all lists, by cuts with one end.
+-- A run that keeps up with a bounded meaning, at any rate, follows it; for all lists, by cuts with the same limits.
 use Rattle.std.proofs.Common.{◌≡◌, ℕ, zero, suc, ◌+◌, ◌-◌, ◌*◌, ◌<◌, ◌≤◌, List, refl, sym, ap, ◌∙◌, subst, ◌⊎◌, inl, inr, arith}
 use Rattle.std.proofs.Math.Nat.{mul-le-mul_left}
 use Rattle.std.proofs.lemmas.Bool.{cases_lt}
@@ -32,7 +32,7 @@ module _ {C : Type 0} (move : C → Move C) (output : C → List ℕ) (effect : 
   abbrev source : ℕ → Outcome Answer
   source n = answered (meaning n)
 
-  -- a cut for each number of steps, whatever its ends
+  -- a cut for each number of steps, with any limits
   abbrev Kept : ℕ → Type 0
   Kept n = (most : ℕ) × (most_steps : ℕ) × Keeping move output effect rate n (meaning n) start most most_steps
 
@@ -58,7 +58,7 @@ module _ {C : Type 0} (move : C → Move C) (output : C → List ℕ) (effect : 
   covered_refl : (a : Outcome Answer) → IsRight a.stop → Covered a a
   covered_refl a ok = (ok, begins_refl a.output, λ r e. e)
 
-  -- what begins a right outcome is covered by it
+  -- an outcome that begins a right one is covered by it
   covered_by : (z a : Outcome Answer) (t : Stop Answer) → z.stop ≡ t → StaysBy t z a → IsRight a.stop → IsPrefixOf z.output a.output → Covered z a
   covered_by z a Going e stays ok b = (subst IsRight (sym e) tt, b, λ r f. absurd (let g : Going ≡ Ended r = sym e ∙ f in cc))
   covered_by z a (Ended q) e stays ok b = subst (Covered z) (sym stays) (covered_refl z (subst IsRight (sym e) tt))

@@ -1,5 +1,10 @@
+-- prefixes; following is reflexive and transitive
 pub mod Behaving
+-- two cuts of one run are comparable
 pub mod Cuts
+-- a run that keeps up with the source follows it
 pub mod Following
+-- what a simulation gives
 pub mod Simulating
+-- two languages in lockstep have the same run
 pub mod Lockstep

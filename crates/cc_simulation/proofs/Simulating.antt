@@ -1,4 +1,5 @@
--- What a simulation gives: for each cut of the old a cut of the new, and what the old keeps the new keeps at a coarser_pays rate.
+-- What a simulation gives: a cut of the new run for each cut of the old one; and what the old run guarantees, the new one
+-- guarantees at a coarser rate.
 use Rattle.std.proofs.Common.{◌≡◌, ℕ, zero, suc, ◌+◌, ◌-◌, ◌*◌, ◌<◌, ◌≤◌, List, refl, ap, ◌∙◌, subst, ◌⊎◌, inl, inr, arith}
 use Rattle.std.proofs.Math.Nat.{mul-suc, suc-mul, mul-le-mul_left, mul-add, mul_assoc}
 use Rattle.cc_simulation.specs.Behavior.{Stop, Going, Ended, Wrong, Outcome, AreWords}
@@ -8,7 +9,7 @@ use Rattle.cc_simulation.specs.Meaning.{Meaning, IsCall, call_effect}
 use Rattle.cc_simulation.specs.Tracks.{Keeps, Tracks, TracksForAll}
 use Rattle.cc_simulation.specs.internal.Simulation.{Way, Advances, Asks, Ending, Simulation}
 
--- one way after another
+-- one path after another
 pub way_then : {D : Type 0} (move : D → Move D) (output : D → List ℕ) (n m : ℕ) (d e f : D) → Way move output n d e → Way move output m e f → Way move output (n + m) d f
 way_then {D} move output zero zero d e f p q = (p.0 ∙ q.0, p.1 ∙ q.1)
 way_then {D} move output zero (suc m) d e f p (u, q, r) =
@@ -67,14 +68,14 @@ module _ {C D : Type 0} (old : C → Move C) (old_output : C → List ℕ) (new 
     shown_from (Ended r) a y z e h = e ∙ h
     shown_from Wrong a y z e h = tt
 
-    -- a cut of the new that shows what a cut of the old shows
+    -- a cut of the new run that shows what a cut of the old one shows
     pub record Cut (top k j : ℕ) (a : Outcome Answer) (done : ℕ) (d : D) : Type 0 where
       pub moves : ℕ
       pub few : moves ≤ suc wide * k
       pub shows : Shown a.stop a (new_run moves j d)
       pub paid : done ≤ top + suc deep * new_work moves j d
 
-    -- a cut after_way a path
+    -- a cut after a path
     after_way : (n k j m done top : ℕ) (a : Outcome Answer) (d e : D) → Way new new_output n d e → n + m ≤ suc wide * suc k → Shown a.stop a (new_run m j e) → done ≤ top + suc deep * (n + new_work m j e) → Cut top (suc k) j a done d
     after_way n k j m done top a d e p few x le =
         let same : new_run (n + m) j d ≡ new_run m j e = way_run n m j d e p in
@@ -160,7 +161,7 @@ module _ {C D : Type 0} (old : C → Move C) (old_output : C → List ℕ) (new 
     cut zero j c d rel = record { moves = 0; few = omega arith; shows = ap (λ o. record { stop = Going; output = o }) (sim.outputs c d rel); paid = omega arith }
     cut (suc k) j c d rel = cut_at k j c d (old c) refl rel (cut k)
 
-    -- what the old keeps, the new keeps at a coarser_pays rate, within `suc wide` times the moves and the same steps
+    -- what the old run guarantees, the new one guarantees at a coarser rate, within `suc wide` times the moves and the same steps
     pub record StillKeeps (r n k j : ℕ) (e : Effect) (d : D) : Type 0 where
       pub moves : ℕ
       pub few : moves ≤ suc wide * k
@@ -178,7 +179,7 @@ module _ {C D : Type 0} (old : C → Move C) (old_output : C → List ℕ) (new 
     still_keeps r n k j (Unfinished o) c d rel (z, b) = let x = cut k j c d rel in record { moves = x.moves; few = x.few; keeps = (subst (λ y. Shown y.stop y (new_run x.moves j d)) z x.shows, (let s = coarser_pays r n 0 (old_work k j c) (new_work x.moves j d) (measure c) (sim.low c d rel) x.paid (omega arith) in omega arith)) }
     still_keeps r n k j (Failed o) c d rel kept = record { moves = 0; few = omega arith; keeps = tt }
 
--- ---- as functions keep it
+-- ---- as functions guarantee it
 
 abbrev pub coarser : (rate deep : ℕ) → ℕ
 coarser rate deep = rate * suc deep

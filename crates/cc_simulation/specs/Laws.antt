@@ -1,6 +1,7 @@
--- The laws of runs. Each is the contract of a function of this crate, for the types of Rust. The configurations of our languages are
--- types of specs, so a language's own law rests on the lemma of the same form in `proofs/` (`Behaving`, `Cuts`, `Following`); the laws of
--- simulations, which range over relations as no contract can, are lemmas alone (`proofs/Simulating`, `proofs/Lockstep`).
+-- The laws of runs. Each is the contract of a function of this crate, for Rust's types. The configurations of our languages are
+-- types of specs, so a language's own law uses the lemma of the same form in `proofs/` (`Behaving`, `Cuts`, `Following`). The
+-- laws of simulations are only lemmas (`proofs/Simulating`, `proofs/Lockstep`), because they range over relations, which no
+-- contract can.
 use Rattle.std.specs.Prelude.{ℕ, suc, ◌<◌, List}
 use Rattle.cc_simulation.specs.Behavior.{Outcome, Follows, FollowsForAll}
 use Rattle.cc_simulation.specs.World.{World}
@@ -17,24 +18,24 @@ FollowsItself B R = (a : B → Outcome R) → Follows a a
 abbrev pub FollowsOn : (A B C R : Type 0) → Type 0
 FollowsOn A B C R = (a : A → Outcome R) (b : B → Outcome R) (z : C → Outcome R) → Follows a b → Follows b z → Follows a z
 
--- and what follows it for all unknown words
+-- the same for what follows it for all unknown words
 abbrev pub FollowsOnForAll : (A B R : Type 0) → Type 0
 FollowsOnForAll A B R = (a : A → Outcome R) (b : B → Outcome R) (z : List ℕ → ℕ × ℕ → Outcome R) → Follows a b → FollowsForAll b z → FollowsForAll a z
 
--- two cuts of one run are comparable, with their work
+-- two cuts of one run are comparable, together with their work
 abbrev pub CutsAreComparable : (C : Type 0) → Type 0
 CutsAreComparable C =
     (meaning : Meaning) (move : C → Move C) (output : C → List ℕ) → IsLayer move output → (opened k l i j : ℕ) (c : C)
     → Comparable (run move output (call_effect meaning opened) k i c) (work move (call_effect meaning opened) k i c) (run move output (call_effect meaning opened) l j c) (work move (call_effect meaning opened) l j c)
 
--- a run that keeps up with the source follows it, at whatever rate
+-- a run that keeps up with the source follows it, at any rate
 abbrev pub TrackedFollows : (C : Type 0) → Type 0
 TrackedFollows C =
     (meaning : Meaning) (move : C → Move C) (output : C → List ℕ) → IsLayer move output → (f rate : ℕ) (start : List ℕ → World → C) → Tracks meaning f rate move output start
     → (opened : ℕ) → opened < most_open → (ws : List ℕ) (h : World) → IsCall meaning f ws h
     → Follows (λ n. answered (meaning.body n opened f ws h)) (λ (b : ℕ × ℕ). run move output (call_effect meaning (suc opened)) b.0 b.1 (start ws h))
 
--- so does one that depends on unknown words, for every list of words
+-- the same for a run that depends on unknown words, for every list of words
 abbrev pub TrackedFollowsForAll : (C : Type 0) → Type 0
 TrackedFollowsForAll C =
     (meaning : Meaning) (move : C → Move C) (output : C → List ℕ) → IsLayer move output → (f rate : ℕ) (start : List ℕ → List ℕ → World → C) → TracksForAll meaning f rate move output start

@@ -1,5 +1,5 @@
--- What the functions of a unit share, by number, what a call of one asks and answers, and the changes that every language makes:
--- an element read and stored, a word read and written.
+-- What the functions of a unit share, by number; what a call of one passes and answers; and the changes that every language
+-- makes: an element read and stored, a word read and written.
 use Rattle.std.specs.Prelude.{◌≡◌, ℕ, if◌then◌else◌, List, [], ◌∷◌, ◌++◌, length, map, get_or, set, slice_get, Option, None, option_map}
 use Rattle.cc_words.specs.declared.operators.Width.{Width}
 use Rattle.cc_words.specs.declared.operators.Width.TheVariants.{Word}
@@ -11,7 +11,7 @@ pub record Object : Type 0 where
   pub width : Width
   pub words : List ℕ
 
--- what stays of it whatever is stored: how wide its elements are, and how many it has
+-- what remains of an object whatever is stored in it: how wide its elements are, and how many it has
 pub record Size : Type 0 where
   pub width : Width
   pub elements : ℕ
@@ -19,7 +19,7 @@ pub record Size : Type 0 where
 abbrev pub size_of : Object → Size
 size_of o = record { width = o.width; elements = length o.words }
 
--- the objects, the input that is left, the output so far
+-- the objects, the rest of the input, the output so far
 pub record World : Type 0 where
   pub globals : List Object
   pub input : List ℕ
@@ -31,18 +31,19 @@ pub record Question : Type 0 where
   pub arguments : List ℕ
   pub world : World
 
--- what a call gives, and what a run of a function ends with
+-- what a call answers, and what a run of a function ends with
 pub record Answer : Type 0 where
   pub value : ℕ
   pub world : World
 
--- what a call comes to within a number of steps: an answer with how many are left; no step left, or wrong, with the output so far
+-- the effect of a call within a number of steps: an answer with how many steps are left; or no step left, or wrong, each with the
+-- output so far
 pub data Effect : Type 0 where
   Gives : Answer → ℕ → Effect
   Unfinished : List ℕ → Effect
   Failed : List ℕ → Effect
 
--- an object by its number; one that there is not has no elements
+-- an object by its number; if there is none, it has no elements
 abbrev pub object_of : World → (object : ℕ) → Object
 object_of h object = get_or h.globals object (record { width = Word; words = [] })
 
@@ -53,7 +54,7 @@ object_words h object = (object_of h object).words
 abbrev pub size_in : List Size → (object : ℕ) → Size
 size_in objects object = get_or objects object (record { width = Word; elements = 0 })
 
--- each object has its size, and all are words, those of the input too
+-- each object has its size, and everything is a word, also in the input
 pub record IsWorld (objects : List Size) (h : World) : Type 0 where
   pub sizes : map size_of h.globals ≡ objects
   pub globals : (g : ℕ) → AreWords (object_words h g)
@@ -70,7 +71,7 @@ abbrev pub rest_of : List ℕ → List ℕ
 rest_of [] = []
 rest_of (w ∷ ws) = ws
 
--- an element's word; none where there is no such element, or where elements are wider or less wide
+-- an element's word; None if there is no such element, or the elements have another width
 abbrev pub element : World → Width → (object index : ℕ) → Option ℕ
 element h width object index = if same_width (object_of h object).width width then slice_get (object_words h object) index else None
 
@@ -82,7 +83,7 @@ object_with o index word = record o { words = set o.words index word }
 abbrev pub with_element : World → (object index word : ℕ) → World
 with_element h object index word = record h { globals = set h.globals object (object_with (object_of h object) index word) }
 
--- the world with what an element keeps of a word in it; none where there is no such element
+-- the world after a word is stored in an element, which keeps the part that fits; None if there is no such element
 abbrev pub stored : World → Width → (object index word : ℕ) → Option World
 stored h width object index word = option_map (λ old. with_element h object index (kept width word)) (element h width object index)
 
@@ -93,6 +94,6 @@ next_word h = first_or_zero h.input
 abbrev pub after_read : World → World
 after_read h = record h { input = rest_of h.input }
 
--- the world with a word more written
+-- the world after one more word is written
 abbrev pub after_write : (word : ℕ) → World → World
 after_write word h = record h { output = h.output ++ word ∷ [] }

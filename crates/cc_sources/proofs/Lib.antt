@@ -1,4 +1,4 @@
 -- What was read from a reader.
 pub mod Pieces
--- One text after the other.
+-- One text after another.
 pub mod Texts

@@ -1,4 +1,4 @@
--- One text after the other.
+-- One text after another.
 use Rattle.std.proofs.Common.{◌≡◌, ◌∙◌, ◌+◌, ◌≤◌, ◌<◌, ℕ, zero, suc, Bool, true, false, List, [], ◌∷◌, ◌++◌, length, drop, get_or, Some, refl, sym, ap, subst, inl, inr, arith, append_assoc, append-nil, length-append, length-drop, drop-cons}
 use Rattle.std.specs.Prelude.{◌⊎◌, slice_get, if◌then◌else◌}
 use Rattle.std.proofs.lemmas.Option.{slice_get_read}
@@ -8,14 +8,14 @@ use Rattle.cc_sources.specs.Places.{begin_of, IsIn}
 use Rattle.cc_sources.specs.declared.place.TextPlace.{TextPlace}
 use Rattle.cc_sources.specs.declared.text.NamedText.{NamedText}
 
--- where the next text begins
+-- the beginning of the next text
 begin-next : (texts : List NamedText) (k : ℕ) (text : NamedText) (further : List NamedText) → drop k texts ≡ text ∷ further → begin_of texts (suc k) ≡ begin_of texts k + length (closed text further)
 begin-next [] zero text further e = absurd (cc)
 begin-next [] (suc k) text further e = absurd (cc)
 begin-next (t ∷ ts) zero text further e = grind (arith, e)
 begin-next (t ∷ ts) (suc k) text further e = grind (arith, begin-next ts k text further e)
 
--- the whole is what lies before a text, and what it makes with the further ones
+-- the whole is what precedes a text, and then the text joined with the further ones
 length-joined : (texts : List NamedText) (k : ℕ) → k ≤ length texts → length (joined texts) ≡ begin_of texts k + length (joined (drop k texts))
 length-joined texts zero few = grind arith
 length-joined [] (suc k) few = grind arith
@@ -34,21 +34,21 @@ length-closed : (text : NamedText) (further : List NamedText) → 0 < length fur
 length-closed text [] some = absurd (omega (arith, some))
 length-closed text (next ∷ further) some = length-append text.bytes.items (newline_after text.bytes.items)
 
--- the last text makes what it has
+-- the last text contributes just its bytes
 length-last : (text : NamedText) (further : List NamedText) → length further ≡ 0 → length (joined (text ∷ further)) ≡ length text.bytes.items
 length-last text [] none = ap length (append-nil text.bytes.items)
 length-last text (next ∷ further) none = absurd (omega (arith, none))
 
--- the texts from one on
+-- the texts from one of them on
 from_one : (texts : List NamedText) (k : ℕ) (text : NamedText) → k < length texts → text ≡ get_or texts k text → drop k texts ≡ text ∷ drop (suc k) texts
 from_one texts k text few is = drop-cons texts k text few ∙ ap (λ (t : NamedText). t ∷ drop (suc k) texts) (sym is)
 
--- one text more of the whole
+-- one more text of the whole
 pub one_more : (text : NamedText) (further : List NamedText) (old new all : List ℕ) → old ++ joined (text ∷ further) ≡ all → new ≡ old ++ closed text further → new ++ joined further ≡ all
 one_more text further old new all so_far is =
     ap (λ (l : List ℕ). l ++ joined further) is ∙ (append_assoc old (closed text further) (joined further) ∙ so_far)
 
--- a byte after a text lies after where the next one begins
+-- a byte after a text is at or after the beginning of the next one
 pub moved : (texts : List NamedText) (k next at left now : ℕ) (text : NamedText) → next ≡ suc k → next < length texts → text ≡ get_or texts k text → at ≡ begin_of texts k + left
     → now + (length text.bytes.items + length (newline_after text.bytes.items)) ≡ left → at ≡ begin_of texts next + now
 moved texts k next at left now text e few is so_far by =
@@ -59,7 +59,7 @@ moved texts k next at left now text e few is so_far by =
     let there : begin_of texts next ≡ begin_of texts (suc k) = ap (begin_of texts) e in
     omega (arith, begins, whole, there, so_far, by)
 
--- what is left of the last text, or of one with a text after it, is no more than the text
+-- the rest of the last text, or of one with a text after it, is no longer than the text
 within : (texts : List NamedText) (k at left : ℕ) (text : NamedText) → k < length texts → text ≡ get_or texts k text → at ≡ begin_of texts k + left → at ≤ length (joined texts)
     → (suc k ≡ length texts) ⊎ (left < length text.bytes.items + length (newline_after text.bytes.items)) → left ≤ length text.bytes.items
 within texts k at left text here is so_far inside (inl last) =
@@ -70,7 +70,7 @@ within texts k at left text here is so_far inside (inl last) =
     omega (arith, all, rest, so_far, inside)
 within texts k at left text here is so_far inside (inr before) = omega (arith, before, few_after text.bytes.items)
 
--- and the next text begins after it
+-- the next text begins after the byte
 before : (texts : List NamedText) (k at left : ℕ) (text : NamedText) → k < length texts → text ≡ get_or texts k text → at ≡ begin_of texts k + left
     → (suc k ≡ length texts) ⊎ (left < length text.bytes.items + length (newline_after text.bytes.items)) → suc k < length texts → at < begin_of texts (suc k)
 before texts k at left text here is so_far (inl last) more = absurd (omega (arith, last, more))
@@ -79,7 +79,7 @@ before texts k at left text here is so_far (inr inside) more =
     let begins = begin-next texts k text (drop (suc k) texts) (from_one texts k text here is) in
     omega (arith, begins, length-closed text (drop (suc k) texts) some, so_far, inside)
 
--- the byte lies there
+-- the place of the byte
 pub lies : (texts : List NamedText) (k at left : ℕ) (text : NamedText) (found : TextPlace) → k < length texts → text ≡ get_or texts k text → at ≡ begin_of texts k + left
     → (suc k ≡ length texts) ⊎ (left < length text.bytes.items + length (newline_after text.bytes.items))
     → found.number ≡ k → (left ≤ length text.bytes.items → found.at ≡ left) → found.at ≤ length text.bytes.items → found.place ≡ place_of text.bytes.items found.at

@@ -1,6 +1,6 @@
--- The text that texts make, one after the other.
+-- The whole that texts make, one after another.
 pub mod Joined
 -- Which text a byte of the whole comes from.
 pub mod Places
--- What is read of a reader.
+-- What is read from a reader.
 pub mod Reading

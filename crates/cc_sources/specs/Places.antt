@@ -11,8 +11,8 @@ begin_of texts zero = 0
 begin_of [] (suc number) = 0
 begin_of (text ∷ further) (suc number) = length (closed text further) + begin_of further number
 
--- A byte of the whole is one of this text: the text begins as many bytes before it as its offset says, and has that offset, or ends there; if there is a
--- next text it begins after the byte. Line and column are those in the text.
+-- A byte of the whole belongs to this text: the text begins as many bytes before it as its offset says, and has a byte at that
+-- offset or ends there; if there is a next text, that begins after the byte. Line and column are those in the text.
 pub record IsIn (texts : List NamedText) (at : ℕ) (found : TextPlace) : Type 0 where
   pub text : NamedText
   pub there : slice_get texts found.number ≡ Some text

@@ -1,4 +1,4 @@
--- What is read of a reader.
+-- What is read from a reader.
 use Rattle.std.specs.Prelude.{◌≡◌, ℕ, List, take, Option, IfSome}
 
 -- a reader's text: its bytes, or the first 65,537 of them if it has more

@@ -1,4 +1,4 @@
-// Texts put together.
+// Joining texts.
 
 ghost use Rattle.std.specs.Prelude.{◌≡◌, ◌++◌, [], IfOk, OnOk, if◌then◌else◌};
 ghost use Rattle.cc_sources.specs.Joined.{joined, lacks_newline, newline_after};
@@ -27,7 +27,8 @@ fn append(whole: &mut Vec<u8>, bytes: &[u8], is_last: bool) -> Result<(), AllocE
     Ok(())
 }
 
-/// The text that texts make: one after the other, with a newline between two if the first lacks it.
+/// Joins texts to one: one after another, with a newline between two if the first does not end with one. `AllocError` if memory
+/// runs out.
 pub fn join(alloc: Global, texts: &[NamedText]) -> Result<Vec<u8>, AllocError>
     ensures { IfOk result (λ whole. whole.items ≡ joined texts.now) }
 {

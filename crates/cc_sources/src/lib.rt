@@ -1,9 +1,14 @@
-//! The texts that a program is given in, each with its name: read, put together to the one text that is compiled, and told of by name.
+//! The texts that a program consists of, each with its name: how they are read, joined to the one text that is compiled, and
+//! named in reports. There is no preprocessor and no linker: what is compiled is the joined text.
 //!
-//! `text` is a text with its name, `joining` puts texts together, `place` says which text a byte of the whole comes from, with line and column
-//! there, `reading` reads files and standard input, `telling` writes what is told of the whole with the names of its texts,
-//! `message` puts them into its words. There is no
-//! preprocessor and no linker: what is compiled is the whole. Hands out these, and the definitions that their contracts name (`specs/`).
+//! - `text`: a text with its name.
+//! - `joining`: joins texts.
+//! - `place`: which text a byte of the whole comes from, with line and column there.
+//! - `reading`: reads files and standard input.
+//! - `telling`: writes reports about the whole with the names of its texts.
+//! - `message`: puts these names into messages.
+//!
+//! The crate exports these, and the definitions that their contracts use (`specs/`).
 #![tactic(auto)]
 
 mod joining;

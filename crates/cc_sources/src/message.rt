@@ -1,4 +1,4 @@
-// Messages whose words have a place.
+// Messages that have a place in their words.
 
 use super::joining::join;
 use super::place::place_in;
@@ -7,10 +7,10 @@ use cc_syntax_diagnostic::offset_in;
 use cc_tokens::Place;
 use std::alloc::{AllocError, Global};
 
-/// What stands before a place in the words of a message.
+/// What precedes a place in the words of a message.
 const BEFORE: &str = " at ";
 
-// The place at the front of words, for example `2:5`, and what follows it.
+// The place that words begin with, such as `2:5`, and the words after it.
 fn place_before(words: &str) -> Option<(Place, &str)> {
     let (line, rest) = words.split_once(":")?;
     let end = rest
@@ -23,7 +23,7 @@ fn place_before(words: &str) -> Option<(Place, &str)> {
     Some((Place { line, column }, rest.get(end..)?))
 }
 
-// Adds the place of the texts that is this one of the whole, for example `B.c:2:5`.
+// Adds the place in the texts of this place in the whole, such as `B.c:2:5`.
 fn add_place(
     alloc: Global,
     texts: &[NamedText],
@@ -46,7 +46,7 @@ fn add_place(
     said.push_str(place.as_str())
 }
 
-// A message with the places of texts for those of the whole.
+// A message with places in the texts instead of places in the whole.
 fn with_names(
     alloc: Global,
     texts: &[NamedText],
@@ -73,8 +73,8 @@ fn with_names(
     Ok(said)
 }
 
-/// A message about the whole that texts make, which may have words like `declared at 2:5`: if there are several texts the place has the name of
-/// the one that it is in, and line and column there, `declared at B.c:1:5`.
+/// Returns a message about the joined text that may have words like `declared at 2:5`. If there are several texts, the place gets
+/// the name of its text and the line and column there: `declared at B.c:1:5`. `AllocError` if memory runs out.
 pub fn named_message(
     alloc: Global,
     texts: &[NamedText],

@@ -1,4 +1,4 @@
-// From a byte of the whole to the text that it comes from.
+// From a byte of the whole to its place in the text that it comes from.
 
 ghost use Rattle.std.specs.Prelude.{◌≡◌, ◌+◌, ◌<◌, ◌≤◌, ◌↔◌, length, IfSome, IsTrue};
 ghost use Rattle.cc_tokens.specs.Place.{place_of};
@@ -9,7 +9,7 @@ use super::joining::lacks_newline;
 use super::text::NamedText;
 use cc_tokens::{Place, place_at};
 
-/// Where a byte lies: in which text, by its number from 0, at which offset there, and in which line and column of that text.
+/// The place of a byte: the number of its text from 0, its offset there, and its line and column in that text.
 #[derive(Clone, Copy)]
 pub struct TextPlace {
     pub number: usize,
@@ -17,14 +17,14 @@ pub struct TextPlace {
     pub place: Place,
 }
 
-// Whether a byte with this offset is one of a text, or the newline after it.
+// Whether the byte at this offset belongs to a text, or is the newline after it.
 fn is_within(bytes: &[u8], at: usize) -> bool
     ensures { IsTrue result ↔ (at < length bytes.now + length (newline_after bytes.now)) }
 {
     at < bytes.len() || (at == bytes.len() && lacks_newline(bytes))
 }
 
-// The offset of a byte from the end of a text on, and of the newline after it.
+// The offset of a byte, counted from the end of a text and the newline after it.
 fn after(bytes: &[u8], at: usize) -> usize
     requires { length bytes.now + length (newline_after bytes.now) ≤ at }
     ensures { result + (length bytes.now + length (newline_after bytes.now)) ≡ at }
@@ -33,7 +33,7 @@ fn after(bytes: &[u8], at: usize) -> usize
     if lacks_newline(bytes) { at - 1 } else { at }
 }
 
-// The byte with this offset of the text with that number, or the end of the text.
+// The place of the byte at this offset of the text with this number, or of the end of the text.
 fn found(bytes: &[u8], number: usize, at: usize) -> TextPlace
     ensures number { result.number ≡ number }
     ensures at { at ≤ length bytes.now → result.at ≡ at }
@@ -48,8 +48,8 @@ fn found(bytes: &[u8], number: usize, at: usize) -> TextPlace
     }
 }
 
-/// Where a byte of the whole that texts make lies, or its end. The newline between two lies at the end of the first. Nowhere if there is no
-/// text.
+/// Returns the place of a byte of the whole that texts make, or of its end. The newline between two texts counts as the end of
+/// the first. `None` if there is no text.
 pub fn place_in(texts: &[NamedText], at: usize) -> Option<TextPlace>
     ensures { at ≤ length (joined texts.now) → IfSome result (λ found. IsIn texts.now at found) }
 {

@@ -10,13 +10,13 @@ use std::fs::File;
 use std::io::{self, Input, Read};
 use std::rt::Files;
 
-/// One byte more than a text may have: no more are read, so that a longer text is seen to be one.
+/// One byte more than a text may have. No more bytes are read; so a longer text is recognised as too long.
 pub const MOST_READ: usize = MOST_BYTES + 1;
 
 /// The name of standard input.
 pub const INPUT: &str = "-";
 
-/// Why a text was not read.
+/// Why a text could not be read.
 #[derive(Drop)]
 pub enum NoText {
     /// The system refused to open or to read it.
@@ -34,7 +34,8 @@ impl From<AllocError> for NoText {
     }
 }
 
-/// The bytes of a reader up to its end, or the first `MOST_READ` of them.
+/// Returns the bytes of a reader up to its end, or the first `MOST_READ` of them. Fails with `Unread` if a read fails, and with
+/// `OutOfMemory` if memory runs out.
 pub fn read_text<R: Read>(alloc: Global, reader: &mut R) -> Result<Vec<u8>, NoText>
     ensures few { IfOk result (λ text. vec_len text ≤ MOST_READ) }
     ensures text { IfOk result (λ text. IsTextOf (R.remaining reader.old) text.items) }
@@ -55,7 +56,7 @@ pub fn read_text<R: Read>(alloc: Global, reader: &mut R) -> Result<Vec<u8>, NoTe
     Ok(text)
 }
 
-// The bytes of the file of a name, or of standard input.
+// Reads the file with a name, or standard input.
 fn read_named<R: Input, F: Files>(
     rt: &R,
     files: &F,
@@ -71,14 +72,14 @@ fn read_named<R: Input, F: Files>(
     }
 }
 
-/// Which of some texts was not read, by its number from 0, and why.
+/// Which text could not be read, by its number from 0, and why.
 #[derive(Drop)]
 pub struct NoTexts {
     pub number: usize,
     pub why: NoText,
 }
 
-// The text of a name with that.
+// Reads the text with a name, and keeps the name with it.
 fn named<R: Input, F: Files>(
     rt: &R,
     files: &F,
@@ -90,8 +91,9 @@ fn named<R: Input, F: Files>(
     Ok(NamedText { name, bytes })
 }
 
-/// The texts of the files of these names, in their order; `-` is standard input. Once they have more bytes together than a text may have, no
-/// further one is read.
+/// Reads the files with these names, in their order; `-` is standard input. Once they have more bytes together than a text may
+/// have, no further one is read. Fails at the first text that cannot be read or for which memory runs out, and returns its number
+/// and the reason.
 pub fn read_texts<R: Input, F: Files>(
     rt: &R,
     files: &F,

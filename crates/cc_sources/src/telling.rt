@@ -1,4 +1,4 @@
-// What is told of a text, with the names of the texts that it was made of.
+// Reports about a text, with the names of the texts that it was made of.
 
 use super::message::named_message;
 use super::place::place_in;
@@ -8,16 +8,16 @@ use cc_syntax_diagnostic::{Diagnostic, Related};
 use std::alloc::{AllocError, Global};
 use std::io::{self, Write};
 
-/// Where a text comes from.
+/// The origin of a text.
 #[derive(Clone, Copy)]
 pub enum Origin<'a> {
     /// Standard input.
     Input,
-    /// These texts, which make it.
+    /// These texts, joined.
     Texts(&'a [NamedText]),
 }
 
-/// Writes the name of a text; a byte by which a terminal could be steered is shown as `?`.
+/// Writes the name of a text. A byte that could control a terminal is shown as `?`. Fails if the writer does.
 pub fn write_name<W: Write>(name: &str, writer: &mut W) -> io::Result<()> {
     for byte in name.bytes() {
         let shown = if byte < 32 || byte == 127 { b'?' } else { byte };
@@ -55,7 +55,8 @@ fn message_at(
     })
 }
 
-// Writes a message about a byte of the whole: as it is written of the text that the byte comes from, whose name is in place of `-`.
+// Writes a message about a byte of the whole as one about the text that the byte comes from, with that text's name in place of
+// `-`.
 fn write_at<W: Write>(
     alloc: Global,
     texts: &[NamedText],
@@ -78,7 +79,7 @@ fn write_at<W: Write>(
     writer.write_all(lines.strip_prefix(INPUT.as_bytes()).unwrap_or(lines))
 }
 
-// Writes what is told of the whole that texts make.
+// Writes a diagnostic of the whole that texts make.
 fn write_of_texts<W: Write>(
     alloc: Global,
     texts: &[NamedText],
@@ -97,8 +98,9 @@ fn write_of_texts<W: Write>(
     }
 }
 
-/// Writes what is told of a text as `Diagnostic` does, for example `-:4:2: 'totl' is not declared`. If the text is made of others, name, line and
-/// column are those of the one that the place is in: `B.c:4:2: 'totl' is not declared`.
+/// Writes a diagnostic of a text as `Diagnostic` does, such as `-:4:2: 'totl' is not declared`. If the text is made of others,
+/// name, line and column are those of the text that has the place: `B.c:4:2: 'totl' is not declared`. Fails if the writer does or
+/// memory runs out; some lines may have been written then.
 pub fn write_diagnostic<W: Write>(
     alloc: Global,
     text: &[u8],
@@ -112,7 +114,7 @@ pub fn write_diagnostic<W: Write>(
     }
 }
 
-/// Writes which text could not be read, and why.
+/// Writes which text could not be read, and why. Fails if the writer does.
 pub fn tell_unread<W: Write>(name: &str, why: &io::Error, writer: &mut W) -> io::Result<()> {
     writer.write_all(b"cclib: ")?;
     if name == INPUT {

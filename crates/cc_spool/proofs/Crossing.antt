@@ -45,7 +45,7 @@ unanswered_send : IsSend Unanswered.the_row
 unanswered_send = let e = ending_send in search (sendable, crosses) depth 20
 
 queue_send : IsSend Queue.the_field.row
-queue_send = struct_send (shape Queue.the_type) (let l = layout_send in search (sendable, crosses) depth 20, (search (sendable, crosses) depth 20, (search (sendable, crosses) depth 20, (search (sendable, crosses) depth 20, (search (sendable, crosses) depth 20, (search (sendable, crosses) depth 20, (search (sendable, crosses) depth 20, (search (sendable, crosses) depth 20, (search (sendable, crosses) depth 20, (search (sendable, crosses) depth 20, ((let u = unanswered_send in search (sendable, crosses) depth 20), (search (sendable, crosses) depth 20, (search (sendable, crosses) depth 20, tt)))))))))))))
+queue_send = struct_send (shape Queue.the_type) (let l = layout_send in search (sendable, crosses) depth 20, (search (sendable, crosses) depth 20, (search (sendable, crosses) depth 20, (search (sendable, crosses) depth 20, (search (sendable, crosses) depth 20, (search (sendable, crosses) depth 20, (search (sendable, crosses) depth 20, (search (sendable, crosses) depth 20, (search (sendable, crosses) depth 20, (search (sendable, crosses) depth 20, ((let u = unanswered_send in search (sendable, crosses) depth 20), (search (sendable, crosses) depth 20, (search (sendable, crosses) depth 20, (search (sendable, crosses) depth 20, tt))))))))))))))
 
 pub folder_send : IsSend FolderSpool.the_row
 folder_send =

@@ -3,6 +3,7 @@
 ghost use Rattle.std.specs.Prelude.{◌≡◌, ◌+◌, true, false, IfOk, IfErr, OnOk};
 ghost use Rattle.std.specs.Io.{WritesAtMost};
 
+use crate::answer_words::{AnswerWords, Word};
 use std::alloc::Global;
 use std::fs::File;
 use std::io::{self, BufWriter, Write};
@@ -17,6 +18,8 @@ pub struct AnswerFile {
     writer: BufWriter<File>,
     left: u64,
     is_refused: bool,
+    // How the lines of its script were answered.
+    words: AnswerWords,
 }
 
 impl AnswerFile {
@@ -29,6 +32,7 @@ impl AnswerFile {
             writer: BufWriter::new(alloc, file)?,
             left: MOST_BYTES,
             is_refused: false,
+            words: AnswerWords::new(alloc),
         })
     }
 
@@ -38,6 +42,11 @@ impl AnswerFile {
     {
         self.pass_on()?;
         self.writer.get_ref().sync_all()
+    }
+
+    /// How the lines of its script were answered, in turn.
+    pub(crate) fn words(&self) -> &[Word] {
+        self.words.words()
     }
 
     // Takes some of these bytes. An interrupted write may be tried again; any other that is refused is the last.
@@ -54,6 +63,7 @@ impl AnswerFile {
         match self.writer.write(bytes) {
             Ok(count) => {
                 self.left -= count as u64;
+                self.words.take(&bytes[..count]);
                 Ok(count)
             }
             Err(error) => {

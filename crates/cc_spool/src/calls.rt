@@ -57,8 +57,8 @@ pub(crate) fn is_locked(file: &File) -> Result<bool, Refusal> {
     }
 }
 
-// Makes a file's rights these, whatever the process takes from them.
-fn set_file_rights(file: &File, rights: u32) -> Result<(), Refusal> {
+/// Makes a file's rights these, whatever the process takes from them.
+pub(crate) fn set_file_rights(file: &File, rights: u32) -> Result<(), Refusal> {
     file.set_permissions(Permissions::from_mode(rights))?;
     Ok(())
 }

@@ -20,6 +20,7 @@ use crate::calls::{set_length, settle, write_at};
 use crate::layout::FolderLayout;
 use crate::place::Place;
 use crate::refusal::Refusal;
+use crate::script_file::ScriptFile;
 use std::fs::File;
 
 /// The lines of faults that the spool itself tells.
@@ -43,7 +44,7 @@ pub(crate) enum Told {
 /// A script that was claimed.
 #[derive(Drop)]
 pub(crate) struct Claimed {
-    pub(crate) script: File,
+    pub(crate) script: ScriptFile,
     pub(crate) answer: AnswerFile,
 }
 
@@ -162,7 +163,10 @@ fn begin(layout: &FolderLayout, name: &str, file: File) -> ClaimResult {
         Err(told) => return refuse(layout, name, file, told),
     };
     match AnswerFile::new(layout.alloc, file) {
-        Ok(answer) => ClaimResult::Begun(Claimed { script, answer }),
+        Ok(answer) => {
+            let script = ScriptFile::new(layout.alloc, script);
+            ClaimResult::Begun(Claimed { script, answer })
+        }
         Err(_) => {
             drop(script);
             ClaimResult::Kept(Ending::Line(Told::Interrupted))

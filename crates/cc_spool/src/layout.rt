@@ -14,6 +14,7 @@ use crate::board::Board;
 use crate::calls::{is_locked, settle, take_lock};
 use crate::found::Found;
 use crate::keeping::{Keeping, Limits};
+use crate::log::Log;
 use crate::place::Place;
 use crate::refusal::Refusal;
 use std::alloc::{AllocError, Global};
@@ -57,11 +58,12 @@ pub struct FolderLayout {
     pub(crate) common: Arc<Common>,
 }
 
-/// What all clients of one server know of its folder. They take the board without waiting for it.
+/// What all clients of one server know of its folder. They take the board, and the log, without waiting for it.
 #[derive(Drop)]
 pub(crate) struct Common {
     pub(crate) board: Mutex<Board>,
     pub(crate) keeping: Mutex<Keeping>,
+    pub(crate) log: Mutex<Log>,
     // How many bytes the answers in `done` are counted to take.
     taken: AtomicU64,
     // How many scripts were begun, and how many clients do one.
@@ -109,6 +111,7 @@ impl FolderLayout {
                 Common {
                     board: Mutex::new(Board::new(alloc)),
                     keeping: Mutex::new(Keeping::new(limits)),
+                    log: Mutex::new(Log::new()),
                     taken: AtomicU64::new(0),
                     begun: AtomicU64::new(0),
                     busy: AtomicU64::new(0),

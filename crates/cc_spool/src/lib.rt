@@ -5,7 +5,8 @@
 //! calls on these, `found` and `entries` what such a call tells, `refusal` why one is refused. `rights` makes the parts, `names` says which
 //! files are taken, `board` which of them are to be tried, `keeping` how many answers stay, `claims` has how a script is claimed and answered, `answer` the file that its answer is written to, `recovery` what a
 //! server that was killed left, `submission` how a client leaves a script and waits for its answer, `lines` which fault that tells,
-//! `framing` how a source stands in it, `fault` why one of these is refused.
+//! `framing` how a source stands in it, `fault` why one of these is refused. `log` has who did what: `script_file` has the lines of a script as
+//! it is read, `answer_words` how each was answered.
 //!
 //! It knows nothing of libraries; of `cc_disk` it has the history that contracts alone read. It needs no handle but files and the clock.
 //! Hands out `Spool`, `MemorySpool` and `Answered`; `FolderSpool`, `FolderLayout`, `SpoolFault`, and what a server (`take_folder`,
@@ -14,6 +15,7 @@
 #![tactic(auto)]
 
 mod answer;
+mod answer_words;
 mod board;
 mod calls;
 mod claims;
@@ -25,12 +27,14 @@ mod framing;
 mod keeping;
 mod layout;
 mod lines;
+mod log;
 mod memory;
 mod names;
 mod place;
 mod recovery;
 mod refusal;
 mod rights;
+mod script_file;
 mod spool;
 mod submission;
 
@@ -45,5 +49,6 @@ pub use memory::{Answered, MemorySpool};
 pub use names::is_plain;
 pub use recovery::{Recovered, clear_old, recover};
 pub use rights::{WidePart, take_folder, wide_parts};
+pub use script_file::ScriptFile;
 pub use spool::Spool;
 pub use submission::{Submission, submit};

@@ -1,4 +1,4 @@
 -- the numbers of the faults
 pub mod Fault
--- which names are those of functions
+-- the names of functions
 pub mod Named

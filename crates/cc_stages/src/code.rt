@@ -1,4 +1,4 @@
-// The listing of a unit's image, and where in it each function's lines stand: behind three lines, those of the start that calls `main`, the
+// The listing of a unit's image, and the place in it of each function's lines. After three lines, those of the start that calls `main`, the
 // functions follow one another in the order of their definitions, a line for each word.
 
 ghost use Rattle.std.specs.Prelude.{◌≡◌, IfErr};
@@ -6,25 +6,25 @@ ghost use Rattle.cc_stages.specs.declared.fault.StagesFault.TheVariants.{Unknown
 
 use crate::fault::StagesFault;
 use cc_emit::Piece;
-use cc_link::{Mode, compile_function_in, link_pieces_in};
+use cc_link::{Mode, link_pieces_in};
 use cc_rv32::listing::list;
 use cc_types::TypedUnit;
 use std::alloc::{AllocError, Global};
 use std::sync::Arc;
 
-// How many words stand before the functions.
+// How many words come before the functions.
 const START_WORDS: usize = 3;
 
 /// The listing of a unit's image.
 #[derive(Drop)]
 pub(crate) struct Listing {
     lines: Vec<u8>,
-    // Where the lines of function k begin, at k, and where those of the last one end.
+    // At k the place at which the lines of function k begin; then the end of the last one's.
     places: Vec<usize>,
 }
 
 impl Listing {
-    /// The lines of a function's code, none where the unit has no such function.
+    /// The lines of a function's code, none if the unit has no such function.
     pub(crate) fn of_function(&self, function: usize) -> &[u8] {
         let from = self.places.get(function).copied();
         let to = self.places.get(function.saturating_add(1)).copied();
@@ -33,23 +33,6 @@ impl Listing {
             _ => b"",
         }
     }
-}
-
-// The pieces of a unit's functions, in their order.
-fn pieces(alloc: Global, mode: Mode, unit: &Arc<TypedUnit>) -> Result<Vec<Piece>, StagesFault>
-    ensures { IfErr result (λ fault. ¬ (fault ≡ UnknownFunction)) }
-{
-    let mut pieces = Vec::new(alloc);
-    for function in 0..unit.functions() {
-        let piece = match compile_function_in(alloc, mode, unit, function) {
-            Ok(piece) => piece,
-            Err(fault) => return Err(StagesFault::Piece(fault)),
-        };
-        if pieces.push(piece).is_err() {
-            return Err(StagesFault::OutOfMemory);
-        }
-    }
-    Ok(pieces)
 }
 
 // How many words the code of each piece has.
@@ -61,7 +44,7 @@ fn sizes(alloc: Global, pieces: &[Piece]) -> Result<Vec<usize>, AllocError> {
     Ok(sizes)
 }
 
-// Where so many lines end that begin at an offset of a text; its end where it has fewer.
+// The end of so many lines that begin at an offset of a text; the text's end if it has fewer.
 fn behind_lines(text: &[u8], from: usize, count: usize) -> usize {
     let mut left = count;
     for at in from..text.len() {
@@ -75,7 +58,7 @@ fn behind_lines(text: &[u8], from: usize, count: usize) -> usize {
     text.len()
 }
 
-// Where the lines of each function begin, and where the last ones end.
+// The place at which the lines of each function begin, and the end of the last ones.
 fn places(alloc: Global, lines: &[u8], sizes: &[usize]) -> Result<Vec<usize>, AllocError> {
     let mut place = behind_lines(lines, 0, START_WORDS);
     let mut places = Vec::new(alloc);
@@ -106,16 +89,16 @@ fn lines(
     }
 }
 
-/// The listing of a unit's image. Refusals: 22 or 24 for the first function without a piece, 25 where there would be more than 131,072
-/// words of code, 40 where memory ran out.
+/// The listing of the image of a unit, whose pieces these are. Refusals: 25 if there would be more than 131,072 words of code, 40 if memory
+/// ran out.
 pub(crate) fn list_unit(
     alloc: Global,
     mode: Mode,
     unit: &Arc<TypedUnit>,
+    pieces: Vec<Piece>,
 ) -> Result<Listing, StagesFault>
     ensures { IfErr result (λ fault. ¬ (fault ≡ UnknownFunction)) }
 {
-    let pieces = pieces(alloc, mode, unit)?;
     let sizes = sizes(alloc, pieces.as_slice())?;
     let lines = lines(alloc, mode, unit, pieces)?;
     let places = places(alloc, lines.as_slice(), sizes.as_slice())?;

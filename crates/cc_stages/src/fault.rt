@@ -11,7 +11,7 @@ use thiserror::Error;
 /// Why a unit's stages are not written, or not to their end.
 #[derive(Debug, Drop, Error)]
 pub enum StagesFault {
-    /// 59: the unit defines no function of that name.
+    /// 59: the unit defines no function with that name.
     #[error("UnknownFunction")]
     UnknownFunction,
     /// 22, 24, 40: a function has no piece.
@@ -29,7 +29,7 @@ pub enum StagesFault {
 }
 
 impl StagesFault {
-    /// The fault's number: 22, 24, 25, 40, 54 or 59; 26 to 28 of a `LinkFault` that `stages` does not answer.
+    /// The fault's number: 22, 24, 25, 40, 54 or 59; or 26 to 28 of a `LinkFault`, which `stages` does not answer.
     pub fn number(&self) -> u32
         ensures { result ≡ fault_number self.now }
     {

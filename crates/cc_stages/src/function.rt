@@ -1,254 +1,134 @@
-// One function through the passes: each stage is written as it comes. Where a pass refuses the function, its stage says so and is the
-// last one.
+// One function through the passes, while its stages are written as they are seen. What refuses it is its last stage.
 
-ghost use Rattle.std.specs.Prelude.{◌≡◌, ◌<◌, length, IfErr};
+ghost use Rattle.std.specs.Prelude.{◌<◌, length};
 ghost use Rattle.std.specs.Arc.{arc_value};
 ghost use Rattle.cc_ast.specs.Source.{source};
 ghost use Rattle.cc_types.specs.Typed.{defined_names};
-ghost use Rattle.cc_cminor.specs.Exits.{ExitsFit};
-ghost use Rattle.cc_cminor.specs.Pair.{tree_of, code_of, FailsAlike};
-ghost use Rattle.cc_stages.specs.declared.fault.StagesFault.TheVariants.{UnknownFunction};
 
-use crate::fault::StagesFault;
-use crate::name::Name;
 use crate::stage::Stage;
 use crate::steps::write_steps;
-use cc_cminor::{CminorPair, to_cminor};
-use cc_colour::{colour, spill_all};
-use cc_guard::{GuardFault, guard};
-use cc_linear::linearise;
-use cc_linear_language::LinearPair;
-use cc_link::Mode;
-use cc_live::{drop_faint, liveness};
-use cc_ltl::Ltl;
-use cc_rtl::{Rtl, RtlFault, RtlPair, to_rtl};
-use cc_select::{SelectedPair, select};
+use cc_emit::Piece;
+use cc_link::{Allocation, Allocator, Mode, PieceFault, Seen, Watch, compile_watched_in};
 use cc_types::TypedUnit;
-use cc_validate::{LtlPair, Refused, ValidateFault, validate};
 use std::alloc::{AllocError, Global};
 use std::io::{self, Write};
 use std::sync::Arc;
 
-// What a pass made, where its text was written.
-fn kept<T: Drop>(made: T, written: io::Result<()>) -> Result<T, StagesFault>
-    ensures { IfErr result (λ fault. ¬ (fault ≡ UnknownFunction)) }
-{
-    match written {
-        Ok(()) => Ok(made),
-        Err(_) => Err(StagesFault::Write),
+// The word for who made LTL.
+fn word(allocator: Allocator) -> &'static str {
+    match allocator {
+        Allocator::Colour => "coloured",
+        Allocator::Spill => "spilled",
+        Allocator::Given => "given",
     }
 }
 
-// Cminor, and behind it that with guards where the image is a checked one.
-fn lowered<W: Write>(
+// Writes down what it sees of the function of this name.
+#[derive(Drop)]
+struct Writing<'a> {
+    name: &'a [u8],
+    text: Vec<u8>,
+    // Whether guards come next, or refuse the function.
+    awaits_guards: bool,
+}
+
+impl<'a> Writing<'a> {
+    fn new(alloc: Global, mode: Mode, name: &'a [u8]) -> Writing<'a> {
+        Writing {
+            name,
+            text: Vec::new(alloc),
+            awaits_guards: match mode {
+                Mode::Plain => false,
+                Mode::Checked => true,
+            },
+        }
+    }
+
+    // Writes what was seen: a stage, or of LTL first whose it is, and then how it was judged.
+    fn write(&mut self, seen: Seen<'_>) -> io::Result<()> {
+        match seen {
+            Seen::Cminor(pair) => Stage::Cminor.write(self.name, pair, &mut self.text),
+            Seen::Guarded(pair) => {
+                self.awaits_guards = false;
+                Stage::Guarded.write(self.name, pair, &mut self.text)
+            }
+            Seen::Rtl(rtl) => Stage::Rtl.write(self.name, rtl, &mut self.text),
+            Seen::Pruned(rtl) => {
+                Stage::Pruned.write(self.name, rtl, &mut self.text)?;
+                Stage::Ltl.begin(self.name, &mut self.text)
+            }
+            Seen::Allocated(allocator, _) => self.text.write_all(word(allocator).as_bytes()),
+            Seen::Refused(label) => writeln!(self.text, ": refused at label {label}"),
+            Seen::Validated(ltl) => write!(self.text, "\n{ltl}"),
+            Seen::Linear(pair) => Stage::Linear.write(self.name, pair, &mut self.text),
+            Seen::Selected(pair) => {
+                Stage::Selected.begin(self.name, &mut self.text)?;
+                write_steps(pair, &mut self.text)
+            }
+        }
+    }
+
+    // Writes why the function is too large: guards set too many variables, or its RTL has too many nodes.
+    fn write_too_large(&mut self) -> io::Result<()> {
+        let (stage, why) = if self.awaits_guards {
+            (Stage::Guarded, "refused: more than 2048 variables\n")
+        } else {
+            (Stage::Rtl, "refused: more than 4096 nodes\n")
+        };
+        stage.write(self.name, &why, &mut self.text)
+    }
+
+    // Writes the end: the line that begins its code, or why it has none if no stage says so yet.
+    fn write_end(&mut self, piece: &Result<Piece, PieceFault>) -> io::Result<()> {
+        match piece {
+            Ok(_) => Stage::Code.begin(self.name, &mut self.text),
+            Err(PieceFault::FunctionTooLarge { .. }) => self.write_too_large(),
+            Err(_) => Ok(()),
+        }
+    }
+}
+
+impl<'a> Watch for Writing<'a> {
+    fn see(&mut self, seen: Seen<'_>) -> Result<(), AllocError> {
+        match self.write(seen) {
+            Ok(()) => Ok(()),
+            Err(_) => Err(AllocError),
+        }
+    }
+}
+
+/// A function that went through the passes: its stages up to the line that begins its code, or to the one that refuses it, and its piece.
+#[derive(Drop)]
+pub(crate) struct Passed {
+    pub(crate) text: Vec<u8>,
+    pub(crate) piece: Result<Piece, PieceFault>,
+}
+
+/// Takes the function with a number through the passes.
+pub(crate) fn pass_function(
     alloc: Global,
     mode: Mode,
     unit: &Arc<TypedUnit>,
     function: usize,
-    name: Name<'_>,
-    writer: &mut W,
-) -> Result<CminorPair, StagesFault>
+) -> Passed
     requires { function < length (defined_names (source (arc_value unit.now))) }
-    ensures { IfErr result (λ fault. ¬ (fault ≡ UnknownFunction)) }
 {
-    let Ok(cminor) = to_cminor(alloc, unit, function) else {
-        return Err(StagesFault::OutOfMemory);
+    let mut writing = Writing::new(alloc, mode, unit.function_name(function));
+    let piece = compile_watched_in(
+        alloc,
+        mode,
+        unit,
+        function,
+        Allocation::Chosen,
+        &mut writing,
+    );
+    let piece = match writing.write_end(&piece) {
+        Ok(()) => piece,
+        Err(_) => {
+            drop(piece);
+            Err(PieceFault::OutOfMemory)
+        }
     };
-    if Stage::Cminor.write(name.bytes, &cminor, writer).is_err() {
-        drop(cminor);
-        return Err(StagesFault::Write);
-    }
-    match mode {
-        Mode::Plain => Ok(cminor),
-        Mode::Checked => guarded(alloc, cminor, name, writer),
-    }
-}
-
-// Cminor with its guards.
-fn guarded<W: Write>(
-    alloc: Global,
-    cminor: CminorPair,
-    name: Name<'_>,
-    writer: &mut W,
-) -> Result<CminorPair, StagesFault>
-    requires exits { ExitsFit 0 (code_of cminor) }
-    requires fails_alike { FailsAlike (tree_of cminor) cminor.function (code_of cminor) }
-    ensures { IfErr result (λ fault. ¬ (fault ≡ UnknownFunction)) }
-{
-    match guard(alloc, cminor) {
-        Ok(guarded) => {
-            let written = Stage::Guarded.write(name.bytes, &guarded, writer);
-            kept(guarded, written)
-        }
-        Err(GuardFault::FunctionTooLarge) => {
-            Stage::Guarded.write(name.bytes, &"refused: more than 2048 variables\n", writer)?;
-            Err(name.too_large())
-        }
-        Err(GuardFault::OutOfMemory) => Err(StagesFault::OutOfMemory),
-    }
-}
-
-// RTL as it is generated.
-fn generated<W: Write>(
-    alloc: Global,
-    cminor: CminorPair,
-    name: Name<'_>,
-    writer: &mut W,
-) -> Result<RtlPair, StagesFault>
-    ensures { IfErr result (λ fault. ¬ (fault ≡ UnknownFunction)) }
-{
-    match to_rtl(alloc, cminor) {
-        Ok(rtl) => {
-            let written = Stage::Rtl.write(name.bytes, rtl.code(), writer);
-            kept(rtl, written)
-        }
-        Err(RtlFault::FunctionTooLarge) => {
-            Stage::Rtl.write(name.bytes, &"refused: more than 4096 nodes\n", writer)?;
-            Err(name.too_large())
-        }
-        Err(RtlFault::OutOfMemory) => Err(StagesFault::OutOfMemory),
-    }
-}
-
-// RTL in which the nodes that nobody needs are nops.
-fn pruned<W: Write>(
-    alloc: Global,
-    mut rtl: RtlPair,
-    name: Name<'_>,
-    writer: &mut W,
-) -> Result<RtlPair, StagesFault>
-    ensures { IfErr result (λ fault. ¬ (fault ≡ UnknownFunction)) }
-{
-    if drop_faint(alloc, &mut rtl).is_err() {
-        return Err(StagesFault::OutOfMemory);
-    }
-    let written = Stage::Pruned.write(name.bytes, rtl.code(), writer);
-    kept(rtl, written)
-}
-
-// LTL by registers.
-fn coloured(alloc: Global, rtl: &Rtl) -> Result<Ltl, AllocError> {
-    let live = liveness(alloc, rtl)?;
-    colour(alloc, rtl, &live)
-}
-
-// Writes LTL behind a line that says which allocator's it is.
-fn write_ltl<W: Write>(allocator: &str, ltl: &LtlPair, writer: &mut W) -> io::Result<()> {
-    let code = ltl.code();
-    write!(writer, "{allocator}\n{code}")
-}
-
-// Writes that the validator refuses an allocator's answer, and at which label.
-fn write_refusal<W: Write>(allocator: &str, label: u32, writer: &mut W) -> io::Result<()> {
-    writeln!(writer, "{allocator}: refused at label {label}")
-}
-
-// LTL that the validator accepts: the colourer's, or where that is refused what spills everything.
-fn allocated<W: Write>(
-    alloc: Global,
-    rtl: RtlPair,
-    name: Name<'_>,
-    writer: &mut W,
-) -> Result<LtlPair, StagesFault>
-    ensures { IfErr result (λ fault. ¬ (fault ≡ UnknownFunction)) }
-{
-    let begun = Stage::Ltl.begin(name.bytes, writer);
-    let rtl = kept(rtl, begun)?;
-    let Ok(ltl) = coloured(alloc, rtl.code()) else {
-        return Err(StagesFault::OutOfMemory);
-    };
-    match validate(alloc, rtl, ltl) {
-        Ok(ltl) => {
-            let written = write_ltl("coloured", &ltl, writer);
-            kept(ltl, written)
-        }
-        Err(Refused { pair, fault }) => match fault {
-            ValidateFault::Unvalidated { label } => {
-                let written = write_refusal("coloured", label, writer);
-                spilled(alloc, kept(pair, written)?, name, writer)
-            }
-            ValidateFault::OutOfMemory => Err(StagesFault::OutOfMemory),
-        },
-    }
-}
-
-// LTL in which each pseudo-register has a slot of its own, where the validator accepts that.
-fn spilled<W: Write>(
-    alloc: Global,
-    rtl: RtlPair,
-    name: Name<'_>,
-    writer: &mut W,
-) -> Result<LtlPair, StagesFault>
-    ensures { IfErr result (λ fault. ¬ (fault ≡ UnknownFunction)) }
-{
-    let Ok(ltl) = spill_all(alloc, rtl.code()) else {
-        return Err(StagesFault::OutOfMemory);
-    };
-    match validate(alloc, rtl, ltl) {
-        Ok(ltl) => {
-            let written = write_ltl("spilled", &ltl, writer);
-            kept(ltl, written)
-        }
-        Err(Refused { fault, .. }) => match fault {
-            ValidateFault::Unvalidated { label } => {
-                write_refusal("spilled", label, writer)?;
-                Err(name.unvalidated(label))
-            }
-            ValidateFault::OutOfMemory => Err(StagesFault::OutOfMemory),
-        },
-    }
-}
-
-// Linear.
-fn linearised<W: Write>(
-    alloc: Global,
-    ltl: LtlPair,
-    name: Name<'_>,
-    writer: &mut W,
-) -> Result<LinearPair, StagesFault>
-    ensures { IfErr result (λ fault. ¬ (fault ≡ UnknownFunction)) }
-{
-    match linearise(alloc, ltl) {
-        Ok(linear) => {
-            let written = Stage::Linear.write(name.bytes, &linear, writer);
-            kept(linear, written)
-        }
-        Err(_) => Err(StagesFault::OutOfMemory),
-    }
-}
-
-// Writes the steps that selection gives.
-fn write_selected<W: Write>(
-    selected: &SelectedPair,
-    name: Name<'_>,
-    writer: &mut W,
-) -> io::Result<()> {
-    Stage::Selected.begin(name.bytes, writer)?;
-    write_steps(selected, writer)
-}
-
-/// Writes the stages of the function with a number, but for its code.
-///
-/// Refusals: 22 where it would have more than 4,096 nodes of RTL, or guards would set more than 2,048 variables; 24 where the validator refuses the LTL of both allocators; 40 where
-/// memory ran out; 54 where the text could not be written. The stages up to there are written.
-pub(crate) fn write_function<W: Write>(
-    alloc: Global,
-    mode: Mode,
-    unit: &Arc<TypedUnit>,
-    function: usize,
-    writer: &mut W,
-) -> Result<(), StagesFault>
-    requires { function < length (defined_names (source (arc_value unit.now))) }
-    ensures { IfErr result (λ fault. ¬ (fault ≡ UnknownFunction)) }
-{
-    let name = Name::of(unit, function);
-    let cminor = lowered(alloc, mode, unit, function, name, writer)?;
-    let rtl = generated(alloc, cminor, name, writer)?;
-    let rtl = pruned(alloc, rtl, name, writer)?;
-    let ltl = allocated(alloc, rtl, name, writer)?;
-    let linear = linearised(alloc, ltl, name, writer)?;
-    let Ok(selected) = select(alloc, linear) else {
-        return Err(StagesFault::OutOfMemory);
-    };
-    Ok(write_selected(&selected, name, writer)?)
+    let Writing { text, .. } = writing;
+    Passed { text, piece }
 }

@@ -1,13 +1,13 @@
-// The stages of a function, and how each is written: a line that begins it, `== f: RTL`, and its text.
+// The stages of a function, and how each is written: a line `== f: RTL` at its beginning, and then its text.
 
 use std::fmt::Display;
 use std::io::{self, Write};
 
-/// What is shown of a function, in this order.
+/// What is shown for a function, in this order.
 #[derive(Clone, Copy)]
 pub(crate) enum Stage {
     Cminor,
-    /// Cminor with its guards, of a checked image.
+    /// Cminor with its guards, for a checked image.
     Guarded,
     /// RTL as it is generated.
     Rtl,
@@ -23,7 +23,7 @@ pub(crate) enum Stage {
 }
 
 impl Stage {
-    // Its name in the line that begins it.
+    // Its name in the line at its beginning.
     fn title(self) -> &'static str {
         match self {
             Stage::Cminor => "Cminor",
@@ -37,7 +37,7 @@ impl Stage {
         }
     }
 
-    /// Writes the line that begins it, for the function of this name. No line of a stage begins with `==`.
+    /// Writes the line at its beginning, for the function with this name. No other line of a stage begins with `==`.
     pub(crate) fn begin<W: Write>(self, name: &[u8], writer: &mut W) -> io::Result<()> {
         let title = self.title();
         writer.write_all(b"== ")?;

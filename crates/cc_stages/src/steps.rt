@@ -2,9 +2,8 @@
 //
 // A step that is an item of Linear has that one's text. An operator has the word in place of its second register, `x7 = add x8, 12`; the
 // element of a number has the number in place of a register, `x7 = object0[3]` and `object0[3] = x8`, or a register and a word whose sum is
-// the number, `x7 = object0[x8 + 3]`; a branch has the comparison that
-// leads to the label where it holds, `branch lt_s x7, x8 -> 3`, or where it does not, `branch not lt_s x7, 12 -> 3`. Words are
-// unsigned.
+// the number, `x7 = object0[x8 + 3]`; a branch has the comparison, and leads to the label if it holds, `branch lt_s x7, x8 -> 3`, or if it
+// does not, `branch not lt_s x7, 12 -> 3`. Words are unsigned.
 
 use cc_linear_language::LinearItem;
 use cc_select::{SelectedPair, Step, WordOperator};
@@ -34,7 +33,7 @@ fn immediate_name(operator: WordOperator) -> &'static str {
     }
 }
 
-// What stands before the comparison of a branch: it goes to its label where the comparison holds, or where it does not.
+// The word before the comparison of a branch: it goes to its label if the comparison holds, or if it does not.
 fn sense(nonzero: bool) -> &'static str {
     if nonzero { "" } else { "not " }
 }
@@ -138,7 +137,7 @@ fn write_branch<W: Write>(step: &Step, writer: &mut W) -> io::Result<()> {
     }
 }
 
-// What stands before a step on its line: all but labels are set in.
+// The space before a step on its line: all but labels are set in.
 fn indent(step: &Step) -> &'static str {
     match step {
         Step::One(LinearItem::Label { .. }) => "",

@@ -1,4 +1,7 @@
 // The stages of a unit's functions, one function after the other.
+//
+// Each function goes through the passes once. The pieces are linked, and what is shown of a function is what was seen of the run that made
+// its piece; so texts wait until there is an image.
 
 ghost use Rattle.std.specs.Prelude.{◌≡◌, ◌<◌, ℕ, Some, IsNone, IfSome, IfErr, IsErrOf, MatchOption, length, slice_get};
 ghost use Rattle.std.specs.Arc.{arc_value};
@@ -9,11 +12,11 @@ ghost use Rattle.cc_stages.specs.declared.fault.StagesFault.TheVariants.{Unknown
 
 use crate::code::{Listing, list_unit};
 use crate::fault::StagesFault;
-use crate::function::write_function;
-use crate::stage::Stage;
-use cc_link::Mode;
+use crate::function::{Passed, pass_function};
+use cc_emit::Piece;
+use cc_link::{Mode, PieceFault, compile_function_in};
 use cc_types::TypedUnit;
-use std::alloc::Global;
+use std::alloc::{AllocError, Global};
 use std::io::{self, Write};
 use std::sync::Arc;
 
@@ -30,16 +33,91 @@ fn number_of(unit: &TypedUnit, name: &[u8]) -> Option<usize>
     None
 }
 
-// Writes the last stage of a function: the lines of its code; if there are none, whether memory ran out or the unit has no image.
+// The stages of a function that is wanted. The last one is its code, whose lines come after the text, if it has a piece.
+#[derive(Drop)]
+struct Shown {
+    function: usize,
+    text: Vec<u8>,
+    has_piece: bool,
+}
+
+// What became of a unit's functions.
+#[derive(Drop)]
+struct Run {
+    shown: Vec<Shown>,
+    // Their pieces, in their order, up to the first function that is refused.
+    pieces: Vec<Piece>,
+    // Why there is no image: the first refusal, or that of the last function shown.
+    refused: Option<PieceFault>,
+}
+
+impl Run {
+    fn new(alloc: Global) -> Run {
+        Run {
+            shown: Vec::new(alloc),
+            pieces: Vec::new(alloc),
+            refused: None,
+        }
+    }
+
+    // Shows a function that is wanted: whether the run goes on.
+    fn show(&mut self, function: usize, passed: Passed) -> Result<bool, AllocError> {
+        let Passed { text, piece } = passed;
+        let has_piece = piece.is_ok();
+        match piece {
+            Ok(piece) => self.pieces.push(piece)?,
+            Err(fault) => self.refused = Some(fault),
+        }
+        self.shown.push(Shown {
+            function,
+            text,
+            has_piece,
+        })?;
+        Ok(has_piece)
+    }
+
+    // Adds a function that is not wanted.
+    fn add(&mut self, piece: Result<Piece, PieceFault>) -> Result<(), AllocError> {
+        match piece {
+            Ok(piece) => {
+                self.pieces.push(piece)?;
+                Ok(())
+            }
+            Err(fault) => {
+                self.refused = Some(fault);
+                Ok(())
+            }
+        }
+    }
+}
+
+// Takes a unit's functions through the passes, and shows each, or the one that is wanted.
+fn pass_functions(
+    alloc: Global,
+    mode: Mode,
+    unit: &Arc<TypedUnit>,
+    wanted: Option<usize>,
+) -> Result<Run, AllocError> {
+    let mut run = Run::new(alloc);
+    for function in 0..unit.functions() {
+        if wanted.is_none_or(|wanted| wanted == function) {
+            let passed = pass_function(alloc, mode, unit, function);
+            if !run.show(function, passed)? {
+                return Ok(run);
+            }
+        } else if run.refused.is_none() {
+            run.add(compile_function_in(alloc, mode, unit, function))?;
+        }
+    }
+    Ok(run)
+}
+
+// Writes the lines of a function's code; if there are none, whether memory ran out or the unit has no image.
 fn write_code<W: Write>(
-    unit: &TypedUnit,
     function: usize,
     code: &Result<Listing, StagesFault>,
     writer: &mut W,
-) -> io::Result<()>
-    requires { function < length (defined_names (source unit.now)) }
-{
-    Stage::Code.begin(unit.function_name(function), writer)?;
+) -> io::Result<()> {
     match code {
         Ok(listing) => writer.write_all(listing.of_function(function)),
         Err(fault) if fault.number() == 40 => writeln!(writer, "none: memory ran out"),
@@ -47,33 +125,70 @@ fn write_code<W: Write>(
     }
 }
 
-// Writes all stages of each function, or of the one that is wanted.
+// Writes the stages.
 fn write_all<W: Write>(
-    alloc: Global,
-    mode: Mode,
-    unit: &Arc<TypedUnit>,
-    wanted: Option<usize>,
+    shown: &[Shown],
     code: &Result<Listing, StagesFault>,
     writer: &mut W,
-) -> Result<(), StagesFault>
-    ensures { IfErr result (λ fault. ¬ (fault ≡ UnknownFunction)) }
-{
-    for function in 0..unit.functions() {
-        if wanted.is_none_or(|wanted| wanted == function) {
-            write_function(alloc, mode, unit, function, writer)?;
-            write_code(unit, function, code, writer)?;
+) -> io::Result<()> {
+    for it in shown {
+        writer.write_all(it.text.as_slice())?;
+        if it.has_piece {
+            write_code(it.function, code, writer)?;
         }
     }
     Ok(())
 }
 
+// The listing of the image of a unit's pieces, if all functions have one.
+fn listing(
+    alloc: Global,
+    mode: Mode,
+    unit: &Arc<TypedUnit>,
+    pieces: Vec<Piece>,
+    refused: Option<PieceFault>,
+) -> Result<Listing, StagesFault>
+    ensures { IfErr result (λ fault. ¬ (fault ≡ UnknownFunction)) }
+{
+    match refused {
+        Some(fault) => Err(StagesFault::Piece(fault)),
+        None => list_unit(alloc, mode, unit, pieces),
+    }
+}
+
+// Writes the stages of each function, or of the one that is wanted.
+fn write_stages<W: Write>(
+    alloc: Global,
+    mode: Mode,
+    unit: &Arc<TypedUnit>,
+    wanted: Option<usize>,
+    writer: &mut W,
+) -> Result<(), StagesFault>
+    ensures { IfErr result (λ fault. ¬ (fault ≡ UnknownFunction)) }
+{
+    let Run {
+        shown,
+        pieces,
+        refused,
+    } = pass_functions(alloc, mode, unit, wanted)?;
+    let code = listing(alloc, mode, unit, pieces, refused);
+    if write_all(shown.as_slice(), &code, writer).is_err() {
+        drop(code);
+        return Err(StagesFault::Write);
+    }
+    match code {
+        Ok(_) => Ok(()),
+        Err(fault) => Err(fault),
+    }
+}
+
 /// Writes the stages of each function of a unit in a mode, in the order of definitions, or those of the function of that name alone. Each stage begins
 /// with a line `== f: RTL`; then come its lines, as docs/INTERMEDIATE.md has them. The last stage has the function's lines of the image's
-/// listing. The writer is not flushed.
+/// listing. All stages of a function are of one run of the passes. The writer is not flushed.
 ///
-/// Refusals: 59 where no function has that name, with nothing written. Where a function has no piece (22, 24) its stages end with the one
-/// that says so, and nothing comes behind it. Where the unit has no image, for a function that is not wanted (22, 24) or for its
-/// size (25), the wanted functions have all other stages. 40 where memory ran out, 54 where the text could not be written: it may end
+/// Refusals: 59 if no function has that name, with nothing written. If a function has no piece (22, 24), its stages end with the one
+/// that says so, and nothing comes after it. If the unit has no image, for a function that is not wanted (22, 24) or for its
+/// size (25), the wanted functions have all other stages. 40 if memory ran out, 54 if the text could not be written: it may end
 /// anywhere then.
 pub fn stages<W: Write>(
     alloc: Global,
@@ -92,10 +207,5 @@ pub fn stages<W: Write>(
         },
         None => None,
     };
-    let code = list_unit(alloc, mode, unit);
-    write_all(alloc, mode, unit, wanted, &code, writer)?;
-    match code {
-        Ok(_) => Ok(()),
-        Err(fault) => Err(fault),
-    }
+    write_stages(alloc, mode, unit, wanted, writer)
 }

@@ -1,2 +1,2 @@
--- What a run comes to by two numbers of steps.
+-- A run within two numbers of steps.
 pub mod Counting

@@ -1,2 +1,2 @@
--- How many steps a run takes.
+-- The number of steps of a run.
 pub mod Count

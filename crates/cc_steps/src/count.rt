@@ -1,8 +1,8 @@
-// How many steps a run takes.
+// Counts the steps of a run.
 //
-// The interpreter tells how a run comes out within a bound, and not when. A run that ends by some bound ends by each larger one, so the least is
-// found by halves. No bound is tried that is more than one above twice the steps in which the run is known to go on: a search costs some runs of twice the
-// length, and never one of the whole bound.
+// The interpreter says how a run comes out within a bound, but not after how many steps. A run that ends within some bound ends within each
+// larger one, so the least is found by bisection. No bound is tried that is more than one above twice the number of steps in which the run
+// is known to go on. So a search costs some runs of twice the length, and never one of the whole bound.
 
 ghost use Rattle.std.specs.Prelude.{◌≡◌, ◌≢◌, ◌↔◌, IsTrue, IfOk};
 ghost use Rattle.cc_c_laws.specs.Outcome as outcome;
@@ -15,21 +15,21 @@ use cc_meaning::{MeaningFault, Outcome, Stop, interpret, runs_go_on};
 use cc_types::TypedUnit;
 use std::alloc::Global;
 
-/// How a run comes out, and in how many steps.
+/// How a run comes out, and after how many steps.
 #[derive(Drop)]
 pub struct CountedOutcome {
     pub outcome: Outcome,
     pub steps: u64,
 }
 
-// Whether a run still goes.
+// Whether a run is still going.
 fn is_going(done: &Outcome) -> bool
     ensures { IsTrue result ↔ ((outcome_tree done.now).stop ≡ outcome.Going) }
 {
     matches!(done.stop, Stop::Going)
 }
 
-// Whether a program still goes within these steps.
+// Whether a program is still going after these steps.
 fn goes(alloc: Global, unit: &TypedUnit, input: &[u32], steps: u64) -> Result<bool, MeaningFault>
     ensures { IfOk result (λ goes. IsTrue goes ↔ ((source_behavior (source unit.now) input.now steps).stop ≡ outcome.Going)) }
 {
@@ -43,7 +43,7 @@ fn goes(alloc: Global, unit: &TypedUnit, input: &[u32], steps: u64) -> Result<bo
     }
 }
 
-// The least number of steps by which a program that does not go any more within this bound has ended.
+// The least number of steps within which a program has ended, if it ends within this bound.
 fn least(alloc: Global, unit: &TypedUnit, input: &[u32], bound: u64) -> Result<u64, MeaningFault>
     requires { (source_behavior (source unit.now) input.now bound).stop ≢ outcome.Going }
     ensures { IfOk result (IsStepCount (source unit.now) bound input.now) }
@@ -62,8 +62,8 @@ fn least(alloc: Global, unit: &TypedUnit, input: &[u32], bound: u64) -> Result<u
     Ok(high)
 }
 
-/// What a program does on the words of an input within `steps` steps, and the least number of steps with that end; of a run that still goes then,
-/// the bound. 40 where memory runs out.
+/// What a program does on the words of an input within `steps` steps, and the least number of steps with that result; the bound, if the run
+/// is still going then. 40 if memory runs out.
 pub fn interpret_counted(
     alloc: Global,
     unit: &TypedUnit,

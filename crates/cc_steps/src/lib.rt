@@ -1,7 +1,7 @@
 //! Runs with a count: of a program by the meaning of C, and of its image on the machine.
 //!
-//! `count` runs a program and counts its steps; what counts the instructions of an image is `cc_runs`, and is handed on. Hands out
-//! `interpret_counted`, `run_counted`, `write_counted_run`, their types, and the definition that the contract names (`specs/`).
+//! `count` runs a program and counts its steps. `cc_runs` counts the instructions of an image, and is handed on. The crate hands out
+//! `interpret_counted`, `run_counted`, `write_counted_run`, their types, and the definition that the contract cites (`specs/`).
 #![tactic(auto)]
 
 mod count;

@@ -1,7 +1,7 @@
 -- What is printed of the answer to a script that was sent, and the status.
 use Rattle.std.specs.Prelude.{◌≡◌, ◌⊎◌, ◌||◌, ℕ, Bool, true, false, IsTrue, List, [], ◌∷◌, ◌++◌, Option, Some, None, codes}
 use Rattle.std.specs.Io.KnownBytes.{Appends}
-use Rattle.cc_script.specs.Line.{ScriptRequest, Add, Replace, Withdraw, Names, Run, Compact, Audit, Image, Source, AuditOne, Update, Call, asked_of}
+use Rattle.cc_script.specs.Line.{ScriptRequest, Add, Replace, Withdraw, Names, Run, Compact, Audit, Image, Source, AuditOne, Update, Call, Space, asked_of}
 use Rattle.cc_script.specs.declared.command.Dialect.TheVariants.{Served}
 use Rattle.cc_spool.specs.Answer.{framed}
 use Rattle.cc_spool.specs.Parts.{TellsFault}
@@ -26,6 +26,7 @@ has_bytes (Some (Source name)) = false
 has_bytes (Some (AuditOne name)) = false
 has_bytes (Some (Update name expected length)) = false
 has_bytes (Some (Call name steps length)) = true
+has_bytes (Some Space) = false
 
 -- one that has two sources after it
 abbrev pub has_two_sources : Option ScriptRequest → Bool
@@ -47,6 +48,7 @@ is_whole (Some (Source name)) = true
 is_whole (Some (AuditOne name)) = true
 is_whole (Some (Update name expected length)) = false
 is_whole (Some (Call name steps length)) = false
+is_whole (Some Space) = true
 
 -- a line whose answer is a source
 abbrev pub asks_source : Option ScriptRequest → Bool

@@ -3,3 +3,5 @@
 pub mod Sent
 -- What is done of a submission.
 pub mod Finished
+-- What is sent of a line with bytes after it.
+pub mod Script

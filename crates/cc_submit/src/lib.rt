@@ -1,10 +1,11 @@
 //! The command `submit`: a script for a server.
 //!
-//! `submitting` makes a script of the words of a command and what comes on standard input, leaves it in the server's folder, and writes what
-//! became of it. It knows no session, so it is proved beside `cc_session`. Hands out `submit_script`,
+//! `submitting` takes the words of a command and what comes on standard input, makes a script of them with `sent`, leaves it in the server's
+//! folder, and writes what became of it. It knows no session, so it is proved beside `cc_session`. Hands out `submit_script`,
 //! and `submit_to` for writers of any kind, which hands back an `Ended`.
 #![tactic(auto)]
 
+mod sent;
 mod submitting;
 
 pub use submitting::{Ended, submit_script, submit_to};

@@ -9,6 +9,7 @@ ghost use Rattle.cc_submit.specs.Printed.{Prints, PrintsWell, Says, SaysRefused,
 ghost use Rattle.cc_submit.specs.internal.Finished.{Ends, Finishes, FinishesFault, FinishesSource, FinishesWell, came_of, status_of};
 ghost use Rattle.cc_submit.specs.internal.Sent.{is_fetch};
 
+use crate::sent::{script_with, update_script};
 use cc_answers::{Persons, Telling, explain_bad_line, explain_no_command, explain_words, words_of};
 use cc_command_line::Submitter;
 use cc_screen::Screen;
@@ -18,7 +19,7 @@ use cc_spool::{FolderLayout, SpoolFault, Submission, fault_lines, source_in, sub
 use cc_task::Task;
 use cc_tasks::{perform_and_explain, perform_texts_and_explain, read_or_refuse};
 use std::alloc::{AllocError, Global};
-use std::io::{self, BufWriter, Input, IsTerminal, Print, Read, Write};
+use std::io::{self, BufWriter, Input, Read, Write};
 
 /// The most bytes of a source that are sent: one more than a source may have, so that the server sees that it is too long.
 const MOST_SOURCE: usize = 65_537;
@@ -157,14 +158,16 @@ fn source_on_input<R: Input>(rt: &R, alloc: Global) -> io::Result<Vec<u8>> {
     Ok(source)
 }
 
+// At which byte the source begins in a script that ends with it and a newline.
+fn begin_of(script: &[u8], source: &[u8]) -> usize {
+    script.len().saturating_sub(source.len()).saturating_sub(1)
+}
+
 // What is sent of a line with input words.
 fn words_after<'a>(alloc: Global, line: &str, words: &str) -> io::Result<Sent<'a>>
     ensures { IfOk result (λ sent. is_fetch sent ≡ false) }
 {
-    let text = format!(in alloc; "{line} {}\n{words}\n", words.len())?;
-    let mut bytes = Vec::new(alloc);
-    bytes.extend_from_slice(text.as_bytes())?;
-    Ok(Sent::Line(bytes))
+    Ok(Sent::Line(script_with(alloc, line, words.as_bytes())?))
 }
 
 // What is sent of a line with a source.
@@ -176,14 +179,10 @@ fn source_after<'a, R: Input>(
 ) -> io::Result<Sent<'a>>
     ensures { IfOk result (λ sent. is_fetch sent ≡ false) }
 {
-    let mut bytes = Vec::new(alloc);
     let source = source(rt, alloc, origin)?;
-    let text = format!(in alloc; "{line} {}\n", source.len())?;
-    bytes.extend_from_slice(text.as_bytes())?;
-    let begin = bytes.len();
-    bytes.extend_from_slice(source.as_slice())?;
-    bytes.push(b'\n')?;
-    Ok(Sent::Source(bytes, begin, origin))
+    let script = script_with(alloc, line, source.as_slice())?;
+    let begin = begin_of(script.as_slice(), source.as_slice());
+    Ok(Sent::Source(script, begin, origin))
 }
 
 // What is sent of a line with the source that is expected, if there is one, and a source.
@@ -199,16 +198,10 @@ fn sources_after<'a, R: Input>(
     let Some(expected) = expected else {
         return Err(io::Error::from(io::ErrorKind::InvalidInput));
     };
-    let mut bytes = Vec::new(alloc);
     let source = source(rt, alloc, origin)?;
-    let text = format!(in alloc; "{line} {} {}\n", expected.len(), source.len())?;
-    bytes.extend_from_slice(text.as_bytes())?;
-    bytes.extend_from_slice(expected)?;
-    bytes.push(b'\n')?;
-    let begin = bytes.len();
-    bytes.extend_from_slice(source.as_slice())?;
-    bytes.push(b'\n')?;
-    Ok(Sent::Source(bytes, begin, origin))
+    let script = update_script(alloc, line, expected, source.as_slice())?;
+    let begin = begin_of(script.as_slice(), source.as_slice());
+    Ok(Sent::Source(script, begin, origin))
 }
 
 // What is sent of a line that is a command, with its input words or the source that it expects, if it has one of these.
@@ -645,25 +638,27 @@ pub fn submit_to<R: AllocGlobal + Input, W: Write, E: Write + Drop>(
 }
 
 /// Leaves a script for the server of a folder, and prints its answer, as `submit_to` does; the status. The source of a line that takes one is in
-/// the files of these names, or on standard input if there are none. On a terminal control bytes of the answer are shown as `?`. The error is
-/// lack of memory before it began.
-pub fn submit_script<R: AllocGlobal + Input + Print, E: Write + Drop>(
+/// the files of these names, or on standard input if there are none. If the answer is seen by a person control bytes of it are shown as `?`. The
+/// error is lack of memory before it began.
+pub fn submit_script<R: AllocGlobal + Input, A: Write + Drop, E: Write + Drop>(
     rt: &R,
     files: &HostRuntime,
     process: u32,
     asked: &Submitter,
     names: &[String],
     persons: Persons,
+    is_seen: bool,
+    answers: A,
     errors: E,
 ) -> Result<u8, AllocError> {
     let alloc = rt.alloc();
     let (Ok(buffered), Ok(errors)) = (
-        BufWriter::new(alloc, io::writer(rt)),
+        BufWriter::new(alloc, answers),
         BufWriter::new(alloc, errors),
     ) else {
         return Err(AllocError);
     };
-    let mut writer = Screen::new(buffered, files.stdout().is_terminal());
+    let mut writer = Screen::new(buffered, is_seen);
     let mut told = Telling {
         errors,
         is_quiet: persons.is_quiet,

@@ -1,6 +1,6 @@
--- A text has exactly one answer. That there is one: its tokens or its first error, and then the parser's own run over the
--- tokens (Verdict). That there is no other: tokens, error and tree are determined, and of two tokens that break the grammar
--- or a limit the earlier one is no later one's.
+-- Each text has exactly one answer. There is at least one, because a text has tokens or a first error, and the parser runs over
+-- the tokens (Verdict). There is at most one, because tokens, error and tree are determined, and of two tokens that break the
+-- grammar or a limit only the earlier one is the first.
 use Rattle.std.proofs.Common.{◌≡◌, ◌<◌, ◌≤◌, ◌+◌, ◌⊎◌, inl, inr, ℕ, zero, suc, List, [], ◌∷◌, ◌++◌, length, take, drop, get_or, Option, Some, None, Result, Ok, Err, refl, sym, ap, subst, ◌∙◌, arith, append_assoc}
 use Rattle.std.proofs.lemmas.List.{map-append, take-append-drop, take_all}
 use Rattle.std.proofs.lemmas.Bool.{cases_lt, cases_order}
@@ -26,7 +26,7 @@ use Rattle.cc_syntax.proofs.Parsed.{same_tree}
 
 -- ---- at most one
 
--- token number k is the one that is refused, in the way of the fault
+-- token number k is refused, with this fault
 abbrev RefusedAt : List ℕ → List Lexeme → ℕ → SyntaxFault → Type 0
 RefusedAt text tokens k f =
     (UnexpectedAt tokens k × (f ≡ fault.Unexpected (place_at_token text tokens k)))
@@ -67,7 +67,7 @@ error_one text e f h k =
 plain_append : (a b : List Measured) → plain_tokens (a ++ b) ≡ plain_tokens a ++ plain_tokens b
 plain_append a b = map-append (λ (p : Measured). p.token) a b
 
--- what begins with the first m tokens begins with the first n of them
+-- if some unit begins with the first m tokens, one begins with the first n
 begins_prefix : (tokens : List Lexeme) (n m : ℕ) → n ≤ m → Begins (take m tokens) → Begins (take n tokens)
 begins_prefix tokens n m h b =
     let cut : take m tokens ≡ take n tokens ++ drop n (take m tokens) =
@@ -77,7 +77,7 @@ begins_prefix tokens n m h b =
       (b.2.0, b.2.1, b.2.2 ∙ ap (λ (z : List Lexeme). z ++ b.0) cut ∙ append_assoc (take n tokens) (drop n (take m tokens)) b.0),
     )
 
--- a unit begins with the tokens up to one that is too deep in it
+-- some unit begins with the tokens up to and including one that is too deep in it
 deep_begins : (tokens : List Lexeme) (k : ℕ) → TooDeepAt tokens k → Begins (take (suc k) tokens)
 deep_begins tokens k d =
     let whole : plain_tokens (d.0 ++ d.2 ∷ d.1) ≡ take (suc k) tokens ++ plain_tokens d.1 =
@@ -85,7 +85,7 @@ deep_begins tokens k d =
     ∙ ap (λ (z : List Lexeme). z ++ plain_tokens d.1) d.7 in
     (plain_tokens d.1, d.3, (d.0 ++ d.2 ∷ d.1, d.6, whole))
 
--- not both at one token
+-- one token is not both
 not_both : (tokens : List Lexeme) (k : ℕ) → UnexpectedAt tokens k → TooDeepAt tokens k → ⊥
 not_both tokens k (inl u) d = u.1 (deep_begins tokens k d)
 not_both tokens k (inr u) d = let inside = d.4 in let end = u.0 in omega arith
@@ -95,7 +95,7 @@ refused_within text tokens k f (inl (inl u, e)) = let inside = u.0 in omega arit
 refused_within text tokens k f (inl (inr u, e)) = let end = u.0 in omega arith
 refused_within text tokens k f (inr (d, e)) = let inside = d.4 in omega arith
 
--- no token that is refused stands before one up to which all is fine
+-- no token is refused before one up to which all is fine
 not_before : (text : List ℕ) (tokens : List Lexeme) (k j : ℕ) (f : SyntaxFault) → k < j → j ≤ length tokens → RefusedAt text tokens k f → IsFineBefore tokens j → ⊥
 not_before text tokens k j f h i (inl (inl u, e)) fine = u.1 (begins_prefix tokens (suc k) j (omega (arith, h)) fine.0)
 not_before text tokens k j f h i (inl (inr u, e)) fine = let end = u.0 in omega arith
@@ -107,7 +107,7 @@ at_one text tokens k f g (inl (u, e)) (inr (d, i)) = absurd (not_both tokens k u
 at_one text tokens k f g (inr (d, e)) (inl (v, i)) = absurd (not_both tokens k v d)
 at_one text tokens k f g (inr (d, e)) (inr (c, i)) = e ∙ sym i
 
--- the first token that is refused is one
+-- the first refused token is the same in both
 refused_one : (text : List ℕ) (tokens : List Lexeme) (k j : ℕ) (f g : SyntaxFault) → IsFineBefore tokens k → RefusedAt text tokens k f → IsFineBefore tokens j → RefusedAt text tokens j g → f ≡ g
 refused_one text tokens k j f g fine here fine' here' = by (cases_order k j)
   where
@@ -201,7 +201,7 @@ module _ (text : List ℕ) (tokens : List Lexeme) (fits : length text ≤ 65536)
   abbrev token_number : ℕ → Lexeme
   token_number k = get_or tokens k no_token
 
-  -- at token number k, where `on` goes on after it
+  -- at token number k, given how to continue after it
   at_token : (k : ℕ) (s : State) → k < length tokens → Reached s (take k tokens) → ((m : State) → Reached m (take (suc k) tokens) → Answers text) → Answers text
   at_token k s inside r on = by (step s (token_number k)) refl
     where

@@ -1,5 +1,5 @@
--- From every state some tokens lead to the end of a unit: an operand where one is missing, what closes each part that is
--- open, an empty statement for the part of an `if` or a loop, a closing brace for each block.
+-- From every state some tokens lead to the end of a unit: an operand if one is missing, what closes each part that is open, an
+-- empty statement for the part of an `if` or a loop, and a closing brace for each block.
 use Rattle.std.proofs.Common.{◌≡◌, ℕ, Bool, true, false, suc, List, [], ◌∷◌, ◌++◌, Option, Some, None, refl, ap, ◌∙◌, arith}
 use Rattle.cc_tokens.specs.declared.scalar.Scalar.{Scalar}
 use Rattle.cc_tokens.specs.declared.scalar.Scalar.TheVariants as scalar
@@ -22,7 +22,7 @@ use Rattle.cc_syntax.proofs.ReadsExpression.{precedence-within}
 use Rattle.cc_syntax.proofs.ReadsAction.{Closes, terminator, behind, acted-behind, action-closes, named-ends}
 use Rattle.cc_syntax.proofs.ReadsDeclaration.{declared_state, declares-state}
 
--- the tree of a unit has an external declaration
+-- a unit has an external declaration
 abbrev pub IsUnit : List External → Type 0
 IsUnit [] = ⊥
 IsUnit (e ∷ es) = Unit {0}
@@ -34,14 +34,14 @@ pub record Finishes (s : State) : Type 0 where
   pub unit : IsUnit tree
   pub runs : Runs s rest (AtFile tree Between)
 
--- a token of a kind
+-- a token of this kind
 abbrev of : TokenKind → Lexeme
 of k = record { kind = k; text = []; at = 0 }
 
 abbrev mark : Punctuator → TokenKind
 mark p = kind.Punctuator p
 
--- by one token more
+-- by one more token
 by : (s m : State) (k : TokenKind) → step s (of k) ≡ Some m → Finishes m → Finishes s
 by s m k h f = record { rest = standing s (of k) m ∷ f.rest; tree = f.tree; unit = f.unit; runs = (m, h, refl, refl, f.runs) }
 
@@ -65,7 +65,7 @@ finish_sized es n size =
     let o = Objects (scalar_of n.kind) (with_object n (array_of n.kind n.name size [])) in
     by _ (AtFile (es ++ o ∷ []) Between) (mark punctuator.Semicolon) refl (finished es o)
 
--- an array ends everywhere; of `unsigned char` nothing else does
+-- an array can end a declaration of any kind; for `unsigned char` nothing else can
 finish_named : (es : List External) (n : Naming) → Finishes (AtFile es (ObjectNamed n))
 finish_named es n = by _ (AtFile es (Sizing n)) (mark punctuator.OpenBracket) refl (by _ (AtFile es (Sized n None)) (mark punctuator.CloseBracket) refl (finish_sized es n None))
 
@@ -108,7 +108,7 @@ finish_top b h =
 abbrev zero_of : Expr
 zero_of = Number scalar.Int 0
 
--- after a complete statement, by the statements that are open
+-- after a complete statement, by the open statements
 finish_settled : (os : List Open) (w : Bool) (b : Inside) (s : Stmt) → Finishes (in_body (settled w b os s))
 finish_settled [] w b s = finish_top (record { externals = b.externals; signature = b.signature; finished = with_last b.finished s; opened = [] }) refl
 finish_settled (InBlock ss ∷ os) w b s =
@@ -193,7 +193,7 @@ ends_whole : (c : Context) (n : ℕ) (e : Expr) → EndsWhole c n e
 ends_whole (OfBody b p) n e = ends_body p b n e
 ends_whole (OfObject es v p) n e = ends_object p es v n e
 
--- a token that closes what waits, or ends the whole
+-- a token that closes a pending part, or ends the whole expression
 record Ends (c : Context) (n : ℕ) (ws : List Waiting) (e : Expr) : Type 0 where
   last : TokenKind
   after : State
@@ -204,7 +204,7 @@ record Ends (c : Context) (n : ℕ) (ws : List Waiting) (e : Expr) : Type 0 wher
 end_token : (c : Context) (n : ℕ) (ws : List Waiting) (e : Expr) → Ends c n ws e → Finishes (operator c n ws e)
 end_token c n ws e h = by _ h.after h.last (h.closes (full_of c ws n) e ∙ h.goes ws) h.finishes
 
--- what waits for an operand has it already
+-- a pending part has its operand already
 earlier : (c : Context) (n : ℕ) (ws us : List Waiting) (e d : Expr) → reduced 1 us d ≡ reduced 1 ws e → Ends c n ws e → Ends c n us d
 earlier c n ws us e d same h =
     record { last = h.last; after = h.after; closes = h.closes; goes = λ vs. ap (λ (r : Expr × List Waiting). close (full_of c vs n) (role_of h.last) r) same ∙ h.goes vs; finishes = h.finishes }

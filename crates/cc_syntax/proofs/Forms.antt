@@ -1,4 +1,4 @@
--- The states of the parser in a full expression, and how tokens are counted there.
+-- The parser's states in a full expression, and how tokens are counted there.
 use Rattle.std.proofs.Common.{◌≡◌, ◌<◌, ◌≤◌, ℕ, suc, List, [], ◌∷◌, ◌++◌, refl, sym, ap, subst, cond, leb, arith}
 use Rattle.std.proofs.lemmas.Bool.{lt-leb, le-leb}
 use Rattle.cc_tokens.specs.Token.{Lexeme}
@@ -13,7 +13,7 @@ operand c n ws = InFull (full_of c ws n) Operand
 abbrev pub operator : Context → ℕ → List Waiting → Expr → State
 operator c n ws e = InFull (full_of c ws n) (Operator e)
 
--- how many tokens there are after those of a list
+-- the count after the tokens of a list
 abbrev pub count_after : ℕ → List Lexeme → ℕ
 count_after n [] = n
 count_after n (x ∷ xs) = count_after (suc n) xs
@@ -26,18 +26,18 @@ pub full_after-append : (n : ℕ) (xs ys : List Lexeme) → full_after n (xs ++ 
 full_after-append n [] ys = refl
 full_after-append n (x ∷ xs) ys = ap (λ (ps : List Measured). record { token = x; count = suc n; level = 0 } ∷ ps) (full_after-append (suc n) xs ys)
 
--- two parts of one full expression
+-- a run over two parts of one full expression
 pub runs-full : (s m e : State) (n : ℕ) (xs ys : List Lexeme) → Runs s (full_after n xs) m → Runs m (full_after (count_after n xs) ys) e → Runs s (full_after n (xs ++ ys)) e
 runs-full s m e n xs ys h k = subst (λ (ps : List Measured). Runs s ps e) (sym (full_after-append n xs ys)) (runs-append s m e (full_after n xs) (full_after (count_after n xs) ys) h k)
 
--- what waits binds as tightly as the level, or not
+-- a pending part binds as tightly as the level, or does not
 pub pops : {A : Type 0} (q t : ℕ) (x y : A) → q ≤ t → cond (leb q t) x y ≡ x
 pops q t x y h = ap (λ v. cond v x y) (le-leb q t h)
 
 pub keeps : {A : Type 0} (q t : ℕ) (x y : A) → t < q → cond (leb q t) x y ≡ y
 keeps q t x y h = ap (λ v. cond v x y) (lt-leb q t h)
 
--- nothing that waits binds as tightly as an operator of the level
+-- no pending part binds as tightly as an operator of the level
 abbrev pub Fits : ℕ → List Waiting → Type 0
 Fits l (Prefix op ∷ ws) = 12 ≤ l
 Fits l (Casting t ∷ ws) = 12 ≤ l

@@ -1,4 +1,4 @@
--- Reading a token keeps what the tokens before the state spell, whatever the state. So what a run has read is spelled.
+-- In every state, reading a token extends what the tokens so far spell. So what a run has read is spelled.
 use Rattle.std.proofs.Common.{ℕ, List, [], ◌∷◌, ◌++◌, Option, refl, sym, ap, subst, ◌∙◌, append_assoc}
 use Rattle.std.proofs.lemmas.List.{append-nil}
 use Rattle.cc_tokens.specs.Token.{Lexeme}

@@ -1,4 +1,4 @@
--- Reading a token keeps what the tokens before the state spell: in a function's body, outside of full expressions.
+-- Reading a token extends what the tokens so far spell: in a function's body, outside full expressions (first part).
 use Rattle.std.proofs.Common.{◌≡◌, ℕ, Bool, true, false, suc, List, [], ◌∷◌, ◌++◌, Option, Some, refl, sym, ap, subst, ◌∙◌, append_assoc}
 use Rattle.std.proofs.lemmas.Bool.{false≢true}
 use Rattle.std.proofs.lemmas.List.{append-nil}
@@ -60,7 +60,7 @@ settled-so_far (InFor a e l ∷ os) w b s before inner h k c closed =
     subst (λ (z : List Measured). InBodySoFar (settled w b os (For a e l s)) z) (sym (regrouped before h.0 h.1 inner h.4))
     (settled-so_far os w b (For a e l s) h.0 (h.1 ++ inner) h.2 (h.3 inner s k c) (can-statement os (For a e l s) tt) closed)
 
--- where a statement begins
+-- at the beginning of a statement
 
 pub begin_if : (os : List Open) (x : Lexeme) → IsKeyword keyword.If x → TestingSoFar ForIf os (first (depth os) 0 x ∷ [])
 begin_if os x h o ho test e c spelled hc = (

@@ -1,5 +1,5 @@
--- Reading a token in a full expression keeps what the tokens before the state spell: where it stays in the expression, and
--- where it ends one in a function's body.
+-- Reading a token of a full expression extends what the tokens so far spell: tokens that stay in the expression, and tokens that
+-- end one in a function's body.
 use Rattle.std.proofs.Common.{◌≡◌, ℕ, suc, true, List, [], ◌∷◌, ◌++◌, Option, Some, None, refl, sym, ap, subst, ◌∙◌, append_assoc}
 use Rattle.std.proofs.lemmas.List.{append-nil}
 use Rattle.cc_syntax.specs.declared.parser.role.Role.{Role}
@@ -21,7 +21,7 @@ starts-more (OfBody b p) xs x h = tt
 starts-more (OfObject es n p) [] x h = absurd h
 starts-more (OfObject es n p) (y ∷ ys) x h = h
 
--- a full expression with one token more
+-- a full expression with one more token
 pub pushed : (c : Context) (ws us : List Waiting) (k : ℕ) (p q : Phase) (ts : List Measured) (x : Lexeme) → (h : FullSoFar c ws k p ts) → PhaseSoFar q us (h.xs ++ x ∷ []) → FullSoFar c us (suc k) q (ts ++ record { token = x; count = suc k; level = 0 } ∷ [])
 pushed c ws us k p q ts x h s =
     let y : Measured = record { token = x; count = suc k; level = 0 } in
@@ -61,7 +61,7 @@ kept-settle b s before inner ts x l h k c closed e =
     subst (λ (n : ℕ). InBodySoFar (settled true b b.opened s) (ts ++ record { token = x; count = n; level = l } ∷ [])) (settled-count true b b.opened s)
     (subst (λ (z : List Measured). InBodySoFar (settled true b b.opened s) z) (sym e) (settled-so_far b.opened true b s before inner h k c (λ z. closed)))
 
--- a token after which a statement waits for a part
+-- a token after which a statement awaits a part
 pub kept-opens : (b : Inside) (o : Open) (before mine ts : List Measured) (x : Lexeme) (l : ℕ) → BodySoFar b.externals b.signature b.finished b.opened before → OpenSoFar o b.opened mine → ts ++ record { token = x; count = 0; level = l } ∷ [] ≡ before ++ mine → Kept (opens b o) ts x l
 kept-opens b o before mine ts x l h k e = (ts ++ record { token = x; count = 0; level = l } ∷ [], [], (before, mine, h, k, e), refl, sym (append-nil (ts ++ record { token = x; count = 0; level = l } ∷ [])))
 

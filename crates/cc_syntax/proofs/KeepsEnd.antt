@@ -1,4 +1,4 @@
--- The token that ends a full expression in a function's body keeps what the tokens before the state spell.
+-- The token that ends a full expression in a function's body extends what the tokens so far spell.
 use Rattle.std.proofs.Common.{◌≡◌, ℕ, suc, List, [], ◌∷◌, ◌++◌, map, Option, Some, refl, sym, ap, subst, ◌∙◌, append_assoc, inl, inr}
 use Rattle.std.proofs.lemmas.List.{append-nil}
 use Rattle.cc_tokens.specs.declared.scalar.Scalar.{Scalar}
@@ -17,7 +17,7 @@ use Rattle.cc_syntax.proofs.KeepsBody.{regrouped, can-statement}
 use Rattle.cc_syntax.proofs.SoFarUnit.{FullSoFar, Kept, leads_of}
 use Rattle.cc_syntax.proofs.KeepsContext.{kept-settle, kept-acted, kept-tested}
 
--- rows with one part more
+-- rows with one more part
 
 row-last : {A : Type 0} (S : List Measured → A → Type 0) (done : List A) (a : A) (ts one : List Measured) (comma : Lexeme) → SpellsRow S ts done → Marks punctuator.Comma comma → S one a → SpellsRow S (ts ++ outside comma ∷ one) (done ++ a ∷ [])
 row-last S [] a ts one comma h m k = absurd h
@@ -39,7 +39,7 @@ row-comma S done ts comma h m = inr (ts, comma, h, m, refl)
 pub deep : (before others names behind more : List Measured) (p : Measured) → (before ++ (p ∷ (others ++ (names ++ behind)))) ++ more ≡ before ++ (p ∷ (others ++ (names ++ (behind ++ more))))
 deep before others names behind more p = simp append_assoc
 
--- a declared name, with its initialiser, ended
+-- a declared name with its initialiser is complete
 pub kept-declared : (w : Position) (b : Inside) (t : Scalar) (ds : List Declarator) (v : Name) (i : Option Expr) (initial before mine ts : List Measured) (x : Lexeme) (behind : List Measured) → Marks punctuator.Semicolon x → BodySoFar b.externals b.signature b.finished b.opened before → NamedSoFar w t ds behind b.opened mine → SpellsInitial initial i → behind ++ outside x ∷ [] ≡ outside (identifier v) ∷ initial ++ outside x ∷ [] → ts ++ outside x ∷ [] ≡ before ++ (mine ++ outside x ∷ []) → Kept (declares b w t (ds ++ declared v i ∷ [])) ts x 0
 kept-declared w b t ds v i initial before mine ts x behind h k n s same e =
     let names = n.1 in
@@ -73,7 +73,7 @@ valued : (w : Position) (t : Scalar) (ds : List Declarator) (os : List Open) (mi
 valued w t ds os mine v sign value n =
     (n.0, n.1, n.2, n.3, n.4, n.5, n.6, ap (λ (z : List Measured). z ++ value) n.7 ∙ deep n.0 (map outside n.3) n.1 (outside (identifier v) ∷ outside sign ∷ []) value (first (position_level w os) 0 n.2))
 
--- a declared name, with its initialiser, after which another comes
+-- a declared name with its initialiser, which another name follows
 pub next-declared : (w : Position) (t : Scalar) (ds : List Declarator) (os : List Open) (mine : List Measured) (v : Name) (i : Option Expr) (initial : List Measured) (x : Lexeme) → Marks punctuator.Comma x → SpellsInitial initial i → NamedSoFar w t ds (outside (identifier v) ∷ initial) os mine → NamedSoFar w t (ds ++ declared v i ∷ []) [] os (mine ++ outside x ∷ [])
 next-declared w t ds os mine v i initial x h s n =
     let one : List Measured = outside (identifier v) ∷ initial in

@@ -1,4 +1,4 @@
--- What waits takes its operand: the tokens stay spelled.
+-- A pending part takes its operand: the tokens still spell the expression.
 use Rattle.std.proofs.Common.{◌≡◌, ◌≤◌, ℕ, suc, List, [], ◌∷◌, ◌++◌, refl, sym, ap, subst, ◌∙◌, arith, append_assoc, inl, inr}
 use Rattle.std.proofs.lemmas.Bool.Decides.{leb_tells}
 use Rattle.cc_tokens.specs.Token.{Lexeme}
@@ -9,7 +9,7 @@ use Rattle.cc_syntax.proofs.Forms.{pops, keeps}
 use Rattle.cc_syntax.proofs.ReadsExpression.{precedence-within}
 use Rattle.cc_syntax.proofs.SoFar.{Room, Holds}
 
--- an expression of a level is one of each lower level
+-- an expression of one level is also one of each lower level
 pub spells-looser : (e : Expr) (l m : ℕ) (xs : List Lexeme) → m ≤ l → SpellsExpression l xs e → SpellsExpression m xs e
 spells-looser (Number t w) l m xs h s = s
 spells-looser (Variable v) l m xs h s = s
@@ -21,7 +21,7 @@ spells-looser (Cast t e) l m xs h s = s
 spells-looser (Binary op a c) l m xs h s = (s.0, s.1, s.2, omega (arith, s.3, h), s.4, s.5, s.6, s.7)
 spells-looser (Conditional c a b) l m xs h s = (s.0, s.1, s.2, s.3, s.4, omega (arith, s.5, h), s.6, s.7, s.8, s.9, s.10, s.11)
 
--- an operand without a bare operator can stand everywhere
+-- an operand without a bare operator fits everywhere
 pub room-most : (ws : List Waiting) → Room 12 ws
 room-most [] = omega arith
 room-most (Parenthesis ∷ ws) = omega arith
@@ -33,7 +33,7 @@ room-most (Infix op a ∷ ws) = let range = precedence-within op in omega (arith
 room-most (Then c ∷ ws) = omega arith
 room-most (Otherwise c a ∷ ws) = omega arith
 
--- where the loosest binary expression can stand, a conditional one can
+-- if the loosest binary expression fits, a conditional one does too
 pub room-one : (ws : List Waiting) → Room 2 ws → Room 1 ws
 room-one [] h = omega arith
 room-one (Parenthesis ∷ ws) h = omega arith
@@ -45,12 +45,12 @@ room-one (Infix op a ∷ ws) h = let range = precedence-within op in absurd (ome
 room-one (Then c ∷ ws) h = omega arith
 room-one (Otherwise c a ∷ ws) h = omega arith
 
--- an operand that is reduced for an operator of the level: nothing that is left binds as tightly
+-- an operand reduced before an operator of the level: no pending part that is left binds as tightly
 pub record Reduces (level : ℕ) (xs : List Lexeme) (r : Expr × List Waiting) : Type 0 where
   pub holds : Holds r.1 r.0 xs level
   pub room : Room level r.1
 
--- the tokens of what waits and of its operand are those before, and after them those of both
+-- the tokens of a pending part and of its operand, joined
 regrouped : (xs prefix part rest more : List Lexeme) → xs ≡ prefix ++ part → prefix ≡ rest ++ more → xs ≡ rest ++ (more ++ part)
 regrouped xs prefix part rest more h k = h ∙ ap (λ (z : List Lexeme). z ++ part) k ∙ append_assoc rest more part
 

@@ -1,5 +1,5 @@
--- A token of a full expression keeps what its tokens spell: those that stay in it. With what waits and the operand after
--- it, the tokens that came are spelled (SoFar); where nothing waits any more, the whole expression is.
+-- A token that stays in a full expression extends what the expression's tokens spell. The tokens so far spell the pending parts
+-- and the operand after them (SoFar); if nothing is pending, they spell the whole expression.
 use Rattle.std.proofs.Common.{◌≡◌, ◌≤◌, ℕ, List, [], ◌∷◌, ◌++◌, refl, sym, ap, subst, ◌∙◌, arith, append_assoc}
 use Rattle.cc_ast.specs.declared.ast.BinaryOperator.{BinaryOperator}
 use Rattle.cc_tokens.specs.declared.token.Punctuator.TheVariants as punctuator
@@ -15,7 +15,7 @@ use Rattle.cc_syntax.proofs.KeepsExpression.{spells-looser, room-most, room-one,
 pub identified : (x : Lexeme) → x.kind ≡ kind.Identifier → x ≡ identifier (name_of x)
 identified x h = ap (λ (k : TokenKind). let y : Lexeme = record { kind = k; text = x.text; at = x.at } in y) h
 
--- an expression has a token
+-- an expression has at least one token
 abbrev pub HasToken : List Lexeme → Type 0
 HasToken xs = (y : Lexeme) × (ys : List Lexeme) × (xs ≡ y ∷ ys)
 
@@ -56,7 +56,7 @@ kept-question r xs x h k =
     let l = k.holds in
     (l.prefix, l.part, x, l.waits, spells-looser r.0 l.level 2 l.part l.tight l.spelled, room-one r.1 k.room, h, behind xs l.prefix l.part x l.whole)
 
--- a colon after what stands between it and the question mark
+-- a colon after the operand that follows the question mark
 pub kept-colon : (c e : Expr) (ws : List Waiting) (xs : List Lexeme) (x : Lexeme) → Marks punctuator.Colon x → Holds (Then c ∷ ws) e xs 1 → WaitingSoFar (Otherwise c e ∷ ws) (xs ++ x ∷ [])
 kept-colon c e ws xs x h l =
     let w = l.waits in
@@ -76,7 +76,7 @@ kept-colon c e ws xs x h l =
       behind xs l.prefix l.part x l.whole ∙ ap (λ (z : List Lexeme). z ++ (l.part ++ x ∷ [])) w.7 ∙ grouped,
     )
 
--- an operand whose closing token has come
+-- an operand whose closing token has been read
 closed : (e d : Expr) (ws : List Waiting) (xs prefix inner part ys : List Lexeme) (x : Lexeme) → WaitingSoFar ws prefix → xs ≡ ys ++ part → ys ≡ prefix ++ inner → SpellsExpression 12 (inner ++ (part ++ x ∷ [])) d → Holds ws d (xs ++ x ∷ []) 12
 closed e d ws xs prefix inner part ys x w h k s =
     record {
@@ -159,7 +159,7 @@ kept-call-none n ws xs x h w =
       whole = behind xs w.0 (identifier n ∷ w.2 ∷ []) x whole;
     }
 
--- what opens after a name
+-- a parenthesis or bracket after a name
 variable-part : (n : Name) (ws : List Waiting) (xs : List Lexeme) → Holds ws (Variable n) xs 12 → (prefix : List Lexeme) × WaitingSoFar ws prefix × (xs ≡ prefix ++ identifier n ∷ [])
 variable-part n ws xs l = (l.prefix, l.waits, l.whole ∙ ap (λ (z : List Lexeme). l.prefix ++ z) l.spelled)
 
@@ -173,7 +173,7 @@ kept-open-index n ws xs x h l =
     let v = variable-part n ws xs l in
     (v.0, x, v.1, h, behind xs v.0 (identifier n ∷ []) x v.2)
 
--- where nothing waits, the whole is spelled
+-- if nothing is pending, the whole expression is spelled
 pub whole-spelled : (e : Expr) (xs : List Lexeme) → Holds [] e xs 1 → SpellsExpression 1 xs e
 whole-spelled e xs l =
     subst (λ (z : List Lexeme). SpellsExpression 1 z e) (sym (l.whole ∙ ap (λ (z : List Lexeme). z ++ l.part) l.waits)) (spells-looser e l.level 1 l.part l.tight l.spelled)

@@ -1,5 +1,5 @@
--- At file scope: a complete external declaration, a complete object, and the token that ends a constant expression keep what
--- the tokens before the state spell.
+-- At file scope: a complete external declaration, a complete object, and the token that ends a constant expression extend what
+-- the tokens so far spell.
 use Rattle.std.proofs.Common.{◌≡◌, ℕ, List, [], ◌∷◌, ◌++◌, map, Option, Some, refl, sym, ap, subst, ◌∙◌, append_assoc, inl, inr}
 use Rattle.std.proofs.lemmas.List.{append-nil}
 use Rattle.cc_tokens.specs.declared.token.Punctuator.TheVariants as punctuator
@@ -28,7 +28,7 @@ kept-external es e before mine ts x h k s =
     let inner = mine ++ outside x ∷ [] in
     (before ++ inner, [], externals-last es e before inner h s, refl, regrouped ts before mine (outside x ∷ []) k ∙ sym (append-nil (before ++ inner)))
 
--- a token after which the external declaration goes on
+-- a token after which the external declaration continues
 pub kept-file : (es : List External) (o : Outer) (before mine ts : List Measured) (x : Lexeme) → SpellsExternals before es → ts ≡ before ++ mine → OuterSoFar o (mine ++ outside x ∷ []) → Kept (Some (AtFile es o)) ts x 0
 kept-file es o before mine ts x h k s = (before, mine ++ outside x ∷ [], h, s, regrouped ts before mine (outside x ∷ []) k)
 
@@ -45,12 +45,12 @@ object-done n o behind mine h k =
     let one : List Measured = outside (identifier n.name) ∷ behind in
     (h.0, h.1 ++ one, h.2, row-done (SpellsName n.kind) n.objects o h.1 one h.3 k, h.4 ∙ ap (λ (z : List Measured). map outside h.0 ++ z) (sym (append-nil (h.1 ++ one))))
 
--- a single object stands in a declaration of words alone
+-- a single object occurs only in a declaration of words
 pub single-spelled : (t : ObjectKind) (ts : List Measured) (v : Name) (e : Option ConstantExpr) → AreWords t → SpellsObject ts (Single v e) → SpellsName t ts (Single v e)
 single-spelled (Words t) ts v e w h = h
 single-spelled Bytes ts v e w h = absurd w
 
--- an array in both
+-- an array occurs in both
 pub array-spelled : (t : ObjectKind) (ts : List Measured) (v : Name) (size : Option ConstantExpr) (values : List ConstantExpr) → SpellsArray ts v size values → SpellsName t ts (array_of t v size values)
 array-spelled (Words t) ts v size values h = h
 array-spelled Bytes ts v size values h = h

@@ -1,4 +1,4 @@
--- A token in a full expression, and the first token of one, keep what the tokens before the state spell.
+-- A token in a full expression, and the first token of one, extend what the tokens so far spell.
 use Rattle.std.proofs.Common.{◌≡◌, ◌≤◌, ℕ, suc, List, [], ◌∷◌, ◌++◌, Option, Some, None, refl, sym, ap, subst, ◌∙◌, arith, inr}
 use Rattle.std.proofs.lemmas.List.{append-nil}
 use Rattle.cc_ast.specs.declared.ast.BinaryOperator.{BinaryOperator}
@@ -24,7 +24,7 @@ use Rattle.cc_syntax.proofs.KeepsContext.{kept-stays}
 use Rattle.cc_syntax.proofs.KeepsEnd.{kept-end, pushed-tokens}
 use Rattle.cc_syntax.proofs.KeepsObject.{kept-constant}
 
--- the level of an action that is a statement stands at its first token
+-- if an action is a statement, its first token has the level
 pub leads-joins : (p : Spot) (os : List Open) (x : Lexeme) (xs : List Lexeme) (qs : List Measured) → leads p os (full (x ∷ xs) ++ qs) ≡ leads p os (full (x ∷ xs)) ++ qs
 leads-joins AsStatement os x xs qs = refl
 leads-joins AsStart os x xs qs = refl
@@ -38,7 +38,7 @@ first-joins : (c : Context) (x : Lexeme) (qs : List Measured) → leads_of c (fu
 first-joins (OfBody b p) x qs = leads-joins (spot_of p) b.opened x [] qs
 first-joins (OfObject es n p) x qs = refl
 
--- before an operand, after the tokens of the same full expression that stand before the expression
+-- before an operand, and after the tokens of the same full expression that precede the expression
 pub begun : (b : Inside) (p : Purpose) (k : ℕ) (before ts : List Measured) (zs : List Lexeme) → ContextSoFar (OfBody b p) before zs → k ≡ count_after 0 zs → ((qs : List Measured) → leads (spot_of p) b.opened (full zs ++ qs) ≡ leads (spot_of p) b.opened (full zs) ++ qs) → ts ≡ before ++ leads (spot_of p) b.opened (full zs) → FullSoFar (OfBody b p) [] k Operand ts
 begun b p k before ts zs h c j w =
     let same : zs ≡ zs ++ [] = sym (append-nil zs) in
@@ -110,7 +110,7 @@ target-spelled (Variable n) xs h = h
 target-spelled (Element n e) xs h = h
 target-spelled _ xs h = tt
 
--- the tokens of an action with one more
+-- the tokens of an action, with one more
 action-tokens : (b : Inside) (p : Spot) (ws : List Waiting) (k : ℕ) (q : Phase) (ts : List Measured) (x : Lexeme) → (h : FullSoFar (OfBody b (ToPerform p)) ws k q ts) → (ts ++ record { token = x; count = suc k; level = 0 } ∷ [] ≡ h.before ++ leads p b.opened (full (h.xs ++ x ∷ []))) × (suc k ≡ count_after 0 (h.xs ++ x ∷ []))
 action-tokens b p ws k q ts x h =
     let none = h.context.3.0 in (

@@ -1,4 +1,4 @@
--- Reading a token in a full expression keeps what its tokens spell, where the token stays in it.
+-- Reading a token that stays in a full expression extends what the expression's tokens spell.
 use Rattle.std.proofs.Common.{◌≡◌, suc, List, [], ◌∷◌, ◌++◌, Option, Some, None, refl, ap, ◌∙◌, append_assoc, inl, inr}
 use Rattle.cc_tokens.specs.declared.scalar.Scalar.{Scalar}
 use Rattle.cc_tokens.specs.declared.scalar.Scalar.TheVariants as scalar
@@ -18,7 +18,7 @@ use Rattle.cc_syntax.specs.internal.Parser.{State, AtFile, InBody, InFull, Full,
 use Rattle.cc_syntax.proofs.SoFar.{WaitingSoFar, Holds, Casts, IsSign}
 use Rattle.cc_syntax.proofs.KeepsFull.{identified, holds-one, kept-colon, kept-parenthesis, kept-index, kept-comma, kept-call, kept-call-none, kept-open-call, kept-open-index}
 
--- which tokens have a role
+-- which tokens have this role
 abbrev pub HasRole : Role → Lexeme → Type 0
 HasRole role.Identifier x = x.kind ≡ kind.Identifier
 HasRole (role.Number t w) x = x.kind ≡ kind.Number t w
@@ -147,7 +147,7 @@ kept-none : (ws : List Waiting) (f : Full) (xs : List Lexeme) (x : Lexeme) → M
 kept-none (Arguments n none ∷ ws) f xs x h w = (refl, refl, kept-call-none n ws xs x h w)
 kept-none _ f xs x h w = tt
 
--- a token where an operand is due
+-- a token in a place where an operand is due
 pub kept-operand : (r : Role) (f : Full) (xs : List Lexeme) (x : Lexeme) → HasRole r x → WaitingSoFar f.waiting xs → StaysIn f (xs ++ x ∷ []) (operand_step f r (name_of x))
 kept-operand (role.Number t w) f xs x h k = (refl, refl, holds-one (Number t w) f.waiting xs x (x, h, refl) k)
 kept-operand role.Identifier f xs x h k = (refl, refl, holds-one (Variable (name_of x)) f.waiting xs x (ap (λ (y : Lexeme). y ∷ []) (identified x h)) k)
@@ -192,7 +192,7 @@ kept-name (Variable n) role.OpenParenthesis f xs x h k = (refl, refl, kept-open-
 kept-name (Variable n) role.OpenBracket f xs x h k = (refl, refl, kept-open-index n f.waiting xs x h k)
 kept-name _ _ f xs x h k = tt
 
--- a closing token after an operand, where something waits
+-- a closing token after an operand, if something is pending
 pub kept-close : (r : Role) (e : Expr) (w : Waiting) (ws : List Waiting) (f : Full) (xs : List Lexeme) (x : Lexeme) → HasRole r x → Holds (w ∷ ws) e xs 1 → StaysIn f (xs ++ x ∷ []) (close f r (e, w ∷ ws))
 kept-close role.CloseParenthesis e Parenthesis ws f xs x h k = (refl, refl, kept-parenthesis e ws xs x h k)
 kept-close role.CloseBracket e (Index n) ws f xs x h k = (refl, refl, kept-index n e ws xs x h k)

@@ -1,4 +1,4 @@
--- Reading a token keeps what the tokens before the state spell: in a function's body, outside of full expressions.
+-- Reading a token extends what the tokens so far spell: in a function's body, outside full expressions (second part).
 use Rattle.std.proofs.Common.{◌≡◌, ℕ, false, suc, List, [], ◌∷◌, ◌++◌, length, map, Option, Some, None, refl, sym, ap, subst, ◌∙◌, append_assoc, inl, inr}
 use Rattle.std.proofs.lemmas.Bool.{false≢true}
 use Rattle.std.proofs.lemmas.List.{append-nil}
@@ -48,7 +48,7 @@ kept-block (InBlock ss ∷ os) b ts x h k =
     kept-settle (inside_of b b.finished os) (Block ss) k.0 block ts x 0 k.2 (o.0, x, o.1, o.2, h, o.3, refl) (can-statement os (Block ss) tt) tt tokens
 kept-block _ b ts x h k = tt
 
--- the first word of a declaration of locals
+-- the first keyword of a declaration of locals
 
 kept-int : (os : List Open) (b : Inside) (ts : List Measured) (x : Lexeme) → IsKeyword keyword.Int x → BodySoFar b.externals b.signature b.finished os ts → Kept (declare (within b os) (Declaring AsLocal scalar.Int []) os) ts x (depth os)
 kept-int [] b ts x h k = (ts, first 2 0 x ∷ [], k, ([], [], x, [], begin_local [] (λ t ds. tt), inl (x, refl, h, refl), inl (refl, refl), refl), refl)
@@ -81,7 +81,7 @@ kept-item role.Int b ts x h k = kept-int b.opened b ts x h k
 kept-item (role.SignWord t) b ts x h k = kept-sign b.opened b t ts x h k
 kept-item r b ts x h k = kept-action AsStatement r b ts [] ts x (depth b.opened) h k (begin_action b.opened) (sym (append-nil ts)) refl
 
--- after the part of an `if`, after the body of a `do`
+-- after the first part of an `if`, and after the body of a `do`
 
 kept-do : (r : Role) (b : Inside) (s : Stmt) (ts : List Measured) (x : Lexeme) → HasRole r x → InBodySoFar (b, AfterDo s) ts → Kept (do_step b s r) ts x 0
 kept-do role.While b s ts x h k = (k.0, k.1 ++ outside x ∷ [], k.2, k.3 x h, regrouped ts k.0 k.1 (outside x ∷ []) k.4)
@@ -215,7 +215,7 @@ kept-has-declared _ b w t ds v ts x h k = tt
 
 -- increments and decrements that begin with their operator
 
--- the tokens of an action with one more
+-- the tokens of an action, with one more
 joined : (p : Spot) (os : List Open) (mine before : List Measured) (x : Lexeme) (xs : List Lexeme) (y : Measured) → mine ≡ before ++ leads p os (full (x ∷ xs)) → mine ++ y ∷ [] ≡ before ++ leads p os (full (x ∷ xs) ++ y ∷ [])
 joined p os mine before x xs y e = regrouped mine before (leads p os (full (x ∷ xs))) (y ∷ []) e ∙ ap (λ (z : List Measured). before ++ z) (sym (leads-joins p os x xs (y ∷ [])))
 
@@ -247,7 +247,7 @@ kept-step-named r b op v p ts x h k =
     let s = k.3 in
     kept-behind p r b (Step op (AtVariable v)) s.1 (identifier v ∷ []) k.0 k.1 s.0 ts x h k.2 s.2 (s.1, identifier v ∷ [], s.3, refl, inl refl) s.4 k.4
 
--- a token in a body, outside of full expressions
+-- a token in a body, outside full expressions
 pub kept-stage : (s : Stage) (b : Inside) (r : Role) (ts : List Measured) (x : Lexeme) → HasRole r x → InBodySoFar (b, s) ts → Kept (body_step b s r (name_of x)) ts x (stage_level b.opened s r)
 kept-stage Item b r ts x h k =
     let whole : BodySoFar b.externals b.signature b.finished b.opened ts =

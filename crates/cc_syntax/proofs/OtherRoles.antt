@@ -1,11 +1,11 @@
--- What a token means at each role but the one that is waited for.
+-- What a token does if its role is not the expected one.
 use Rattle.std.proofs.Common.{◌≡◌, refl, Option, false}
 use Rattle.cc_syntax.specs.declared.parser.role.Role.{Role}
 use Rattle.cc_syntax.specs.declared.parser.role.Role.TheVariants as role
 use Rattle.cc_ast.specs.Tree.{Name, Expr, Stmt, If, Beginning}
 use Rattle.cc_syntax.specs.internal.Parser.{Inside, AsLast, settled, action_step, resting_step, else_step, for_stepping_step}
 
--- no parenthesis closes a `for` header, so its last part begins
+-- a token that does not close a `for` header begins the header's last part
 pub for_stepping-other : (b : Inside) (a : Beginning) (e : Option Expr) (r : Role) (x : Name) → (r ≡ role.CloseParenthesis → ⊥) → for_stepping_step b a e r x ≡ action_step b (AsLast a e) r x
 for_stepping-other b a e role.Identifier x h = refl
 for_stepping-other b a e (role.Number t n) x h = refl
@@ -39,7 +39,7 @@ for_stepping-other b a e (role.Assignment o) x h = refl
 for_stepping-other b a e (role.Step o) x h = refl
 for_stepping-other b a e role.Other x h = refl
 
--- no `else` stands after the part of an `if`, so the statement is complete
+-- if no `else` follows the first part of an `if`, the statement is complete
 pub else-other : (b : Inside) (e : Expr) (s : Stmt) (r : Role) (x : Name) → (r ≡ role.Else → ⊥) → else_step b e s r x ≡ resting_step (settled false b b.opened (If e s)) r x
 else-other b e s role.Identifier x h = refl
 else-other b e s (role.Number t n) x h = refl

@@ -1,4 +1,4 @@
--- A closing parenthesis where an argument is due ends a call of no arguments alone.
+-- A closing parenthesis in the place of an argument only ends a call without arguments.
 use Rattle.std.proofs.Common.{◌≡◌, List, [], ◌∷◌, ◌++◌, None, ap, ◌∙◌, refl}
 use Rattle.cc_ast.specs.Tree.{Name}
 use Rattle.cc_ast.specs.internal.Arguments.{expressions_of}
@@ -8,7 +8,7 @@ use Rattle.cc_syntax.specs.internal.Parser.{Waiting, Arguments, Full, call_of_no
 use Rattle.cc_syntax.specs.internal.ParserView.{waiting_view, waiting_views}
 use Rattle.cc_syntax.proofs.Views.{waiting_views-push}
 
--- what waits last, seen by view
+-- the last pending part, as the view sees it
 pub waiting_views-last : (xs ws : List waiting.Waiting) (w : waiting.Waiting) (v : Waiting) → xs ≡ ws ++ w ∷ [] → waiting_view w ≡ v → waiting_views xs ≡ v ∷ waiting_views ws
 waiting_views-last xs ws w v e d =
     ap waiting_views e ∙ waiting_views-push ws w ∙ ap (λ (u : Waiting). u ∷ waiting_views ws) d

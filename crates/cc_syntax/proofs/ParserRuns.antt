@@ -1,5 +1,5 @@
--- Runs of the parser over tokens, with the standing of each token as the parser has it. A run can be cut and
--- joined, and the tokens alone determine it.
+-- Runs of the parser over tokens, with what the limits count at each token. A run can be cut and joined, and the tokens alone
+-- determine it.
 use Rattle.std.proofs.Common.{◌≡◌, ℕ, List, [], ◌∷◌, ◌++◌, Option, Some, refl, sym, ap, subst, ◌∙◌}
 use Rattle.cc_tokens.specs.declared.token.TokenKind.{TokenKind}
 use Rattle.cc_tokens.specs.Token.{Lexeme}
@@ -7,7 +7,7 @@ use Rattle.cc_syntax.specs.internal.Roles.{role_of}
 use Rattle.cc_ast.specs.Grammar.{Measured, plain_tokens}
 use Rattle.cc_syntax.specs.internal.Parser.{State, step, role_step, name_of, count_of, level_at, role_level}
 
--- the parser goes over the tokens from one state to another
+-- the parser goes from one state to another over the tokens
 abbrev pub Runs : State → List Measured → State → Type 0
 Runs s [] e = s ≡ e
 Runs s (p ∷ ps) e = (m : State) × (step s p.token ≡ Some m) × (p.count ≡ count_of m) × (p.level ≡ level_at s p.token) × Runs m ps e
@@ -37,7 +37,7 @@ cons_none x xs e = cc
 placed_more : (a b : Lexeme) (m n j k : ℕ) (ps qs : List Measured) → a ≡ b → m ≡ n → j ≡ k → ps ≡ qs → record { token = a; count = m; level = j } ∷ ps ≡ record { token = b; count = n; level = k } ∷ qs
 placed_more a b m n j k ps qs e f g h = cc
 
--- the tokens alone determine a run: the standing of each, and the state after them
+-- the tokens alone determine a run: what the limits count at each of them, and the state after them
 pub runs-one : (s m n : State) (ps qs : List Measured) → Runs s ps m → Runs s qs n → plain_tokens ps ≡ plain_tokens qs → (ps ≡ qs) × (m ≡ n)
 runs-one s m n [] [] h k e = (refl, sym h ∙ k)
 runs-one s m n [] (q ∷ qs) h k e = absurd (cons_none _ _ (sym e))

@@ -23,7 +23,7 @@ use Rattle.cc_syntax.proofs.ReadsExpression.{Read, read_expression}
 pub read_full : (e : Expr) (xs : List Lexeme) (c : Context) (n : ℕ) → SpellsExpression 1 xs e → Read c n [] 1 xs e
 read_full e xs c n h = read_expression e 1 xs c n [] h tt (omega arith)
 
--- a token that closes what waits for it
+-- a token that closes a pending part
 abbrev pub Closes : TokenKind → Type 0
 Closes k = (f : Full) (e : Expr) → operator_step f e (role_of k) ≡ close f (role_of k) (reduced 1 f.waiting e)
 
@@ -36,7 +36,7 @@ read_ended c n xs e x k m j h i closes ends counts =
     runs-append _ last m (full_after n xs) (record { token = x; count = j; level = 0 } ∷ []) r.runs
     (token last m m x k j 0 [] i (closes f r.last ∙ ap (λ (z : Expr × List Waiting). close f (role_of k) z) (r.same 1 (omega arith)) ∙ ends) counts refl refl)
 
--- the operator after a target is read where an action begins
+-- the operator after a target is read at the beginning of an action
 
 assign_step : (op : AssignmentOperator) (f : Full) (e : Expr) → operator_step f e (punctuator_role (assignment_punctuator op)) ≡ assign f e op f.waiting
 assign_step assignment.Plain f e = refl
@@ -55,12 +55,12 @@ step_step : (op : StepOperator) (f : Full) (e : Expr) → operator_step f e (pun
 step_step stepping.Increment f e = refl
 step_step stepping.Decrement f e = refl
 
--- the expression that a target is
+-- a target as an expression
 abbrev expression_of : Target → Expr
 expression_of (AtVariable v) = Variable v
 expression_of (AtElement v e) = Element v e
 
--- a target is read as the name or the element that it is, and nothing waits after it
+-- a target is read as a name or an element, and nothing is pending after it
 record ReadTarget (c : Context) (n : ℕ) (xs : List Lexeme) (t : Target) : Type 0 where
   runs : Runs (operand c n []) (full_after n xs) (operator c (count_after n xs) [] (expression_of t))
 

@@ -30,7 +30,7 @@ declared-count : (b : Inside) (w : Position) (t : Scalar) (ds : List Declarator)
 declared-count b AsLocal t ds = settled-count true b b.opened (Local t ds)
 declared-count b AsHeader t ds = refl
 
--- what stands after a declared name: a semicolon, or a comma and a further name
+-- what follows a declared name: a semicolon, or a comma and a further name
 data Separator : Type 0 where
   Last : Separator
   Further : Separator
@@ -55,7 +55,7 @@ separator-closes : (z : Separator) → Closes (separator z)
 separator-closes Last f e = refl
 separator-closes Further f e = refl
 
--- an initialiser or none, and the token after it
+-- an initialiser if there is one, and the token after it
 read_initial : (i : Option Expr) (ts : List Measured) (z : Separator) (x : Lexeme) (b : Inside) (w : Position) (t : Scalar) (ds : List Declarator) (v : Name) → SpellsInitial ts i → x.kind ≡ separator z → Runs (InBody b (HasDeclared w t ds v)) (ts ++ outside x ∷ []) (behind z b w t (ds ++ declared v i ∷ []))
 read_initial None ts z x b w t ds v h k =
     let s = InBody b (HasDeclared w t ds v) in
@@ -74,7 +74,7 @@ read_initial (Some e) ts z x b w t ds v h k =
     ends Last = declares-state b w t (ds ++ declared v (Some e) ∷ [])
     ends Further = refl
 
--- a state in which a name is declared after the others
+-- a state in which a further name is declared
 pub record Names (s : State) (b : Inside) (w : Position) (t : Scalar) (ds : List Declarator) : Type 0 where
   pub named : (v : Name) → role_step s role.Identifier v ≡ Some (InBody b (HasDeclared w t ds v))
   pub begun : 0 ≡ role_level s role.Identifier
@@ -112,7 +112,7 @@ pub record Begins (s : State) (b : Inside) (w : Position) (level : ℕ) : Type 0
   pub int_level : level ≡ role_level s role.Int
   pub sign_level : (t : Scalar) → level ≡ role_level s (role.SignWord t)
 
--- the words of a type, after which names are declared
+-- the keywords of a type, which names follow
 read_type : (t : Scalar) (xs : List Lexeme) (s : State) (b : Inside) (w : Position) (level : ℕ) (rest : List Measured) (m : State) → Begins s b w level → SpellsType xs t → ((a : State) → Names a b w t [] → Runs a rest m) → Runs s (begins level (map outside xs ++ rest)) m
 read_type t xs s b w level rest m begin (inl h) on =
     subst (λ (z : List Lexeme). Runs s (begins level (map outside z ++ rest)) m) (sym h.3)

@@ -1,5 +1,5 @@
--- Each expression that tokens spell is read from them: an induction on its tree. After its tokens the parser may still
--- hold parts of it that wait, which any operator of the level reduces to the whole expression.
+-- Each expression that tokens spell is read from them, by induction on its tree. After its tokens the parser may still have
+-- pending parts of it; any operator of the level reduces these to the whole expression.
 use Rattle.std.proofs.Common.{◌≡◌, ◌≤◌, ℕ, suc, List, [], ◌∷◌, ◌++◌, Some, refl, sym, ap, subst, ◌∙◌, arith, append_assoc, inl, inr}
 use Rattle.cc_ast.specs.declared.ast.BinaryOperator.{BinaryOperator}
 use Rattle.cc_ast.specs.declared.ast.BinaryOperator.TheVariants as binary
@@ -19,7 +19,7 @@ use Rattle.cc_syntax.specs.internal.Parser.{InFull, CastSign, CastType, Context,
 use Rattle.cc_syntax.proofs.ParserRuns.{Runs, token}
 use Rattle.cc_syntax.proofs.Forms.{operand, operator, count_after, count_after-append, runs-full, pops, Fits, fits-more, fits-stays}
 
--- the tokens of an expression lead after it, whatever stands before
+-- the parser gets past the tokens of an expression, whatever precedes them
 pub record Read (c : Context) (n : ℕ) (ws : List Waiting) (l : ℕ) (xs : List Lexeme) (e : Expr) : Type 0 where
   pub last : Expr
   pub waiting : List Waiting
@@ -73,11 +73,11 @@ sign_step unary.Minus c n ws x = refl
 sign_step unary.Complement c n ws x = refl
 sign_step unary.Not c n ws x = refl
 
--- a part of one token
+-- an expression of one token
 one : (c : Context) (n : ℕ) (ws : List Waiting) (l : ℕ) (xs : List Lexeme) (e : Expr) (x : Lexeme) → xs ≡ x ∷ [] → Runs (operand c n ws) (full_after n (x ∷ [])) (operator c (suc n) ws e) → Read c n ws l xs e
 one c n ws l xs e x h r = subst (λ (z : List Lexeme). Read c n ws l z e) (sym h) (record { last = e; waiting = ws; runs = r; same = λ q k. refl })
 
--- a part whose last token leaves nothing that waits for it
+-- an expression whose last token leaves nothing of it pending
 whole : (c : Context) (n : ℕ) (ws : List Waiting) (l : ℕ) (xs ys : List Lexeme) (e : Expr) (k : ℕ) → xs ≡ ys → k ≡ count_after n ys → Runs (operand c n ws) (full_after n ys) (operator c k ws e) → Read c n ws l xs e
 whole c n ws l xs ys e k h i r =
     subst (λ (z : List Lexeme). Read c n ws l z e) (sym h)
@@ -87,7 +87,7 @@ whole c n ws l xs ys e k h i r =
 behind_left : (op : BinaryOperator) (c : Context) (n : ℕ) (ws left : List Waiting) (last a : Expr) → reduced (precedence op) left last ≡ (a, ws) → operator_step (full_of c left n) last (punctuator_role (binary_punctuator op)) ≡ Some (operand c (suc n) (Infix op a ∷ ws))
 behind_left op c n ws left last a h = binary_step op (full_of c left n) last ∙ ap (λ (r : Expr × List Waiting). operate (full_of c left n) op r) h
 
--- the words of a type, and the parenthesis after them, in a cast
+-- in a cast: the keywords of a type, and the parenthesis after them
 read_type : (t : Scalar) (xs : List Lexeme) (closing : Lexeme) (c : Context) (n : ℕ) (ws : List Waiting) → SpellsType xs t → Marks punctuator.CloseParenthesis closing → Runs (operand c n (Parenthesis ∷ ws)) (full_after n (xs ++ closing ∷ [])) (operand c (suc (count_after n xs)) (Casting t ∷ ws))
 read_type t xs closing c n ws (inl h) k =
     subst (λ (u : Scalar). Runs (operand c n (Parenthesis ∷ ws)) (full_after n (xs ++ closing ∷ [])) (operand c (suc (count_after n xs)) (Casting u ∷ ws))) (sym h.1)
@@ -113,7 +113,7 @@ read_type scalar.Unsigned xs closing c n ws (inr (inr h)) k =
     (token (InFull (full_of c ws (suc n)) (CastSign scalar.Unsigned)) (InFull (full_of c ws (suc (suc n))) (CastType scalar.Unsigned)) _ h.1 (kind.Keyword keyword.Int) (suc (suc n)) 0 (full_after (suc (suc n)) (closing ∷ [])) h.3 refl refl refl
     (token (InFull (full_of c ws (suc (suc n))) (CastType scalar.Unsigned)) (operand c (suc (suc (suc n))) (Casting scalar.Unsigned ∷ ws)) _ closing (kind.Punctuator punctuator.CloseParenthesis) (suc (suc (suc n))) 0 [] k refl refl refl refl)))
 
--- arguments after those that have come
+-- arguments appended to earlier ones
 abbrev pub appended : Exprs → Exprs → Exprs
 appended done none = done
 appended done (more e es) = appended (with_argument done e) es
@@ -140,7 +140,7 @@ pub appended-none : (es : Exprs) → appended none es ≡ es
 unfolding joined
 appended-none es = appended-joined es none
 
--- a call may end without an argument only where none has come
+-- a call may end at an argument's place only before its first argument
 abbrev Comes : Exprs → Exprs → Type 0
 Comes came none = came ≡ none
 Comes came (more e es) = Unit {0}

@@ -1,5 +1,5 @@
--- Each statement that tokens spell is read from them: an induction on its tree. After a statement that ends in an open
--- `if` the parser waits for the token that tells; with any token but `else` it goes on as after the statement.
+-- Each statement that tokens spell is read from them, by induction on its tree. After a statement that ends in an open `if`, the
+-- next token decides: any token but `else` is read as after a complete statement.
 use Rattle.std.proofs.Common.{◌≡◌, ℕ, true, false, suc, List, [], ◌∷◌, ◌++◌, length, Option, Some, None, refl, sym, ap, subst, ◌∙◌, arith, append_assoc}
 use Rattle.cc_tokens.specs.declared.scalar.Scalar.{Scalar}
 use Rattle.cc_tokens.specs.declared.token.Keyword.TheVariants as keyword
@@ -19,24 +19,24 @@ use Rattle.cc_syntax.proofs.Settles.{within, settled-within, settled-count, sett
 use Rattle.cc_syntax.proofs.ReadsAction.{read_full, read_ended, Enters, read_action, no-operator}
 use Rattle.cc_syntax.proofs.ReadsDeclaration.{Begins, read_local}
 
--- where a statement or declaration may stand
+-- whether a statement or declaration may come here
 abbrev pub CanStand : List Open → Stmt → Type 0
 CanStand [] s = Unit {0}
 CanStand (InBlock ss ∷ os) s = Unit {0}
 CanStand (o ∷ os) s = IsStatement s
 
--- the tokens of a statement lead to a state after it
+-- the tokens of a statement lead to the state after it
 pub record Leads (b : Inside) (ts : List Measured) (s : Stmt) : Type 0 where
   pub after : State
   pub runs : Runs (InBody b Item) ts after
   pub closed : IsClosed s → after ≡ in_body (settled true b b.opened s)
   pub rests : RestsAs after (in_body (settled false b b.opened s))
 
--- a statement after whose last token the parser settles it
+-- a statement that the parser completes at its last token
 leads : (b : Inside) (ts : List Measured) (s : Stmt) → Runs (InBody b Item) ts (in_body (settled true b b.opened s)) → Leads b ts s
 leads b ts s h = record { after = in_body (settled true b b.opened s); runs = h; closed = λ c. refl; rests = settled-rests b b.opened s }
 
--- an action begins where a statement does, or at the ends of a `for` header
+-- an action begins like a statement, or at either end of a `for` header
 
 item-acts : (r : Role) (b : Inside) (v : Name) (m : State) → action_step b AsStatement r v ≡ Some m → item_step b r v ≡ Some m
 item-acts role.OpenBrace b v m h = absurd (none-some _ m refl h)
@@ -81,7 +81,7 @@ stepping-acts r b a e v m h = h
 enters-stepping : (b : Inside) (a : Beginning) (e : Option Expr) → Enters (InBody b (ForStepping a e)) b (AsLast a e) 0
 enters-stepping b a e = record { first = λ r v m h. stepping-acts r b a e v m h; begun = λ r v m h. refl }
 
--- an expression where a full expression may begin, and the rest after it
+-- an expression in a place where a full expression may begin, and what follows it
 enter_full : (xs : List Lexeme) (s : State) (c : Context) (k : ℕ) (ws : List Waiting) (last : Expr) (rest : List Measured) (m : State) → ((r : Role) (v : Name) (n : State) → first_step c r v ≡ Some n → role_step s r v ≡ Some n) → ((r : Role) → 0 ≡ role_level s r) → Runs (operand c 0 []) (full xs) (operator c k ws last) → Runs (operator c k ws last) rest m → Runs s (full xs ++ rest) m
 enter_full [] s c k ws last rest m first none h g = absurd (no-operator c 0 k [] ws last h)
 enter_full (x ∷ xs) s c k ws last rest m first none h g =
@@ -163,7 +163,7 @@ read_last (Some l) ts x b a e h k =
     unlevelled [] y r = r
     unlevelled (z ∷ zs) y r = r
 
--- a word, a condition in parentheses, and what stands after them
+-- a keyword, a condition in parentheses, and what follows them
 read_headed : (e : Expr) (test : List Lexeme) (word opening closing : Lexeme) (b : Inside) (k : Test) (w : TokenKind) (o : Open) (part : List Measured) (m : State) → word.kind ≡ w → Marks punctuator.OpenParenthesis opening → Marks punctuator.CloseParenthesis closing → SpellsExpression 1 test e → role_step (InBody b Item) (role_of w) (name_of word) ≡ Some (InBody b (Testing k)) → suc (suc (length b.opened)) ≡ role_level (InBody b Item) (role_of w) → tested b k e ≡ Some (InBody (within b (o ∷ b.opened)) Item) → Runs (InBody (within b (o ∷ b.opened)) Item) part m → Runs (InBody b Item) (begins (suc (suc (length b.opened))) (outside word ∷ outside opening ∷ full test ++ outside closing ∷ part)) m
 read_headed e test word opening closing b k w o part m kind_ open_ close_ h first lev goes rest =
     let inner = InBody (within b (o ∷ b.opened)) Item in
@@ -173,7 +173,7 @@ read_headed e test word opening closing b k w o part m kind_ open_ close_ h firs
     subst (λ (z : List Measured). Runs (InBody b (Testing k)) z m) (append_assoc (outside opening ∷ full test) (outside closing ∷ []) part) both in
     token (InBody b Item) (InBody b (Testing k)) m word w 0 (suc (suc (length b.opened))) (outside opening ∷ full test ++ outside closing ∷ part) kind_ first refl lev grouped
 
--- statements after one another
+-- statements appended to earlier ones
 abbrev pub appended : Stmts → Stmts → Stmts
 appended done end = done
 appended done (next s ss) = appended (with_last done s) ss
@@ -200,7 +200,7 @@ pub appended-end : (ss : Stmts) → appended end ss ≡ ss
 unfolding joined
 appended-end ss = appended-joined ss end
 
--- the outermost block of a body, or a block in it
+-- the outermost block of a body, or an inner block
 pub data Nest : Type 0 where
   Top : Nest
   Inner : List Open → Nest

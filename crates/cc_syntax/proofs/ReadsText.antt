@@ -1,4 +1,5 @@
--- The loop over a text, token by token: the tokens so far led to the state, and at the end they are those of the text.
+-- The loop over a text, token by token: the tokens so far led to the current state, and at the end they are all tokens of the
+-- text.
 use Rattle.std.proofs.Common.{◌≡◌, ◌≤◌, ℕ, List, [], ◌∷◌, ◌++◌, length, Some, None, Option, Result, Ok, sym, subst}
 use Rattle.std.specs.Prelude.{IfSome}
 use Rattle.std.specs.Option.{option_map}
@@ -16,7 +17,7 @@ use Rattle.cc_syntax.specs.internal.ParserView.{parser_view, Advances}
 use Rattle.cc_syntax.proofs.ReadsTokens.{unit_state}
 use Rattle.cc_syntax.proofs.Verdict.{Reached, at_start, reach_next, spelled_within}
 
--- the tokens before an offset, which led to the state within the limits
+-- the tokens before an offset led to the state within the limits
 pub record ReadTo (text : List ℕ) (s : State) (at : ℕ) : Type 0 where
   pub tokens : List Token
   pub found : FoundBefore text tokens at
@@ -25,11 +26,11 @@ pub record ReadTo (text : List ℕ) (s : State) (at : ℕ) : Type 0 where
 pub read_none : (text : List ℕ) (s : State) → s ≡ start → ReadTo text s 0
 read_none text s e = record { tokens = []; found = found_none text; reached = subst (λ (z : State). Reached z []) (sym e) at_start }
 
--- without a token up to another offset
+-- no token up to a later offset
 pub read_blank : (text : List ℕ) (s : State) (at to : ℕ) (r : ReadTo text s at) → FoundBefore text r.tokens to → ReadTo text s to
 read_blank text s at to r f = record { tokens = r.tokens; found = f; reached = r.reached }
 
--- one token more
+-- one more token
 pub read_more : {X : Type 0} {v : X} (text : List ℕ) (s : State) (at : ℕ) (t : Token) (p : parser.Parser) (a : Result X stop.Stop) (r : ReadTo text s at) → FoundBefore text (r.tokens ++ t ∷ []) t.to → Advances s (lexeme text t) a p → a ≡ Ok v → ReadTo text (parser_view p) t.to
 read_more {X} {v} text s at t p a r f h e =
     let b = subst (λ (z : Result X stop.Stop). Advances s (lexeme text t) z p) e h in
@@ -50,7 +51,7 @@ read_all text s at tree r past e =
       spelled = spelled_within tree (lexemes text r.tokens) unit.1 (subst (λ (z : State). Reached z (lexemes text r.tokens)) unit.0 r.reached);
     }
 
--- so what is answered at the end is what the text spells
+-- so the result at the end is what the text spells
 pub read_answered : {E : Type 0} (text : List ℕ) (s : State) (at : ℕ) (view : E → List External) (r : Option E) → ReadTo text s at → length text ≤ at → option_map view r ≡ tree_of s → IfSome r (λ x. SpellsText text (view x))
 read_answered text s at view None read past e = tt
 read_answered text s at view (Some x) read past e = read_all text s at (view x) read past (sym e)

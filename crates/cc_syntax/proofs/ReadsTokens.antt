@@ -1,4 +1,4 @@
--- The loop over all tokens: what each of its exits answers.
+-- The loop over a list of tokens: what it returns at each of its exits.
 use Rattle.std.proofs.Common.{◌≡◌, ◌<◌, ◌≤◌, ◌+◌, ℕ, suc, List, [], ◌∷◌, length, take, get_or, Some, None, Result, Ok, Err, refl, sym, ap, subst, arith}
 use Rattle.std.proofs.lemmas.List.{take_all}
 use Rattle.cc_tokens.specs.declared.token.Token.{Token}

@@ -1,4 +1,4 @@
--- A block keeps its statements as a row, and a call its arguments: the trees are those of the row's list.
+-- A block keeps its statements in a row, and a call its arguments. Their trees are those of the rows as lists.
 use Rattle.std.proofs.Common.{◌≡◌, refl, ap}
 use Rattle.cc_ast.specs.Tree.{next, more}
 use Rattle.cc_ast.specs.Erase.{statement_tree, statements_tree, statements_of, expression_tree, expressions_tree}

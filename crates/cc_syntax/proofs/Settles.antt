@@ -1,5 +1,4 @@
--- A statement that is complete: what the parser makes of it at once, where an `else` may follow, and what it makes of it
--- once another token has come.
+-- What the parser does with a complete statement: at once, if an `else` may follow, and after one more token.
 use Rattle.std.proofs.Common.{◌≡◌, true, false, List, [], ◌∷◌, ◌++◌, Option, Some, None, refl, sym, ap, ◌∙◌}
 use Rattle.std.specs.Prelude.{Bool}
 use Rattle.cc_syntax.specs.declared.parser.role.Role.{Role}
@@ -10,11 +9,11 @@ use Rattle.cc_ast.specs.Grammar.{Measured}
 use Rattle.cc_syntax.specs.internal.Parser.{State, Inside, Stage, Open, InBlock, InThen, InElse, InWhile, InDo, InFor, inside_of, in_body, settled, role_step, role_level, resting_step, resting_depth, resting_level, else_step, else_level, count_of, name_of}
 use Rattle.cc_syntax.proofs.ParserRuns.{Runs}
 
--- the body with other open statements
+-- the body with these open statements
 abbrev pub within : Inside → List Open → Inside
 within b os = inside_of b b.finished os
 
--- what a statement comes to doesn't hang on the statements that were open
+-- what a complete statement gives does not depend on the open statements that the body itself has
 pub settled-within : (w : Bool) (b : Inside) (us os : List Open) (s : Stmt) → settled w (within b us) os s ≡ settled w b os s
 settled-within w b us [] s = refl
 settled-within w b us (InBlock ss ∷ os) s = refl
@@ -35,7 +34,7 @@ settled-count w b (InWhile e ∷ os) s = settled-count w b os (While e s)
 settled-count w b (InDo ∷ os) s = refl
 settled-count w b (InFor a e l ∷ os) s = settled-count w b os (For a e l s)
 
--- what a token does after a statement that no `else` follows
+-- a token after a statement that no `else` follows
 resting-goes : (b : Inside) (os : List Open) (s : Stmt) (r : Role) (x : Name) → resting_step (settled false b os s) r x ≡ role_step (in_body (settled false b os s)) r x
 resting-goes b [] s r x = refl
 resting-goes b (InBlock ss ∷ os) s r x = refl
@@ -66,7 +65,7 @@ no-else b (InFor a e l ∷ os) s x = no-else b os (For a e l s) x
 pub none-some : {A : Type 0} (o : Option A) (m : A) → o ≡ None → o ≡ Some m → ⊥
 none-some o m h k = let e : None ≡ Some m = sym h ∙ k in cc
 
--- where another token than `else` can stand, it does the same before and after the decision
+-- a token other than `else` does the same before and after the decision
 else-goes : (r : Role) (b : Inside) (os : List Open) (e : Expr) (s : Stmt) (x : Name) (m : State) → role_step (in_body (settled false b os (If e s))) r x ≡ Some m → else_step (within b os) e s r x ≡ Some m
 else-goes role.Else b os e s x m h = absurd (none-some _ m (no-else b os (If e s) x) h)
 else-goes r b os e s x m h = ap (λ (z : Inside × Stage). resting_step z r x) (settled-within false b os os (If e s)) ∙ resting-goes b os (If e s) r x ∙ h
@@ -75,7 +74,7 @@ else-levels : (r : Role) (b : Inside) (os : List Open) (e : Expr) (s : Stmt) (x 
 else-levels role.Else b os e s x m h = absurd (none-some _ m (no-else b os (If e s) x) h)
 else-levels r b os e s x m h = resting-levels b os (If e s) r
 
--- what can be read after the other state can be read after the one
+-- whatever can be read from the second state can be read from the first
 abbrev pub RestsAs : State → State → Type 0
 RestsAs m n = (p : Measured) (ps : List Measured) (e : State) → Runs n (p ∷ ps) e → Runs m (p ∷ ps) e
 

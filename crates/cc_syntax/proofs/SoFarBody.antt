@@ -1,6 +1,6 @@
--- What the tokens before a state spell. For a statement that has begun it is said by what would complete it: whatever
--- parts are still missing, with them the tokens spell the statement. So it is proved once, where the statement begins, and
--- each further token takes a part away.
+-- What the tokens before a state in a body spell. For a statement that has begun, this is described by what would complete it:
+-- whatever the missing parts are, with them the tokens spell the statement. So the proof is made once, at the beginning of the
+-- statement, and each further token supplies a part.
 use Rattle.std.proofs.Common.{◌≡◌, ℕ, suc, List, [], ◌∷◌, ◌++◌, ◌⊎◌, length, map, Option, Some}
 use Rattle.cc_tokens.specs.declared.scalar.Scalar.{Scalar}
 use Rattle.cc_tokens.specs.declared.token.Keyword.TheVariants as keyword
@@ -13,11 +13,11 @@ use Rattle.cc_syntax.proofs.Forms.{count_after}
 use Rattle.cc_syntax.proofs.ReadsAction.{terminator}
 use Rattle.cc_syntax.proofs.ReadsStatement.{CanStand}
 
--- the level of what stands after this many open statements
+-- the level of what begins inside this many open statements
 abbrev pub depth : List Open → ℕ
 depth os = suc (suc (length os))
 
--- the first token of what begins at a level
+-- the first token of something that begins at a level
 abbrev pub first : ℕ → ℕ → Lexeme → Measured
 first level n x = record { token = x; count = n; level = level }
 
@@ -43,7 +43,7 @@ abbrev pub PartSoFar : (Stmt → Stmt) → List Open → List Measured → Type 
 PartSoFar whole os mine =
     (part : List Measured) (s : Stmt) → SpellsStatement (suc (depth os)) part s → IsStatement s → SpellsStatement (depth os) (mine ++ part) (whole s)
 
--- after a condition in parentheses, in them, before them
+-- after a condition in parentheses, inside the parentheses, and before them
 abbrev pub TestedSoFar : Test → Expr → List Open → List Measured → Type 0
 TestedSoFar ForIf e os mine = ThenSoFar e os mine
 TestedSoFar ForWhile e os mine = PartSoFar (λ s. While e s) os mine
@@ -61,7 +61,7 @@ TestingSoFar k os mine = (opening : Lexeme) → Marks punctuator.OpenParenthesis
 abbrev pub DoSoFar : Stmt → List Open → List Measured → Type 0
 DoSoFar s os mine = (word : Lexeme) → IsKeyword keyword.While word → TestingSoFar (ForDo s) os (mine ++ outside word ∷ [])
 
--- in the header of a `for`: before its last part, its condition, its first part
+-- in the header of a `for`: before its last part, its condition, and its first part
 abbrev pub SteppingSoFar : Beginning → Option Expr → List Open → List Measured → Type 0
 SteppingSoFar a e os mine =
     (last : List Measured) (l : Option Action) (closing : Lexeme) → SpellsOptionalAction last l → Marks punctuator.CloseParenthesis closing
@@ -80,13 +80,13 @@ ReturningSoFar at os mine =
     (operand : List Measured) (e : Option Expr) (x : Lexeme) → SpellsOptional operand e → Marks punctuator.Semicolon x
     → SpellsStatement (depth os) (mine ++ (operand ++ outside x ∷ [])) (Return at e)
 
--- after an action and its terminator, before it
+-- after an action and its terminator, and before the terminator
 abbrev pub ActedSoFar : Spot → Action → List Open → List Measured → Type 0
 ActedSoFar AsStatement a os mine = SpellsStatement (depth os) mine (Perform (Some a))
 ActedSoFar AsStart a os mine = GoingSoFar (Performs (Some a)) os mine
 ActedSoFar (AsLast s e) a os mine = PartSoFar (λ t. For s e (Some a) t) os mine
 
--- the tokens of an action: where it is a statement the first has the level
+-- the tokens of an action: if it is a statement, the first one has the level
 abbrev pub leads : Spot → List Open → List Measured → List Measured
 leads AsStatement os ts = begins (depth os) ts
 leads _ os ts = ts
@@ -96,7 +96,7 @@ SpotSoFar p os mine =
     (xs : List Lexeme) (a : Action) (x : Lexeme) → SpellsAction xs a → x.kind ≡ terminator p
     → ActedSoFar p a os (mine ++ leads p os (full xs ++ outside x ∷ []))
 
--- after a declaration, before it
+-- after a declaration, and before its end
 abbrev pub DeclaredSoFar : Position → Scalar → List Declarator → List Open → List Measured → Type 0
 DeclaredSoFar AsLocal t ds os mine = SpellsStatement (depth os) mine (Local t ds) × CanStand os (Local t ds)
 DeclaredSoFar AsHeader t ds os mine = GoingSoFar (Declares t ds) os mine
@@ -115,7 +115,7 @@ NamedSoFar w t ds behind os mine =
     (before names : List Measured) × (word : Lexeme) × (others : List Lexeme) × DeclarationSoFar w os before × SpellsType (word ∷ others) t
     × RowSoFar SpellsDeclarator names ds × (mine ≡ before ++ (first (position_level w os) 0 word ∷ (map outside others ++ (names ++ behind))))
 
--- the tokens of a statement that has begun and waits for a part
+-- the tokens of a statement that has begun and is not complete
 abbrev pub OpenSoFar : Open → List Open → List Measured → Type 0
 OpenSoFar (InBlock ss) os mine =
     (opening : Lexeme) × (inner : List Measured) × Marks punctuator.OpenBrace opening × SpellsStatements (suc (depth os)) inner ss
@@ -139,7 +139,7 @@ BodySoFar es f d [] ts =
 BodySoFar es f d (o ∷ os) ts =
     (before mine : List Measured) × BodySoFar es f d os before × OpenSoFar o os mine × (ts ≡ before ++ mine)
 
--- a statement that has begun, outside of full expressions
+-- a statement that has begun, outside full expressions
 abbrev pub StageSoFar : Stage → List Open → List Measured → Type 0
 StageSoFar Item os mine = mine ≡ []
 StageSoFar (AfterThen e s) os mine =
@@ -166,14 +166,14 @@ StageSoFar (Stepped op t p k) os mine =
     (before : List Measured) × (x : Lexeme) × (xs : List Lexeme) × SpotSoFar p os before × SpellsAction (x ∷ xs) (Step op t) × (k ≡ count_after 0 (x ∷ xs))
     × (mine ≡ before ++ leads p os (full (x ∷ xs)))
 
--- where an action of the purpose stands
+-- the place of an action with this purpose
 abbrev pub spot_of : Purpose → Spot
 spot_of (ToPerform p) = p
 spot_of (ToAssign op t p) = p
 spot_of (ToStep op n p) = p
 spot_of _ = AsStart
 
--- what stands before a full expression of a statement, and the tokens of the same full expression before the expression
+-- the tokens before a full expression of a statement, and those of the same full expression that precede the expression
 abbrev pub PurposeSoFar : Purpose → List Open → List Measured → List Lexeme → Type 0
 PurposeSoFar (ToPerform p) os mine xs = (xs ≡ []) × SpotSoFar p os mine
 PurposeSoFar (ToAssign op t p) os mine xs =

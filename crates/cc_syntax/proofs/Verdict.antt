@@ -1,5 +1,5 @@
--- The first token that breaks the grammar or a limit is the one at which the parser stops: from what it has read some
--- unit goes on (Finishes, Keeps), and every unit that begins so is read through the same states (ReadsExternal).
+-- The parser stops at the first token that breaks the grammar or a limit: some unit continues from what it has read (Finishes,
+-- Keeps), and every unit that begins so is read through the same states (ReadsExternal).
 use Rattle.std.proofs.Common.{◌≡◌, ◌<◌, ◌≤◌, ℕ, zero, suc, List, [], ◌∷◌, ◌++◌, length, take, drop, Option, Some, None, refl, sym, ap, subst, ◌∙◌, arith, append_assoc, inl, inr}
 use Rattle.std.specs.List.{AllByRecursion}
 use Rattle.std.proofs.lemmas.List.{map-append, take-append-drop}
@@ -13,7 +13,7 @@ use Rattle.cc_syntax.proofs.ReadsExternal.{read_unit}
 use Rattle.cc_syntax.proofs.Finishes.{IsUnit, finishes}
 use Rattle.cc_syntax.proofs.Keeps.{unit_spelled}
 
--- the parser has come to the state over these tokens, and none of them passes a limit
+-- the parser has reached the state over these tokens, and none of them passes a limit
 pub record Reached (s : State) (xs : List Lexeme) : Type 0 where
   pub placed : List Measured
   pub runs : Runs start placed s
@@ -44,7 +44,7 @@ nil-cons x xs e = cc
 some-none : (o : Option State) (m : State) → o ≡ Some m → o ≡ None → ⊥
 some-none o m h k = let e : Some m ≡ None = sym h ∙ k in cc
 
--- a run over tokens that begin with those of another goes on from its end
+-- a run over more tokens continues from the end of the run over the first ones
 follow : (ps us : List Measured) (a s e : State) (zs : List Lexeme) → Runs a ps s → Runs a us e → plain_tokens us ≡ plain_tokens ps ++ zs → (vs : List Measured) × (us ≡ ps ++ vs) × Runs s vs e × (plain_tokens vs ≡ zs)
 follow [] us a s e zs h k t = (us, refl, subst (λ (z : State). Runs z us e) h k, t)
 follow (p ∷ ps) [] a s e zs h k t = absurd (nil-cons _ _ t)
@@ -58,7 +58,7 @@ follow (p ∷ ps) (u ∷ us) a s e zs h k t =
     head-placed : (p u : Measured) → p ∷ [] ≡ u ∷ [] → p ≡ u
     head-placed p u e = cc
 
--- some unit goes on from what was reached
+-- some unit begins with the tokens that were read
 pub begins_from : (s : State) (xs : List Lexeme) → Reached s xs → Begins xs
 begins_from s xs r =
     let f = finishes s in
@@ -72,12 +72,12 @@ begins_from s xs r =
       ),
     )
 
--- the tokens before a place, and the one there
+-- the tokens before an index, and the one at it
 pub record IsCutAt (tokens : List Lexeme) (k : ℕ) (x : Lexeme) : Type 0 where
   pub inside : k < length tokens
   pub next : take (suc k) tokens ≡ take k tokens ++ x ∷ []
 
--- where the parser has no step, no unit goes on
+-- if the parser has no step, no unit continues
 pub unexpected : (s : State) (tokens : List Lexeme) (k : ℕ) (x : Lexeme) → Reached s (take k tokens) → IsCutAt tokens k x → step s x ≡ None → UnexpectedAt tokens k
 unexpected s tokens k x r c h = inl (c.inside, no_unit)
   where
@@ -95,7 +95,7 @@ unexpected s tokens k x r c h = inl (c.inside, no_unit)
         let rest = follow r.placed b.2.0 start s (AtFile b.1 Between) (x ∷ b.0) r.runs (read_unit b.1 b.2.0 b.2.1) same in
         stuck (AtFile b.1 Between) rest.0 b.0 rest.2 rest.3
 
--- where the text ends before a unit does, no tree is spelled
+-- if the text ends before a unit does, the tokens spell no tree
 pub unexpected_end : (s : State) (tokens : List Lexeme) (k : ℕ) → Reached s tokens → k ≡ length tokens → tree_of s ≡ None → UnexpectedAt tokens k
 unexpected_end s tokens k r e h = inr (e, λ tree spelled. none tree spelled.0 spelled.1 (runs-one start s (AtFile tree Between) r.placed spelled.0 r.runs (read_unit tree spelled.0 spelled.1) (r.same ∙ sym spelled.2)).1)
   where
@@ -103,7 +103,7 @@ unexpected_end s tokens k r e h = inr (e, λ tree spelled. none tree spelled.0 s
     none [] ts u t = absurd u
     none (d ∷ ds) ts u t = let e : None ≡ Some (d ∷ ds) = sym h ∙ ap (λ (z : State). tree_of z) t in cc
 
--- no token that was read within the limits is too deep in any unit
+-- a token read within the limits is too deep in no unit
 in_run : (placed prefix rest : List Measured) (p : Measured) (s : State) (tree : List External) (zs : List Lexeme) → Runs start placed s → AllByRecursion IsWithin placed → SpellsUnit (prefix ++ p ∷ rest) tree → plain_tokens placed ≡ plain_tokens (prefix ++ p ∷ []) ++ zs → PassesLimit p → ⊥
 in_run placed prefix rest p s tree zs runs fine unit same past =
     let whole = subst (λ (z : List Measured). Runs start z (AtFile tree Between)) (sym (append_assoc prefix (p ∷ []) rest)) (read_unit tree (prefix ++ p ∷ rest) unit) in
@@ -145,7 +145,7 @@ too_deep s m tokens k x r c h past =
       plain_tokens-append r.placed (p ∷ []) ∙ ap (λ (z : List Lexeme). z ++ x ∷ []) r.same ∙ sym c.next,
     )
 
--- one token more within the limits
+-- one more token within the limits
 pub reach_next : (s m : State) (xs : List Lexeme) (x : Lexeme) → Reached s xs → step s x ≡ Some m → IsWithin (standing s x m) → Reached m (xs ++ x ∷ [])
 reach_next s m xs x r h within =
     let p = standing s x m in
@@ -167,7 +167,7 @@ at_start = record { placed = []; runs = refl; fine = tt; same = refl }
 pub spelled_within : (tree : List External) (tokens : List Lexeme) → IsUnit tree → Reached (AtFile tree Between) tokens → SpellsWithin tokens tree
 spelled_within tree tokens u r = (r.placed, unit_spelled tree r.placed u r.runs, r.fine, r.same)
 
--- tokens spell one tree at most
+-- tokens spell at most one tree
 pub trees_are_one : TreesAreOne
 trees_are_one tokens a b h k =
     same a b (runs-one start (AtFile a Between) (AtFile b Between) h.0 k.0 (read_unit a h.0 h.1) (read_unit b k.0 k.1) (h.2 ∙ sym k.2)).1
@@ -175,7 +175,7 @@ trees_are_one tokens a b h k =
     same : (a b : List External) → AtFile a Between ≡ AtFile b Between → a ≡ b
     same a b e = cc
 
--- what is spelled within the limits has no fault
+-- tokens that spell a tree within the limits have no fault
 pub spelled_have_no_fault : SpelledHaveNoFault
 spelled_have_no_fault tokens tree k h = (no_unexpected, no_too_deep)
   where

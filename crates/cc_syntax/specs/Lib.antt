@@ -1,3 +1,3 @@
--- the pages that the contracts of `parse` and of the laws rest on are those of cc_ast
--- no promise rests on these
+-- The contracts of `parse` and of the laws use the definitions of cc_ast.
+-- definitions that no promise depends on
 pub mod internal

@@ -1,9 +1,9 @@
--- What private contracts and proofs speak of.
+-- Definitions that only private contracts and proofs use.
 -- what a token is to the grammar
 pub mod Roles
 -- what the parser's functions compute, token by token
 pub mod Parser
--- the parser's state in the code, as a state of the page before
+-- the parser's state in the code, as a state of the module before
 pub mod ParserView
--- all that is said of the answer for a text
+-- all clauses of `parse` but one, as a relation
 pub mod Answer

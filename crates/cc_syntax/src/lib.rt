@@ -1,7 +1,10 @@
 //! From C text to a syntax tree: the tree that a text's tokens spell (C99 6.5 to 6.9, and the profile's grammar).
-//! `parser` is how the tree is found. The tree, the grammar and a text with its tree are those of `cc_ast`; the tokens, the
-//! places and the refusals are those of `cc_tokens`. All of these are handed out here too.
-//! Hands out `parse`, and that what it answers is one; the definitions that the contracts name are those of `cc_ast`.
+//!
+//! `parser` finds the tree. The tree, the grammar and a text with its tree are defined in `cc_ast`; the tokens, the places and
+//! the refusals in `cc_tokens`.
+//!
+//! The crate exports `parse`, the theorems that its result is determined by the text, and the items of those two crates. The
+//! definitions that its contracts use are those of `cc_ast`.
 #![tactic(auto)]
 
 mod parser;

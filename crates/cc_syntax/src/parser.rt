@@ -1,10 +1,15 @@
 // The tree that the tokens of a text spell.
 //
-// The parser goes over the tokens once, and is changed in place: `state` is what it has between two of them, `step` what a
-// token (`cursor`) does, by what is read: at file scope `outer` and `objects`, in a function's body `body`, with `settle` for
-// how statements end, in a full expression `operand` and `operator`, with `expression` for the operators that wait, `count`
-// for the limit and `ends` for what goes on behind it. `role` is what a token is to the grammar, `read` all the tokens with
-// the limits. No call is nested deeper for a deeper text.
+// The parser reads the tokens once, and its state is changed in place. No call is nested deeper for a deeper text.
+//
+// - `state`: the parser's state between two tokens.
+// - `step`: what one token does, by what is being read.
+// - `cursor`: a token in its text; `role`: what a token is to the grammar.
+// - `outer` and `objects`: tokens at file scope.
+// - `body`, with `settle` for the ends of statements: tokens in a function's body.
+// - `operand` and `operator`: tokens in a full expression, with `expression` for pending operators, `count` for the limit, and
+//   `ends` for the token after the expression.
+// - `read`: all tokens, with the limits.
 
 mod body;
 mod count;
@@ -52,7 +57,7 @@ fn place_of_token(text: &[u8], tokens: &[Token], number: usize) -> Place
     }
 }
 
-/// The answer for a text whose tokens were refused by the grammar or a limit, or because memory ran out.
+/// The fault for a text whose tokens were refused, by the grammar, a limit, or lack of memory.
 fn fault_of(text: &[u8], tokens: &[Token], refusal: Refusal) -> SyntaxFault
     requires fits { length text.now ≤ most_bytes }
     requires ordered { AreInOrder 0 tokens.now (length text.now) }
@@ -69,7 +74,7 @@ fn fault_of(text: &[u8], tokens: &[Token], refusal: Refusal) -> SyntaxFault
     }
 }
 
-/// A text and the external declarations that its tokens spell.
+/// Makes a unit of a text and the external declarations that its tokens spell.
 fn unit_of(alloc: Global, text: &[u8], externals: Vec<External>) -> Result<Unit, SyntaxFault>
     requires fits { length text.now ≤ most_bytes }
     requires spelled { SpellsText text.now (external_trees externals.items) }
@@ -82,7 +87,7 @@ fn unit_of(alloc: Global, text: &[u8], externals: Vec<External>) -> Result<Unit,
 }
 
 impl Parser {
-    /// The answer for a text, by the list of its tokens.
+    /// Parses a text by way of a list of its tokens.
     fn parse_list(&mut self, text: &[u8]) -> Result<Unit, SyntaxFault>
         ensures { IsParse text.now result }
     {
@@ -93,7 +98,7 @@ impl Parser {
         }
     }
 
-    /// The answer for a text.
+    /// Parses a text.
     fn parse(&mut self, text: &[u8]) -> Result<Unit, SyntaxFault>
         ensures { IsParse text.now result }
     {
@@ -106,7 +111,7 @@ impl Parser {
     }
 }
 
-/// The answer for a text, by a parser that has read nothing.
+/// Parses a text with a new parser.
 fn parse_text(alloc: Global, text: &[u8]) -> Result<Unit, SyntaxFault>
     ensures { IsParse text.now result }
 {
@@ -127,30 +132,32 @@ fn parse_text(alloc: Global, text: &[u8]) -> Result<Unit, SyntaxFault>
     parser.parse(text)
 }
 
-/// The tree that a text spells (C99 6.5 to 6.9, and the profile's grammar), with the text.
+/// Returns the text with the tree that it spells (C99 6.5 to 6.9, and the profile's grammar).
 ///
-/// Refusals: 7 and 1 to 4 as `tokens` has them; then 5 or 6 at the first token that has one: 5 where no unit begins with
-/// the tokens up to and with it (the end of the text counts as a last token), 6 where it is after the 512th token of a
-/// full expression, or begins a statement or declaration below level 64; 40 where memory ran out.
+/// Refuses with 7 (SourceTooLarge) and 1 to 4 as `tokens` does. Otherwise it refuses with 5 or 6 at the first token that is
+/// wrong. This is 5 (Unexpected) if no unit begins with the tokens up to and including that one; the end of the text counts as a
+/// last token. It is 6 (TooDeep) if the token comes after the 512th of its full expression, or begins a statement or declaration
+/// below level 64. It refuses with 40 (OutOfMemory) if memory runs out.
 pub fn parse(alloc: Global, text: &[u8]) -> Result<Unit, SyntaxFault>
     ensures fits { IfOk result (λ _. length text.now ≤ most_bytes) }
     ensures text { IfOk result (λ u. (source u).text ≡ text.now) }
     ensures spelled { IfOk result (λ u. SpellsText text.now (source u).externals) }
-    // Where the text spells a tree, that is the answer.
+    // If the text spells a tree, the result is that tree, unless memory ran out.
     ensures only { (tree : UnitTree) → length text.now ≤ most_bytes → SpellsText text.now tree → AnswersTree tree result }
     ensures refused { IfErr result (λ fault. IsParseRefusal text.now fault) }
 {
     parse_text(alloc, text)
 }
 
-/// Tokens spell one tree at most, and where they spell one within the limits no token breaks the grammar or a limit.
+/// Shows that tokens spell at most one tree, and that if they spell one within the limits, no token breaks the grammar or a
+/// limit.
 pub fn trees_are_determined()
     ensures one { TreesAreOne }
     ensures no_fault { SpelledHaveNoFault }
 {}
 
-/// What `parse` answers is a function of the text, lack of memory set aside: each text has exactly one answer, its tree or
-/// one fault with one number and place.
+/// Shows that, if memory suffices, the text alone determines what `parse` returns: each text has either one tree or one fault
+/// with one number and one place, and not both.
 pub fn parse_is_determined()
     ensures one { ParseAnswersAreOne }
     ensures some { TextsHaveAnswers }

@@ -1,12 +1,12 @@
-// What stands around a token with which no text goes on: the tokens before it, and the brackets that are open there.
+// What surrounds an unexpected token: the tokens before it, and the brackets that are open there.
 //
-// The tokens before it are the beginning of a text, so their brackets are nested as they should be.
+// The tokens before it are the beginning of some valid text, so their brackets are nested correctly.
 
 use super::diagnostic::Related;
 use super::parts::MessagePart;
 use cc_tokens::{Token, TokenKind};
 
-/// A text, its tokens up to one and from it on, and the offset of that one.
+/// A text, its tokens before a given token, those from that token on, and the token's offset.
 #[derive(Clone, Copy)]
 pub struct Around<'a> {
     text: &'a [u8],
@@ -15,7 +15,7 @@ pub struct Around<'a> {
     at: usize,
 }
 
-// What is noted of a bracket that is open.
+// The note for a bracket that is open.
 fn not_closed(byte: u8) -> &'static str {
     match byte {
         b'(' => "this '(' is not closed",
@@ -24,7 +24,7 @@ fn not_closed(byte: u8) -> &'static str {
     }
 }
 
-// What closes a bracket, as it stands in a list.
+// What closes a bracket, in quotes as in a list.
 fn closing(byte: u8) -> &'static [u8] {
     match byte {
         b'(' => b"')'",
@@ -51,7 +51,7 @@ fn count_before(tokens: &[Token], at: usize) -> usize {
     tokens.len()
 }
 
-// Whether a word stands in a list.
+// Whether a word is in a list.
 fn is_listed(list: &[&str], word: &[u8]) -> bool {
     for listed in list {
         if listed.as_bytes() == word {
@@ -62,7 +62,7 @@ fn is_listed(list: &[&str], word: &[u8]) -> bool {
 }
 
 impl<'a> Around<'a> {
-    /// What stands around the token of these that begins at an offset, or around the end of the text.
+    /// Returns what surrounds the token, among these, that begins at an offset, or the end of the text.
     pub fn new(text: &'a [u8], tokens: &'a [Token], at: usize) -> Around<'a> {
         let count = count_before(tokens, at);
         Around {
@@ -91,12 +91,12 @@ impl<'a> Around<'a> {
         }
     }
 
-    /// Whether a token is spelled so.
+    /// Whether a token has this spelling.
     pub fn is(&self, token: Option<Token>, spelling: &[u8]) -> bool {
         self.bytes(token) == spelling
     }
 
-    /// The bytes from an offset to another one.
+    /// The bytes from one offset up to another.
     pub fn between(&self, from: usize, to: usize) -> &'a [u8] {
         self.text.get(from..to).unwrap_or(b"")
     }
@@ -109,12 +109,12 @@ impl<'a> Around<'a> {
         }
     }
 
-    /// The token, or one behind it; nothing past the end of the text.
+    /// The token, or the one `count` after it; `None` past the end of the text.
     pub fn next(&self, count: usize) -> Option<Token> {
         self.behind.get(count).copied()
     }
 
-    /// The last token before it, or one before that.
+    /// The last token before it, or the one `count` before that.
     pub fn last(&self, count: usize) -> Option<Token> {
         let place = self.before.len().checked_sub(count)?.checked_sub(1)?;
         self.before.get(place).copied()
@@ -128,7 +128,7 @@ impl<'a> Around<'a> {
         }
     }
 
-    /// Where the last token before it ends.
+    /// The end of the last token before it.
     pub fn end_before(&self) -> usize {
         match self.last(0) {
             Some(token) => token.to,
@@ -136,7 +136,7 @@ impl<'a> Around<'a> {
         }
     }
 
-    /// Its place; at the end of the text that of the end of the last token.
+    /// The place to report: the token's offset, or at the end of the text the end of the last token.
     pub fn place(&self) -> usize {
         match self.next(0) {
             Some(_) => self.at,
@@ -144,12 +144,12 @@ impl<'a> Around<'a> {
         }
     }
 
-    /// Whether a line ends between the last token before it and the token.
+    /// Whether a line ends between the last token before it and the token itself.
     pub fn begins_line(&self) -> bool {
         self.between(self.end_before(), self.at).contains(&b'\n')
     }
 
-    /// Whether a word stands among the tokens before an offset.
+    /// Whether a word is among the tokens before an offset.
     pub fn stands_before(&self, word: &[u8], at: usize) -> bool {
         for token in self.before {
             if token.from < at && self.bytes(Some(*token)) == word {
@@ -159,7 +159,7 @@ impl<'a> Around<'a> {
         false
     }
 
-    /// The number of the innermost bracket that is open behind this many tokens, the first ones.
+    /// The number of the innermost bracket that is open after the first `count` tokens.
     fn innermost(&self, count: usize) -> Option<usize> {
         let mut closed: usize = 0;
         for (i, token) in self.before.iter().enumerate().rev() {
@@ -214,7 +214,7 @@ impl<'a> Around<'a> {
         if depth == 0 { None } else { first }
     }
 
-    /// Whether it stands in braces.
+    /// Whether the token is inside braces.
     pub fn is_in_braces(&self) -> bool {
         self.open_brace().is_some()
     }
@@ -227,12 +227,12 @@ impl<'a> Around<'a> {
         })
     }
 
-    /// The first brace that is open, to be noted.
+    /// A note about the first brace that is open.
     pub fn outermost(&self) -> Option<Related> {
         self.note(self.open_brace())
     }
 
-    /// At the end of the text the innermost bracket that is open, to be noted.
+    /// At the end of the text, a note about the innermost bracket that is open.
     pub fn unclosed(&self) -> Option<Related> {
         match self.next(0) {
             Some(_) => None,
@@ -240,7 +240,7 @@ impl<'a> Around<'a> {
         }
     }
 
-    /// The innermost bracket that is open, to be noted, where what closes it stands in a list, and the token begins no operand.
+    /// A note about the innermost bracket that is open, if what closes it is in a list and the token begins no operand.
     pub fn left_open(&self, list: &[&str]) -> Option<Related> {
         let bracket = self.open()?;
         let closing = closing(self.first_byte(bracket));

@@ -1,4 +1,4 @@
-// What is told of a text, and how it is written.
+// A diagnostic of a text, and how it is written.
 
 use super::excerpt::write_excerpt;
 use super::parts::{MessagePart, message};
@@ -6,14 +6,14 @@ use cc_tokens::{Place, place_at};
 use std::alloc::{AllocError, Global};
 use std::io::{self, Write};
 
-/// Another place of a text that a message has to do with, and words for it.
+/// Another place in a text that a message refers to, and words about it.
 #[derive(Clone, Copy)]
 pub struct Related {
     pub at: usize,
     pub words: &'static str,
 }
 
-/// What is told of a text: a message, and the offset of the byte that it is about, where it is about one; and another place, where one
+/// A diagnostic of a text: a message, the offset of the byte that it is about, if it is about one, and another place if that
 /// helps. An offset past the text's end counts as its end.
 #[derive(Drop)]
 pub struct Diagnostic {
@@ -38,9 +38,9 @@ fn write_line<W: Write>(
 }
 
 impl Diagnostic {
-    /// Writes the message's line in the form that editors read, for example `-:4:2: 'totl' is not declared`, and below it the line of
-    /// the text with a caret; then the same of the other place, behind `note: `. A message about no byte has its line alone, for example
-    /// `-: the text has more than 65536 bytes`.
+    /// Writes the message's line in the form that editors read, such as `-:4:2: 'totl' is not declared`, and below it the line of
+    /// the text with a caret; then the same for the other place, after `note: `. A message about no byte has only its line, such
+    /// as `-: the text has more than 65536 bytes`. Fails if the writer does.
     pub fn write<W: Write>(&self, text: &[u8], writer: &mut W) -> io::Result<()> {
         let message = self.message.as_str();
         let Some(at) = self.at else {
@@ -54,9 +54,9 @@ impl Diagnostic {
     }
 }
 
-/// Words about the name of this many bytes that begins at an offset of a text, behind the name in quotes.
+/// Makes a diagnostic of some words about the name of this many bytes at an offset of a text; the name in quotes comes first.
 ///
-/// `AllocError` where memory for it runs out.
+/// `AllocError` if memory runs out.
 pub fn of_name<'a>(
     alloc: Global,
     text: &'a [u8],

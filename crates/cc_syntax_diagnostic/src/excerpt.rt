@@ -5,19 +5,19 @@ ghost use Rattle.std.specs.Prelude.{◌≤◌, length};
 use super::spelling::{Look, Shown};
 use std::io::{self, Write};
 
-/// How many bytes of a line are shown before the caret at most, and how many from it on.
+/// The most bytes of a line that are shown before the caret, and from it on.
 const BEFORE: usize = 80;
 
 const BEHIND: usize = 80;
 
-/// A part of a text that lies in one line, cut in two at an offset.
+/// A part of a line of a text, cut in two at an offset.
 #[derive(Clone, Copy)]
 struct Excerpt<'a> {
     before: &'a [u8],
     behind: &'a [u8],
 }
 
-// The end of the bytes from their last byte of a line's end on, at most 80.
+// The last bytes, from the end of the previous line on, at most 80.
 fn end_of_line_before(bytes: &[u8]) -> &[u8] {
     let length = bytes
         .iter()
@@ -28,7 +28,7 @@ fn end_of_line_before(bytes: &[u8]) -> &[u8] {
     &bytes[bytes.len() - length..]
 }
 
-// The beginning of the bytes up to the end of their line, at most 80.
+// The first bytes, up to the end of their line, at most 80.
 fn line_behind(bytes: &[u8]) -> &[u8] {
     let length = bytes
         .iter()
@@ -48,7 +48,7 @@ fn excerpt_at(text: &[u8], at: usize) -> Excerpt<'_>
     }
 }
 
-/// Writes the line of an offset with its number, and a caret in the line below.
+/// Writes the line of an offset with its number, and a caret on the line below.
 pub fn write_excerpt<W: Write>(
     text: &[u8],
     at: usize,

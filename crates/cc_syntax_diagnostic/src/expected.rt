@@ -1,31 +1,32 @@
-// Which tokens could stand in the place of one with which no text goes on.
+// Which tokens could come in place of an unexpected one.
 //
-// The parser itself is asked: the text before the token is parsed with a candidate behind it, and where the parser then misses
-// something only at the very end, the candidate could stand there. So what is told agrees with the grammar by the way it is found.
-// Of the text before only the external declaration is kept in which the token stands: those before it are whole.
+// The parser itself decides: the text before the token is parsed with a candidate after it. If the parser then only misses
+// something at the very end, the candidate could come there. So the report agrees with the grammar by construction. Only the
+// external declaration that has the token is kept from the text before it; earlier ones are complete.
 
 use cc_syntax::{Punctuator, SyntaxFault, Token, TokenKind, parse, place_at};
 use std::alloc::{AllocError, Global};
 
-/// What the parser answers where a candidate stands behind the text before a token.
+/// What the parser says about a candidate after the text before a token.
 #[derive(Clone, Copy, PartialEq, Eq)]
 pub enum Reply {
-    /// The grammar goes on with it.
+    /// The grammar allows it.
     Accepted,
-    /// The grammar goes on with it, but a limit is passed.
+    /// The grammar allows it, but a limit is passed.
     PastLimit,
-    /// The grammar does not go on with it, or nothing is known.
+    /// The grammar does not allow it, or nothing is known.
     Refused,
 }
 
-/// The external declaration in which a token stands, up to that token, and room for a candidate behind it.
+/// The external declaration that has a token, up to that token, and room for a candidate after it.
 #[derive(Drop)]
 pub struct Prefix {
     text: Vec<u8>,
     length: usize,
 }
 
-/// Where in a text one goes over its tokens: how many braces are open, and whether the outermost one is that of a function's body.
+/// How far the tokens of a text have been read: how many braces are open, and whether the outermost one is that of a function's
+/// body.
 #[derive(Clone, Copy)]
 struct Outline {
     start: usize,
@@ -35,7 +36,7 @@ struct Outline {
 }
 
 impl Outline {
-    // Goes over one token.
+    // Reads one token.
     fn pass(&mut self, token: Token) {
         let kind = token.kind;
         if matches!(kind, TokenKind::Punctuator(Punctuator::OpenBrace)) {
@@ -59,7 +60,7 @@ impl Outline {
     }
 }
 
-// Where the external declaration begins in which a token stands: behind the one before it.
+// The offset at which the external declaration begins that has the token at an offset: after the declaration before it.
 fn start_of_external(tokens: &[Token], at: usize) -> usize {
     let mut outline = Outline {
         start: 0,
@@ -76,7 +77,7 @@ fn start_of_external(tokens: &[Token], at: usize) -> usize {
 }
 
 impl Prefix {
-    /// The text before the token at an offset.
+    /// Returns the text before the token at an offset.
     pub fn new(
         alloc: Global,
         text: &[u8],
@@ -91,7 +92,7 @@ impl Prefix {
         Ok(Prefix { text, length })
     }
 
-    /// What the parser answers where a candidate stands next.
+    /// What the parser says if a candidate comes next.
     pub fn ask(&mut self, alloc: Global, candidate: &str) -> Result<Reply, AllocError> {
         self.text.truncate(self.length);
         self.text.extend_from_slice(candidate.as_bytes())?;
@@ -138,7 +139,7 @@ impl Prefix {
         Ok(())
     }
 
-    // Adds the words of the first beginning that fits, and answers what else can be told.
+    // Adds the words of the first beginning that fits, and returns what else can be reported.
     fn add_beginning(
         &mut self,
         alloc: Global,
@@ -153,8 +154,8 @@ impl Prefix {
         Ok(Others::All)
     }
 
-    /// Words for tokens that could stand next, none where nothing is known. Behind an operand, where operators could stand too, only
-    /// what ends the expression is told.
+    /// Words for the tokens that could come next; none if nothing is known. After an operand, only what ends the expression is
+    /// reported, though operators could come too.
     pub fn expected(&mut self, alloc: Global) -> Result<Vec<&'static str>, AllocError> {
         let mut words: Vec<&'static str> = Vec::new(alloc);
         let others = if self.accepts(alloc, "*")? {
@@ -167,14 +168,14 @@ impl Prefix {
     }
 }
 
-/// What can be told of a place, and the candidates that all have to fit for it.
+/// Something that can be reported, and the candidates that must all fit.
 #[derive(Clone, Copy)]
 struct Phrase {
     words: &'static str,
     candidates: &'static [&'static str],
 }
 
-/// What else can be told of a place than what begins there.
+/// What can be reported besides what begins here.
 #[derive(Clone, Copy)]
 enum Others {
     /// What ends a block.
@@ -195,7 +196,7 @@ impl Others {
     }
 }
 
-/// What can be told of what begins at a place, and what else can be told of the place.
+/// What begins here, and what else can be reported.
 #[derive(Clone, Copy)]
 struct Beginning {
     phrase: Phrase,
@@ -281,7 +282,7 @@ static OTHERS: [Phrase; 11] = [
     },
 ];
 
-// The first one that fits is told.
+// The first one that fits is reported.
 static BEGINNINGS: [Beginning; 5] = [
     Beginning {
         phrase: Phrase {

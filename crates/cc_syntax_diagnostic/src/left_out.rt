@@ -1,11 +1,11 @@
-// What this C leaves out of C99, and words of other languages: what is said of each, and what to write in its place.
+// What this C leaves out of C99, and words of other languages: what to say about each, and what to write instead.
 //
-// Each table is gone through once, by spelling. What is said goes behind a colon.
+// Each table is searched once, by spelling. Its words are written after a colon.
 
-/// A spelling, and what is said of it.
+/// A spelling, and what to say about it.
 pub type Entry = (&'static str, &'static str);
 
-/// What a table says of a word, where it has it.
+/// What a table says about a word, if it has the word.
 pub fn said_of(table: &[Entry], word: &[u8]) -> Option<&'static str> {
     for (spelling, said) in table {
         if spelling.as_bytes() == word {
@@ -15,7 +15,7 @@ pub fn said_of(table: &[Entry], word: &[u8]) -> Option<&'static str> {
     None
 }
 
-/// What a table says of the first of its spellings with which these bytes begin.
+/// What a table says about the first of its spellings that these bytes begin with.
 pub fn said_of_prefix(table: &[Entry], bytes: &[u8]) -> Option<&'static str> {
     for (spelling, said) in table {
         if bytes.starts_with(spelling.as_bytes()) {
@@ -25,12 +25,12 @@ pub fn said_of_prefix(table: &[Entry], bytes: &[u8]) -> Option<&'static str> {
     None
 }
 
-/// What is said of a word of another language, of C's headers or of its libraries, where something is.
+/// What to say about a word of another language, of C's headers or of its libraries, if it is a known one.
 pub fn said_of_foreign(word: &[u8]) -> Option<&'static str> {
     said_of(&FOREIGN, word)
 }
 
-/// The keywords of C99 (6.4.1) that no text of this C has; `char` stands in declarations of byte arrays alone.
+/// The keywords of C99 (6.4.1) that no text of this C has. `char` occurs only in declarations of byte arrays.
 pub static KEYWORDS: [Entry; 26] = [
     ("auto", "there is no auto in this C; leave it out"),
     ("case", "there is no case in this C; write if and else"),
@@ -108,7 +108,7 @@ pub static KEYWORDS: [Entry; 26] = [
     ),
 ];
 
-/// The operators that make statements in this C, and are expressions in C99.
+/// The operators that form statements in this C, but expressions in C99.
 pub static ACTIONS: [Entry; 13] = [
     (
         "=",
@@ -229,7 +229,7 @@ static FOREIGN: [Entry; 37] = [
     ("exit", "there is no exit in this C; return from main"),
 ];
 
-/// What begins no token in this C, and what is said of it; of the bytes that begin, the first that fits.
+/// Bytes that begin no token in this C, and what to say about them. The first entry that the bytes begin with is used.
 pub static BYTES: [Entry; 13] = [
     (
         "#include",
@@ -270,7 +270,7 @@ pub static BYTES: [Entry; 13] = [
     ("\u{f7}", "write /"),
 ];
 
-/// Characters past the bytes, the first and the last of some, and what is said of them.
+/// Characters outside ASCII, as ranges from a first to a last one, and what to say about them.
 pub static CHARACTERS: [(char, char, &str); 12] = [
     (
         '\u{2018}',

@@ -1,15 +1,15 @@
-// What is told of a byte, a comment or a number that is no token.
+// Messages about a byte, a comment or a number that is not a token.
 
 use super::left_out::{BYTES, CHARACTERS, FLOATING, said_of_prefix};
 use super::parts::{MessagePart, message, words};
 use std::alloc::{AllocError, Global};
 
-// Whether a backslash stands here directly before the end of a line.
+// Whether a backslash directly before the end of a line is here.
 fn is_splice(rest: &[u8]) -> bool {
     rest.starts_with(b"\\\n".as_slice()) || rest.starts_with(b"\\\r\n".as_slice())
 }
 
-// How many bytes a character has that begins with a byte, in UTF-8.
+// How many bytes a character has, by its first byte in UTF-8.
 fn character_length(byte: u8) -> usize {
     match byte {
         0xf0.. => 4,
@@ -19,7 +19,7 @@ fn character_length(byte: u8) -> usize {
     }
 }
 
-// The character past the bytes of ASCII that begins here, where one does.
+// The character outside ASCII that begins here, if one does.
 fn character(rest: &[u8]) -> Option<char> {
     let first = rest.first().copied()?;
     let bytes = rest.get(..character_length(first))?;
@@ -29,7 +29,7 @@ fn character(rest: &[u8]) -> Option<char> {
     }
 }
 
-// What is said of a character.
+// What to say about a character.
 fn said_of_character(c: char) -> &'static str {
     for (from, to, said) in CHARACTERS.iter() {
         if *from <= c && c <= *to {
@@ -39,7 +39,7 @@ fn said_of_character(c: char) -> &'static str {
     ""
 }
 
-// What is said of what begins no token, where something is.
+// What to say about bytes that begin no token; empty if nothing is known.
 fn said(rest: &[u8]) -> &'static str {
     match rest {
         [b'.', b'0'..=b'9', ..] => FLOATING,
@@ -53,7 +53,7 @@ fn said(rest: &[u8]) -> &'static str {
     }
 }
 
-// What begins no token, as it is shown.
+// How bytes that begin no token are shown.
 fn shown(rest: &[u8]) -> MessagePart<'_> {
     match character(rest) {
         Some(c) => MessagePart::Character(c),
@@ -64,7 +64,7 @@ fn shown(rest: &[u8]) -> MessagePart<'_> {
     }
 }
 
-/// What is told of a byte that begins no token.
+/// The message about a byte that begins no token.
 pub fn bad_byte(alloc: Global, text: &[u8], at: usize) -> Result<String, AllocError> {
     let rest = text.get(at..).unwrap_or(b"");
     if is_splice(rest) {
@@ -87,7 +87,7 @@ pub fn bad_byte(alloc: Global, text: &[u8], at: usize) -> Result<String, AllocEr
     )
 }
 
-// Whether a number goes on with a byte, behind another one.
+// Whether a byte continues a number, after another byte.
 fn goes_on(before: u8, b: u8) -> bool {
     let is_sign = b == b'+' || b == b'-';
     b.is_ascii_alphanumeric()
@@ -96,7 +96,7 @@ fn goes_on(before: u8, b: u8) -> bool {
         || (is_sign && matches!(before, b'e' | b'E' | b'p' | b'P'))
 }
 
-// The bytes of the number that begins here, its first byte at least.
+// The bytes of the number that begins here: at least its first byte.
 fn number(rest: &[u8]) -> &[u8] {
     let mut before = b'0';
     for (i, b) in rest.iter().enumerate() {
@@ -113,7 +113,7 @@ fn begins(number: &[u8], lower: &[u8], upper: &[u8]) -> bool {
     number.starts_with(lower) || number.starts_with(upper)
 }
 
-// Whether a number has one of some bytes.
+// Whether a number has any of some bytes.
 fn has(number: &[u8], bytes: &[u8]) -> bool {
     for b in number {
         if bytes.contains(b) {
@@ -123,7 +123,7 @@ fn has(number: &[u8], bytes: &[u8]) -> bool {
     false
 }
 
-// Why a number is no constant.
+// Why a number is not a constant.
 fn reason(number: &[u8]) -> &'static str {
     let is_hexadecimal = begins(number, b"0x", b"0X");
     if begins(number, b"0b", b"0B") {
@@ -141,7 +141,7 @@ fn reason(number: &[u8]) -> &'static str {
     }
 }
 
-/// What is told of a number that is no constant.
+/// The message about a number that is not a constant.
 pub fn bad_constant(alloc: Global, text: &[u8], at: usize) -> Result<String, AllocError> {
     let number = number(text.get(at..).unwrap_or(b""));
     let what = MessagePart::Words(" is no decimal, octal or hexadecimal constant: ");
@@ -155,12 +155,12 @@ pub fn bad_constant(alloc: Global, text: &[u8], at: usize) -> Result<String, All
     )
 }
 
-// Whether a constant may be as large as an `unsigned`: with a suffix, and where it is octal or hexadecimal.
+// Whether a constant may be as large as an `unsigned`: if it has a suffix, or is octal or hexadecimal.
 fn may_be_unsigned(number: &[u8]) -> bool {
     number.first() == Some(&b'0') || matches!(number.last(), Some(b'u' | b'U'))
 }
 
-/// What is told of a constant past its type's range.
+/// The message about a constant that is too large for its type.
 pub fn constant_too_large(alloc: Global, text: &[u8], at: usize) -> Result<String, AllocError> {
     let number = number(text.get(at..).unwrap_or(b""));
     let limit = if may_be_unsigned(number) {

@@ -1,13 +1,15 @@
-//! What a person is told of a text without a tree, and how it is written, with the line of the text and a caret.
+//! What to report about a text without a tree, and how to write it, with the line of the text and a caret.
 //!
-//! `diagnostic` is what is told of a text, and `excerpt` the line that is shown with it; `parts` and `spelling` have what messages are made
-//! of, and how bytes of a text are shown; `offset` finds a place in a text. `lexical` and `syntax` tell of a text without a tree: `reason`
-//! says why a token is none there, by the tables of `left_out`, by words that are `near` and by what stands `around` it, `expected` which
-//! tokens could have stood there.
+//! - `diagnostic`: a diagnostic of a text; `excerpt`: the line that is shown with it.
+//! - `parts` and `spelling`: what messages are made of, and how bytes of a text are shown.
+//! - `offset`: finds a place in a text.
+//! - `lexical` and `syntax`: messages about a text without a tree.
+//! - `reason`: why a token is unexpected, by the tables of `left_out`, by words that are `near`, and by what is   `around` it.
+//! - `expected`: which tokens could come there.
 //!
-//! What is told of trees and of runs stands in crates above, and is made of the same parts. The answers themselves are those of the crates
-//! below: what is told here rests on the text and the answer alone, and no promise rests on it. Each call is safe, ends, and refuses nothing
-//! but for lack of memory.
+//! Crates above report on trees and on runs, with the same parts. The faults themselves come from the crates below; a report
+//! depends only on the text and the fault, and no promise depends on a report. Each call is safe and ends, and fails only for
+//! lack of memory.
 #![tactic(auto)]
 
 mod around;

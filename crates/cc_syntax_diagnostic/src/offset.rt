@@ -4,7 +4,7 @@ ghost use Rattle.std.specs.Prelude.{◌≡◌, ◌≤◌, length, is_some, IfSom
 
 use cc_tokens::Place;
 
-// The offset behind this many ends of lines; the end of the text where it has fewer.
+// The offset after this many ends of lines, or the end of the text if it has fewer.
 fn line_start(text: &[u8], lines: usize) -> usize
     ensures { result ≤ length text.now }
 {
@@ -20,7 +20,7 @@ fn line_start(text: &[u8], lines: usize) -> usize
     text.len()
 }
 
-// The offset of a place in a text; the text's end for a place past it.
+// The offset of a place in a text, or the text's end for a place past it.
 fn offset_of(text: &[u8], place: Place) -> usize
     ensures { result ≤ length text.now }
 {
@@ -30,7 +30,7 @@ fn offset_of(text: &[u8], place: Place) -> usize
         .min(text.len())
 }
 
-/// The offset of a place, where there is one.
+/// The offset of a place, if there is one.
 pub fn offset_in(text: &[u8], place: Option<Place>) -> Option<usize>
     ensures same { is_some result ≡ is_some place }
     ensures within { IfSome result (λ at. at ≤ length text.now) }
@@ -41,7 +41,7 @@ pub fn offset_in(text: &[u8], place: Option<Place>) -> Option<usize>
     }
 }
 
-/// Another offset in the place of one, where there is one; the text's end for an offset past it.
+/// A new offset in place of another, if there is one; the text's end for an offset past it.
 pub fn moved(at: Option<usize>, to: usize, text: &[u8]) -> Option<usize>
     ensures same { is_some result ≡ is_some at }
     ensures within { IfSome result (λ at. at ≤ length text.now) }

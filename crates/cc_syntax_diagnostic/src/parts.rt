@@ -11,14 +11,14 @@ pub enum MessagePart<'a> {
     Words(&'a str),
     /// A token, in quotes.
     Token(&'a [u8]),
-    /// A name as it stands.
+    /// A name, without quotes.
     Name(&'a [u8]),
     Count(usize),
-    /// A byte by its hexadecimal number.
+    /// A byte, shown by its hexadecimal number.
     Byte(u8),
-    /// A character by its number in Unicode.
+    /// A character, shown by its number in Unicode.
     Character(char),
-    /// A word as a number of a type.
+    /// A word, shown as a number of a type.
     Word(Scalar, u32),
     Place(Place),
 }
@@ -45,7 +45,7 @@ impl fmt::Display for MessagePart<'_> {
     }
 }
 
-/// The message of these parts.
+/// Joins these parts to a message. `AllocError` if memory runs out.
 pub fn message(alloc: Global, parts: &[MessagePart<'_>]) -> Result<String, AllocError> {
     let mut text = String::new(alloc);
     for part in parts {
@@ -54,7 +54,7 @@ pub fn message(alloc: Global, parts: &[MessagePart<'_>]) -> Result<String, Alloc
     Ok(text)
 }
 
-/// The message of these words.
+/// Makes a message of these words. `AllocError` if memory runs out.
 pub fn words(alloc: Global, words: &str) -> Result<String, AllocError> {
     String::from_str(alloc, words)
 }

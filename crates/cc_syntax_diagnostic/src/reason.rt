@@ -1,4 +1,4 @@
-// Why no text goes on with a token, where that can be said: it is C that is left out, or a word is misspelt.
+// Why a token is unexpected, if that can be said: it is something that this C leaves out, or a word is misspelt.
 
 use super::around::Around;
 use super::left_out::{
@@ -9,8 +9,8 @@ use super::left_out::{
 use super::near::near_keyword;
 use cc_tokens::{Token, TokenKind};
 
-/// A reason: the offset and the bytes of what it is about, what is said, and the spelling that was meant, where one was. Whether it is a
-/// keyword that is left out.
+/// A reason: the offset and the bytes of what it is about, what to say, the spelling that was meant, if known, and whether the
+/// reason is a keyword that this C leaves out.
 #[derive(Clone, Copy)]
 pub struct Reason<'a> {
     pub at: usize,
@@ -20,7 +20,7 @@ pub struct Reason<'a> {
     pub is_keyword: bool,
 }
 
-// A reason that is words alone.
+// A reason that consists of words.
 fn plain<'a>(at: usize, found: &'a [u8], said: &'static str) -> Reason<'a> {
     Reason {
         at,
@@ -31,7 +31,7 @@ fn plain<'a>(at: usize, found: &'a [u8], said: &'static str) -> Reason<'a> {
     }
 }
 
-// That another spelling was meant.
+// The reason that another spelling was meant.
 fn meant<'a>(at: usize, found: &'a [u8], spelling: &'static str) -> Reason<'a> {
     Reason {
         at,
@@ -58,7 +58,7 @@ fn is_one_of(bytes: &[u8], words: &[&[u8]]) -> bool {
     false
 }
 
-// What is said of `[`, by what stands before it.
+// What to say about `[`, by what precedes it.
 fn of_bracket(around: &Around<'_>) -> Option<&'static str> {
     let last = around.bytes(around.last(0));
     let is_inside = around.is_in_braces();
@@ -71,14 +71,14 @@ fn of_bracket(around: &Around<'_>) -> Option<&'static str> {
     }
 }
 
-// Whether an operand that could be written to ends before it, and no parameter.
+// Whether an operand that could be written to ends before it, and not a parameter.
 fn is_behind_target(around: &Around<'_>) -> bool {
     let last = around.last(0);
     (is_name(last) || around.is(last, b"]"))
         && (around.is_in_braces() || !around.is(around.open(), b"("))
 }
 
-// What is said of an operator that makes a statement.
+// What to say about an operator that forms a statement.
 fn of_action(around: &Around<'_>, bytes: &[u8]) -> Option<&'static str> {
     let said = said_of(&ACTIONS, bytes)?;
     if is_behind_target(around) || is_name(around.next(1)) {
@@ -90,7 +90,7 @@ fn of_action(around: &Around<'_>, bytes: &[u8]) -> Option<&'static str> {
     }
 }
 
-// What is said of `,`: it separates expressions where one ends before it.
+// What to say about `,`: it separates expressions if one ends before it.
 fn of_comma(around: &Around<'_>) -> Option<&'static str> {
     let last = around.bytes(around.last(0));
     let ends = !is_one_of(last, &[b",", b"(", b"{", b"=", b";"]);
@@ -101,7 +101,7 @@ fn of_comma(around: &Around<'_>) -> Option<&'static str> {
     }
 }
 
-// What is said of `:`.
+// What to say about `:`.
 fn of_colon(around: &Around<'_>) -> Option<&'static str> {
     let second = around.bytes(around.last(1));
     let begins = is_one_of(second, &[b"{", b"}", b";", b")", b":", b"else", b"do"]);
@@ -112,7 +112,7 @@ fn of_colon(around: &Around<'_>) -> Option<&'static str> {
     }
 }
 
-// What is said of `(`: a function's parameters, or a pointer to one.
+// What to say about `(`: a function's parameters, or a pointer to a function.
 fn of_parenthesis(around: &Around<'_>) -> Option<&'static str> {
     if around.is(around.next(1), b"*") {
         Some(POINTERS)
@@ -123,7 +123,7 @@ fn of_parenthesis(around: &Around<'_>) -> Option<&'static str> {
     }
 }
 
-// Whether a function is declared where a statement could stand.
+// Whether a function is declared in a place where a statement could come.
 fn is_inner_function(around: &Around<'_>) -> bool {
     let last = around.bytes(around.last(0));
     around.is(around.next(0), b"void")
@@ -135,12 +135,12 @@ fn is_void_cast(around: &Around<'_>) -> bool {
     around.is(around.next(0), b"void") && around.is(around.last(0), b"(")
 }
 
-// Whether a name stands before it that has to be that of an array of `unsigned char`.
+// Whether the name before it can only be that of an array of `unsigned char`.
 fn is_behind_byte_name(around: &Around<'_>) -> bool {
     is_name(around.last(0)) && around.is(around.last(1), b"char")
 }
 
-// What is said of a token by its spelling, and by what stands around it.
+// What to say about a token, by its spelling and its surroundings.
 fn said(around: &Around<'_>, bytes: &[u8]) -> Option<&'static str> {
     match bytes {
         _ if is_behind_byte_name(around) => Some(SINGLE_BYTES),
@@ -157,7 +157,7 @@ fn said(around: &Around<'_>, bytes: &[u8]) -> Option<&'static str> {
     }
 }
 
-// What is left out of this C, where the token is so.
+// What this C leaves out, if the token is such a thing.
 fn left_out<'a>(around: &Around<'a>) -> Option<Reason<'a>> {
     let bytes = around.bytes(around.next(0));
     match said_of(&KEYWORDS, bytes) {
@@ -172,7 +172,7 @@ fn left_out<'a>(around: &Around<'a>) -> Option<Reason<'a>> {
     }
 }
 
-// Two tokens that were meant to be one, or another one.
+// Two tokens that were meant to be one, or a different one.
 static JOINED: [(&[u8], &[u8], &str); 9] = [
     (b":", b"=", "="),
     (b"=", b">", ">="),
@@ -185,7 +185,7 @@ static JOINED: [(&[u8], &[u8], &str); 9] = [
     (b"-", b">", "->"),
 ];
 
-// What is said of two tokens that stand together, of which the first begins at an offset.
+// What to say about two adjacent tokens.
 fn of_joined<'a>(around: &Around<'a>, first: Token, second: Token) -> Option<Reason<'a>> {
     let (before, behind) = (around.bytes(Some(first)), around.bytes(Some(second)));
     if first.to != second.from {
@@ -203,7 +203,7 @@ fn of_joined<'a>(around: &Around<'a>, first: Token, second: Token) -> Option<Rea
     None
 }
 
-// That the token and its neighbour were meant to be one.
+// Whether the token and a neighbour were meant to be one token.
 fn joined<'a>(around: &Around<'a>) -> Option<Reason<'a>> {
     let token = around.next(0)?;
     if let Some(last) = around.last(0)
@@ -214,13 +214,13 @@ fn joined<'a>(around: &Around<'a>) -> Option<Reason<'a>> {
     of_joined(around, token, around.next(1)?)
 }
 
-// Whether a name is declared here: a type stands before it.
+// Whether a name is declared here: a type precedes it.
 fn is_declared(around: &Around<'_>, name: Token) -> bool {
     let before = around.last_before(name.from);
     is_one_of(before, &[b"int", b"unsigned", b"signed", b"void", b"char"])
 }
 
-// What is said of a name that stands nowhere before: it is a word of another language, or nearly a keyword.
+// What to say about a name that does not occur before: it is a word of another language, or nearly a keyword.
 fn of_name<'a>(around: &Around<'a>, name: Option<Token>) -> Option<Reason<'a>> {
     let name = name?;
     let found = around.bytes(Some(name));
@@ -233,7 +233,7 @@ fn of_name<'a>(around: &Around<'a>, name: Option<Token>) -> Option<Reason<'a>> {
     }
 }
 
-// That a word at the token or before it is misspelt.
+// Whether a word at the token or before it is misspelt.
 fn misspelt<'a>(around: &Around<'a>) -> Option<Reason<'a>> {
     let words = [
         around.next(0),
@@ -249,7 +249,7 @@ fn misspelt<'a>(around: &Around<'a>) -> Option<Reason<'a>> {
     None
 }
 
-// What is left out, or misspelt, of a token that is no part of another one.
+// What is left out or misspelt, for a token that is not part of another one.
 fn alone<'a>(around: &Around<'a>) -> Option<Reason<'a>> {
     if around.is(around.next(0), b":") {
         return left_out(around);
@@ -260,7 +260,7 @@ fn alone<'a>(around: &Around<'a>) -> Option<Reason<'a>> {
     }
 }
 
-/// Why no text goes on with the token, where that can be said.
+/// Why the token is unexpected, if that can be said.
 pub fn find_reason<'a>(around: &Around<'a>) -> Option<Reason<'a>> {
     match joined(around) {
         Some(reason) => Some(reason),

@@ -1,16 +1,17 @@
-// How bytes of a text are shown: as UTF-8 where they are, else byte by byte; what would steer a terminal as `?`.
+// How bytes of a text are shown: as UTF-8 if they are valid, else byte by byte. A character that would control a terminal is
+// shown as `?`.
 
 use std::fmt;
 
-/// How many bytes of a name or of another token are shown.
+/// The most bytes of a name or another token that are shown.
 const MOST_SHOWN: usize = 40;
 
-/// What stands in the place of a character.
+/// What is shown in place of a character.
 #[derive(Clone, Copy)]
 pub enum Look {
     /// The character itself.
     Plain,
-    /// As much room as it takes.
+    /// As much blank space as it takes.
     Blank,
 }
 

@@ -1,7 +1,7 @@
-// What is told of a text that has no tree.
+// Messages about a text that has no tree.
 //
-// Of a token with which no text goes on the reason is looked for in this order: it is left out of this C; a word before it is nearly
-// a keyword, or one of another language; something is missing before it; else the token is told, with what could stand there.
+// For an unexpected token, a reason is looked for in this order: this C leaves it out; a word before it is nearly a keyword, or
+// is one of another language; something is missing before it. Otherwise the token is reported, with what could come there.
 
 ghost use Rattle.std.specs.Prelude.{◌≡◌, ◌≤◌, length, is_some, IfOk, IfSome};
 ghost use Rattle.cc_tokens.specs.Fault.{fault_place};
@@ -18,7 +18,7 @@ use cc_syntax::{DEEPEST_LEVEL, MOST_TOKENS};
 use cc_tokens::{Keyword, MOST_BYTES, Punctuator, SyntaxFault, Token, TokenKind, tokens};
 use std::alloc::{AllocError, Global};
 
-/// What is told of a fault, with its place, which is another one than the fault's where something is missing or misspelt.
+/// A message about a fault, with its place. The place differs from the fault's if something is missing or misspelt.
 #[derive(Drop)]
 struct Told {
     at: usize,
@@ -37,7 +37,7 @@ fn alone(at: usize, message: Result<String, AllocError>) -> Result<Told, AllocEr
     })
 }
 
-// The words of a list, for example `',', ';' or ')'`.
+// Adds the words of a list, such as `',', ';' or ')'`.
 fn add_list(message: &mut String, list: &[&str]) -> Result<(), AllocError> {
     for (i, word) in list.iter().enumerate() {
         if i > 0 {
@@ -49,7 +49,7 @@ fn add_list(message: &mut String, list: &[&str]) -> Result<(), AllocError> {
     Ok(())
 }
 
-// The tokens of a text that has some; none where there are none.
+// The tokens of a text; an empty list if the text has none.
 fn tokens_of(alloc: Global, text: &[u8]) -> Result<Vec<Token>, AllocError> {
     match tokens(alloc, text) {
         Ok(found) => Ok(found),
@@ -58,7 +58,7 @@ fn tokens_of(alloc: Global, text: &[u8]) -> Result<Vec<Token>, AllocError> {
     }
 }
 
-// What could stand in the place of a token.
+// What could come in place of a token.
 fn expected(
     alloc: Global,
     text: &[u8],
@@ -71,7 +71,7 @@ fn expected(
     expected
 }
 
-// The words of a list behind others, where it has some.
+// Adds the words of a list, if it has any, after other words.
 fn with_list(before: String, list: &[&str]) -> Result<String, AllocError> {
     let mut message = before;
     if !list.is_empty() {
@@ -81,7 +81,7 @@ fn with_list(before: String, list: &[&str]) -> Result<String, AllocError> {
     Ok(message)
 }
 
-// A token, and what could stand in its place.
+// Reports a token, and what could come in its place.
 fn instead(alloc: Global, around: &Around<'_>, list: &[&str]) -> Result<Told, AllocError> {
     let before = message(alloc, &[MessagePart::Words("unexpected "), around.found()])?;
     Ok(Told {
@@ -91,7 +91,7 @@ fn instead(alloc: Global, around: &Around<'_>, list: &[&str]) -> Result<Told, Al
     })
 }
 
-// What is missing before a token.
+// Reports what is missing before a token.
 fn missing(alloc: Global, around: &Around<'_>, list: &[&str]) -> Result<Told, AllocError> {
     let mut message = String::from_str(alloc, "expected ")?;
     add_list(&mut message, list)?;
@@ -122,7 +122,7 @@ fn one_ends(list: &[&str]) -> bool {
     false
 }
 
-// Whether a list has only what ends or separates something, and something that ends it.
+// Whether a list only has things that end or separate something, and at least one that ends it.
 fn is_missing(list: &[&str]) -> bool {
     let begins = match list.first() {
         Some(first) => !first.starts_with("'") || *first == "'('" || *first == "'while'",
@@ -131,7 +131,7 @@ fn is_missing(list: &[&str]) -> bool {
     !begins && one_ends(list)
 }
 
-// What is told of a token by what could stand in its place.
+// Reports a token by what could come in its place.
 fn by_list(alloc: Global, around: &Around<'_>, list: &[&str]) -> Result<Told, AllocError> {
     if is_missing(list) {
         missing(alloc, around, list)
@@ -148,7 +148,7 @@ fn is_name(list: &[&str]) -> bool {
     }
 }
 
-// What is told of a token for a reason.
+// Reports a token for a reason.
 fn for_reason(
     alloc: Global,
     around: &Around<'_>,
@@ -184,12 +184,12 @@ fn for_reason(
     })
 }
 
-// Whether a reason gives way where something is missing: what is missing may be the end of the line before.
+// Whether a missing token is a better report than a reason: what is missing may be the end of the line before.
 fn gives_way(around: &Around<'_>, reason: Reason<'_>) -> bool {
     reason.is_keyword || (reason.at == around.at() && around.begins_line())
 }
 
-// What is told of a token of these with which no text goes on.
+// Reports an unexpected token, which is one of these.
 fn unexpected_of(
     alloc: Global,
     text: &[u8],
@@ -208,7 +208,7 @@ fn unexpected_of(
     told
 }
 
-// What is told of a token with which no text goes on.
+// Reports an unexpected token.
 fn unexpected(alloc: Global, text: &[u8], at: usize) -> Result<Told, AllocError> {
     let tokens = tokens_of(alloc, text)?;
     let told = unexpected_of(alloc, text, tokens.as_slice(), at);
@@ -216,7 +216,7 @@ fn unexpected(alloc: Global, text: &[u8], at: usize) -> Result<Told, AllocError>
     told
 }
 
-// Whether the two tokens before an offset are `for (`: a declaration may stand there, and no statement.
+// Whether the two tokens before an offset are `for (`: a declaration may come there, but no statement.
 fn begins_header(tokens: &[Token], at: usize) -> bool {
     let mut before = None;
     let mut second = None;
@@ -233,13 +233,13 @@ fn begins_header(tokens: &[Token], at: usize) -> bool {
         )
 }
 
-// What has more than a limit allows.
+// Words for something that has more than a limit allows.
 fn more_than(alloc: Global, what: &str, most: usize, of: &str) -> Result<String, AllocError> {
     format!(in alloc; "{what} more than {most} {of}")
 }
 
-// What is told of a token at which a limit of the grammar is passed: a statement or a declaration begins at it, or it is one more of
-// an expression.
+// The message about a token that passes a limit of the grammar: it begins a statement or a declaration, or is one too many in an
+// expression.
 fn too_deep(alloc: Global, text: &[u8], at: usize) -> Result<String, AllocError> {
     let tokens = tokens_of(alloc, text)?;
     let mut prefix = Prefix::new(alloc, text, tokens.as_slice(), at)?;
@@ -251,7 +251,7 @@ fn too_deep(alloc: Global, text: &[u8], at: usize) -> Result<String, AllocError>
     }
 }
 
-// What is told of a fault at an offset.
+// The message about a fault at an offset.
 fn told_at(alloc: Global, text: &[u8], fault: &SyntaxFault, at: usize) -> Result<Told, AllocError> {
     match fault {
         SyntaxFault::Unexpected(_) => unexpected(alloc, text, at),
@@ -267,13 +267,13 @@ fn told_at(alloc: Global, text: &[u8], fault: &SyntaxFault, at: usize) -> Result
     }
 }
 
-/// What is told of the fault that `parse` answers for a text: which byte, number or token was found, and what could stand there, what is
-/// missing before it, or what to write for what is left out; or which limit was passed. Where something is missing it stands behind the
-/// token before, and where a word is misspelt at that word.
+/// Makes a diagnostic of the fault that `parse` returned for a text: which byte, number or token was found, and what could come
+/// there, what is missing before it, or what to write instead of what this C leaves out; or which limit was passed. Its place is
+/// after the token before if something is missing, and at the misspelt word if there is one.
 ///
-/// `AllocError` where memory for it runs out.
+/// `AllocError` if memory runs out.
 pub fn of_syntax(alloc: Global, text: &[u8], fault: &SyntaxFault) -> Result<Diagnostic, AllocError>
-    // It stands in the text exactly where the fault does.
+    // The diagnostic has a place exactly if the fault has one.
     ensures placed { IfOk result (λ told. is_some told.at ≡ is_some (fault_place fault.now)) }
     ensures within { IfOk result (λ told. IfSome told.at (λ at. at ≤ length text.now)) }
 {

@@ -1,11 +1,11 @@
-// What is told to a person beside the answer: of a fault, and of a run that went wrong.
+// What a person reads beside the answer: about a fault, and about a run that went wrong.
 
 use super::fault::Fault;
 use cc_answers::{of_fault, words_of_task};
 use cc_diagnostic::{Diagnostic, further_of_typing, warnings};
 use cc_link::{TextFault, typed_unit};
 use cc_meaning::{Cause, Stop, interpret};
-use cc_run_diagnostic::of_wrong;
+use cc_run_diagnostic::{WrongRun, of_wrong_run};
 use cc_sources::{Origin, write_diagnostic};
 use cc_task::{Kind, Task};
 use std::alloc::{AllocError, Global};
@@ -24,13 +24,15 @@ pub(crate) enum Matter {
     Unsure,
 }
 
-/// What is told beside the answer to a text.
+/// The explanation of the answer to a text.
 #[derive(Drop)]
 pub struct Explanation {
     /// Words about no place of the text.
     pub words: Option<&'static str>,
-    /// What is told of the fault, or of what went wrong in a run.
+    /// The explanation of the fault, or of what went wrong in a run.
     pub first: Option<Diagnostic>,
+    /// The calls that were open as a run went wrong, the innermost first.
+    pub calls: Vec<Diagnostic>,
     /// What would be said if the fault were mended, up to twenty in all.
     pub further: Vec<Diagnostic>,
     /// What is warned of in a program.
@@ -43,12 +45,13 @@ impl Explanation {
         Explanation {
             words,
             first: None,
+            calls: Vec::new(alloc),
             further: Vec::new(alloc),
             warnings: Vec::new(alloc),
         }
     }
 
-    // What is told of one place.
+    // The explanation of one place.
     fn first(alloc: Global, told: Result<Option<Diagnostic>, AllocError>) -> Explanation {
         let mut explanation = Explanation::words(alloc, None);
         if let Ok(first) = told {
@@ -56,9 +59,20 @@ impl Explanation {
         }
         explanation
     }
+
+    // The explanation of a run that went wrong.
+    fn wrong(alloc: Global, told: Result<Option<WrongRun>, AllocError>) -> Explanation {
+        let mut explanation = Explanation::words(alloc, None);
+        if let Ok(Some(run)) = told {
+            let WrongRun { first, calls } = run;
+            explanation.first = Some(first);
+            explanation.calls = calls;
+        }
+        explanation
+    }
 }
 
-// What is told of the errors behind a fault, where that is one of scope or type.
+// The explanations of the further errors, if a fault is one of scope or type.
 fn further_of(alloc: Global, text: &[u8], fault: &Fault) -> Vec<Diagnostic> {
     let Fault::Text(TextFault::Typing(first)) = fault else {
         return Vec::new(alloc);
@@ -69,8 +83,8 @@ fn further_of(alloc: Global, text: &[u8], fault: &Fault) -> Vec<Diagnostic> {
     }
 }
 
-/// What is told of a fault of a text: its place, what was found there and what was expected; of one of scope or type the further ones too, up
-/// to twenty in all. Nothing where memory for that runs out.
+/// The explanation of a fault of a text: its place, what was found there and what was expected. After a fault of scope or type come the further
+/// ones, up to twenty in all. Nothing if memory for that runs out.
 pub fn explanation_of_fault(alloc: Global, text: &[u8], fault: &Fault) -> Explanation {
     let words = words_of_task(fault.number());
     if words.is_some() {
@@ -81,7 +95,7 @@ pub fn explanation_of_fault(alloc: Global, text: &[u8], fault: &Fault) -> Explan
     explanation
 }
 
-/// What is warned of in a text that is a program. Nothing where memory for that runs out.
+/// The warnings of a text that is a program. Nothing if memory for that runs out.
 pub fn explanation_of_program(alloc: Global, text: &[u8]) -> Explanation {
     let mut explanation = Explanation::words(alloc, None);
     if let Ok(list) = warnings(alloc, text) {
@@ -90,13 +104,13 @@ pub fn explanation_of_program(alloc: Global, text: &[u8]) -> Explanation {
     explanation
 }
 
-/// What is told of a task that answered that a text's run goes wrong for a cause: where, in which function and with which values. The run is
-/// done once more for that. Nothing where memory for it runs out.
+/// The explanation of a run of a text that goes wrong for a cause, if a task answered so: the place, the function, the values, and which calls are
+/// open. The run is done once more for that. Nothing if memory for it runs out.
 pub fn explanation_of_wrong(alloc: Global, task: &Task, text: &[u8], cause: Cause) -> Explanation {
     match task {
         Task::Interpret(steps, words) | Task::InterpretCounted(steps, words) => {
-            let told = of_wrong(alloc, text, words.as_slice(), *steps, cause);
-            Explanation::first(alloc, told)
+            let told = of_wrong_run(alloc, text, words.as_slice(), *steps, cause);
+            Explanation::wrong(alloc, told)
         }
         Task::Check
         | Task::Run(_, _, _)
@@ -125,8 +139,8 @@ fn stopping_cause(alloc: Global, text: &[u8], words: &[u32], steps: u64) -> Opti
     }
 }
 
-/// What is told of a run of an image that goes on: of a checked one where it has stopped in place, if the program goes wrong within as many
-/// steps, 100,000,000 at most; else what is warned of in the text. The program is interpreted for that.
+/// The explanation of a run of an image that goes on. For a checked one it is the place at which it has stopped, if the program goes wrong within
+/// as many steps, 100,000,000 at most; else it is the warnings of the text. The program is interpreted for that.
 pub fn explanation_of_going(alloc: Global, task: &Task, text: &[u8]) -> Explanation {
     let (steps, words) = match task {
         Task::Run(Kind::Checked, steps, words) | Task::RunCounted(Kind::Checked, steps, words) => {
@@ -137,13 +151,13 @@ pub fn explanation_of_going(alloc: Global, task: &Task, text: &[u8]) -> Explanat
     let Some(cause) = stopping_cause(alloc, text, words, steps) else {
         return explanation_of_program(alloc, text);
     };
-    let told = of_wrong(alloc, text, words, steps, cause);
-    let mut explanation = Explanation::first(alloc, told);
+    let told = of_wrong_run(alloc, text, words, steps, cause);
+    let mut explanation = Explanation::wrong(alloc, told);
     explanation.words = Some("the image stops in place, since the program goes wrong:");
     explanation
 }
 
-/// What is told of what an answer to a task for a text leaves to be explained.
+/// The explanation of what an answer to a task for a text leaves to be explained.
 pub(crate) fn explanation_of_matter(
     alloc: Global,
     task: &Task,
@@ -171,7 +185,7 @@ fn write_each<W: Write>(
     Ok(())
 }
 
-/// Writes what is told of a text that comes from there.
+/// Writes the explanation of a text that comes from there.
 pub fn write_explanation<W: Write>(
     alloc: Global,
     text: &[u8],
@@ -185,6 +199,7 @@ pub fn write_explanation<W: Write>(
     if let Some(first) = &explanation.first {
         write_diagnostic(alloc, text, origin, first, writer)?;
     }
+    write_each(alloc, text, origin, explanation.calls.as_slice(), writer)?;
     write_each(alloc, text, origin, explanation.further.as_slice(), writer)?;
     write_each(alloc, text, origin, explanation.warnings.as_slice(), writer)
 }

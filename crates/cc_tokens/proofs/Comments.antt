@@ -1,5 +1,5 @@
--- Comments at the head of the bytes: the scanner's two searches find the one comment that begins there, and the first
--- line splice in it.
+-- Comments at the beginning of the bytes: the scanner's two searches find the one comment that begins there, and the first line
+-- splice in it.
 use Rattle.std.proofs.Common.{◌≡◌, ℕ, ◌+◌, ◌<◌, ◌⊎◌, true, ◌==◌, List, [], ◌∷◌, ◌++◌, length, get_or, drop, refl, sym, ap, ◌∙◌, arith, ⊎_elim, append_assoc, length-append}
 use Rattle.std.specs.Prelude.{IsTrue}
 use Rattle.std.proofs.lemmas.Bool.{cond-true, cond-false, false≢true, and_parts, eqb-true, lt-ltb, le-ltb}
@@ -10,7 +10,7 @@ use Rattle.cc_tokens.specs.Tokens.{begins_close, begins_line_end, begins_splice,
 use Rattle.cc_tokens.specs.internal.Scan.{offset_within, comment_of, comment_head, block_comment, spliced}
 use Rattle.cc_tokens.proofs.Runs.{place_is, place_none_before}
 
--- where `*/` stands
+-- bytes that begin with `*/`
 pub close_shape : (xs : List ℕ) → begins_close xs ≡ true → xs ≡ 42 ∷ 47 ∷ drop 2 xs
 close_shape [] here = absurd (false≢true here)
 close_shape (a ∷ []) here = absurd (false≢true ((and_parts (a == 42) _ here).1))
@@ -20,12 +20,12 @@ close_shape (a ∷ b ∷ xs) here =
     let second = eqb-true b 47 both.1 in
     cc
 
--- where a line ends is a byte
+-- a line's end is a byte of the text
 line_end_fits : (xs : List ℕ) → begins_line_end xs ≡ true → 0 < length xs
 line_end_fits [] here = absurd (false≢true here)
 line_end_fits (a ∷ xs) here = omega arith
 
--- **what the scanner answers of a comment is by the comment's length**
+-- **what the scanner returns for a comment depends on the comment's length**
 block_is_found : (body after : List ℕ) → Nowhere begins_close body (42 ∷ 47 ∷ after) → (bytes : List ℕ) → bytes ≡ (47 ∷ 42 ∷ body ++ (42 ∷ 47 ∷ [])) ++ after → comment_head bytes ≡ comment_of (length (47 ∷ 42 ∷ body ++ (42 ∷ 47 ∷ []))) bytes
 block_is_found body after none bytes whole =
     let rest : drop 2 bytes ≡ body ++ (42 ∷ 47 ∷ after) = ap (drop 2) whole ∙ append_assoc body (42 ∷ 47 ∷ []) after in
@@ -58,13 +58,13 @@ pub comment_is_found : (c after bytes : List ℕ) → IsComment c after → byte
 comment_is_found _ after bytes (block body none) whole = block_is_found body after none bytes whole
 comment_is_found _ after bytes (line body none ends) whole = line_is_found body after none ends bytes whole
 
--- no comment is closed: no `*/`
+-- an unclosed comment: no `*/` follows
 pub unclosed_is_found : (body : List ℕ) → Nowhere begins_close body [] → comment_head (47 ∷ 42 ∷ body) ≡ head.Error UnclosedComment 0
 unclosed_is_found body none =
     let place : offset_within begins_close (length body) body ≡ length body = ap (offset_within begins_close (length body)) (sym (append-nil body)) ∙ place_none_before begins_close body [] none in
     ap (λ n. block_comment n (47 ∷ 42 ∷ body)) place ∙ cond-false _ _ _ (le-ltb (length body) (length body) (omega arith))
 
--- a comment without line splice, and one with
+-- a comment without a line splice, and one with a line splice
 pub plain_is_found : (c after : List ℕ) → Nowhere begins_splice c after → comment_of (length c) (c ++ after) ≡ head.Comment (length c)
 plain_is_found c after none =
     ap (spliced (length c)) (place_none_before begins_splice c after none) ∙ cond-false _ _ _ (le-ltb (length c) (length c) (omega arith))

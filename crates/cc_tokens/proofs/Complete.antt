@@ -1,5 +1,5 @@
--- Each piece and each error that stands at the head of the bytes is what the scanner answers there. So no two can stand
--- there, and a text has one list of tokens at most, or one first error, and not both.
+-- If the bytes begin with a piece or an error, the scanner returns that. So they cannot begin with two, and a text has at most
+-- one list of tokens, or one first error, and not both.
 use Rattle.std.proofs.Common.{◌≡◌, ◌≢◌, ℕ, suc, true, false, List, [], ◌∷◌, ◌++◌, length, get_or, take, drop, refl, sym, ap, ◌∙◌, arith, subst, ⊎_elim, Option, Some, None}
 use Rattle.std.specs.Char.{is_ascii_digit}
 use Rattle.std.proofs.lemmas.Bool.{false≢true, and_left, ne_eqb, cases_Bool}
@@ -23,7 +23,7 @@ use Rattle.cc_tokens.proofs.Punctuators.{punctuator_found, punctuator_longest, p
 use Rattle.cc_tokens.proofs.Comments.{comment_is_found, unclosed_is_found, plain_is_found, splice_is_found}
 use Rattle.cc_tokens.proofs.Heads.{head_blank, head_comment, head_word, head_number, head_mark}
 
--- the answer for a piece
+-- what the scanner returns for a piece
 abbrev pub answer_of : TextPiece → Head
 answer_of (blank b) = head.Blank
 answer_of (comment c) = head.Comment (length c)
@@ -93,7 +93,7 @@ comment_complete _ after (block body none) =
 comment_complete _ after (line body none ends) =
     head_comment 47 (47 ∷ body ++ after) refl refl ∙ comment_is_found (47 ∷ 47 ∷ body) after ((47 ∷ 47 ∷ body) ++ after) (line body none ends) refl
 
--- **what stands at the head is the answer**
+-- **the scanner returns what the bytes begin with**
 token_complete : (k : TokenKind) (text after : List ℕ) → StandsBefore (token k text) after → head_of (text ++ after) ≡ head.Token k (length text)
 token_complete kind.Identifier text after stands =
     word_complete text after stands.1 stands.0 stands.2.0 ∙ ap (λ k. head.Token k (length text)) (identifier_kind text (keyword_named text) refl stands.2.0 stands.2.1)

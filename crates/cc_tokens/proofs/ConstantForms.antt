@@ -1,5 +1,5 @@
--- The constant that the scanner finds in a number is the one that the number spells, and it finds none where none is
--- spelled: forward by the three bases, back by the three prefixes and the two suffixes.
+-- The constant that the scanner finds in a number is the one that the number spells, and it finds none if the number spells none.
+-- One direction is by the three bases, the other by the three prefixes and the two suffixes.
 use Rattle.std.proofs.Common.{◌≡◌, ℕ, suc, zero, ◌+◌, ◌≤◌, ◌⊎◌, Bool, true, false, not, ◌&&◌, ◌||◌, ◌==◌, List, [], ◌∷◌, ◌++◌, length, get_or, take, drop, refl, sym, ap, ◌∙◌, arith, subst, ⊎_elim, inl, inr, Option, Some, None}
 use Rattle.std.specs.Prelude.{IsTrue}
 use Rattle.std.specs.List.{prefix_len, AllByRecursion}
@@ -12,14 +12,14 @@ use Rattle.std.proofs.lemmas.List.Sums.{prefix_len-le-length}
 use Rattle.cc_tokens.specs.Constant.{Constant, is_digit_of, IsPrefix, decimal, octal, hexadecimal, IsSuffix, none, unsigned, SpellsConstant}
 use Rattle.cc_tokens.specs.internal.Scan.{constant_spelled, constant_behind, base_of, prefix_of_base, suffix_of, with_suffix}
 
--- two present values that are equal, and a present one that is none
+-- two equal present values are the same, and a present value is not an absent one
 some_same : {A : Type 0} (x y : A) → Some x ≡ Some y → x ≡ y
 some_same x y e = cc
 
 none_some : {A : Type 0} (x : A) → None ≡ Some x → ⊥
 none_some x e = cc
 
--- the digits at the head are digits
+-- the digits that are counted are digits
 head_digits : (p : ℕ → Bool) (bs : List ℕ) → AllByRecursion (λ b. IsTrue (p b)) (take (prefix_len p bs) bs)
 head_digits p [] = tt
 head_digits p (b ∷ bs) =
@@ -27,19 +27,19 @@ head_digits p (b ∷ bs) =
     let e = one-add (prefix_len p bs) in
     cond_both (p b) (1 + prefix_len p bs) 0 (λ n. AllByRecursion (λ x. IsTrue (p x)) (take n (b ∷ bs))) (λ yes. subst (λ n. AllByRecursion (λ x. IsTrue (p x)) (take n (b ∷ bs))) (sym e) (yes, ih)) (λ no. tt)
 
--- and all of them, where what follows begins with none
+-- and all digits are counted, if what follows begins with none
 prefix_len_cut : (p : ℕ → Bool) (digits rest : List ℕ) → AllByRecursion (λ b. IsTrue (p b)) digits → prefix_len p rest ≡ 0 → prefix_len p (digits ++ rest) ≡ length digits
 prefix_len_cut p [] rest all stops = stops
 prefix_len_cut p (d ∷ digits) rest all stops =
     let ih = prefix_len_cut p digits rest all.1 stops in
     cond-true (p d) _ _ all.0 ∙ one-add _ ∙ ap suc ih
 
--- two bytes are no suffix
+-- two bytes or more are not a suffix
 long_suffix : (a b : ℕ) (bs : List ℕ) → suffix_of (a ∷ b ∷ bs) ≡ None
 unfolding suffix_of
 long_suffix a b bs = cond-false _ _ _ (ne_eqb (length (a ∷ b ∷ bs)) 0 (λ e. omega arith)) ∙ cond-false _ _ _ (and_left _ _ (ne_eqb (length (a ∷ b ∷ bs)) 1 (λ e. omega arith)))
 
--- the suffix that is found is one
+-- what is accepted as a suffix is one
 suffix_found : (bs : List ℕ) (s : Bool) → suffix_of bs ≡ Some s → IsSuffix bs s
 unfolding suffix_of
 suffix_found [] true e = absurd (false≢true (some_same _ _ e))
@@ -47,7 +47,7 @@ suffix_found [] false e = none
 suffix_found (a ∷ []) s e = cond_both (a == 117 || a == 85) (Some true) None (λ o. o ≡ Some s → IsSuffix (a ∷ []) s) (λ is_suffix e'. subst (IsSuffix (a ∷ [])) (some_same _ _ e') (unsigned (⊎_elim (λ x. inl (eqb-true a 117 x)) (λ x. inr (eqb-true a 85 x)) (or_cases (a == 117) (a == 85) is_suffix)))) (λ no e'. absurd (none_some _ e')) e
 suffix_found (a ∷ b ∷ bs) s e = absurd (none_some _ (sym (long_suffix a b bs) ∙ e))
 
--- what stands after the prefix: digits, as many as fit, and a suffix
+-- what follows the prefix: digits, as many as possible, and a suffix
 record IsBehind (base n : ℕ) (behind : List ℕ) (c : Constant) : Type 0 where
   base_is : c.base ≡ base
   digits_are : c.digits ≡ take n behind
@@ -76,7 +76,7 @@ behind_found base n behind c =
     (and_cases (n == 0) (not (base == 8)) digits))
     e)
 
--- decimal digits, of which there is one, and the first isn't 0
+-- at least one decimal digit, the first of them not 0
 decimal_digits : (b : ℕ) (bs : List ℕ) (n : ℕ) → (b ≡ 48 → ⊥) → (n ≡ 0 → ◌≡◌ {A = ℕ} 10 8) → IsPrefix [] 10 (take n (b ∷ bs))
 decimal_digits b bs zero apart some = absurd (let e = some refl in omega arith)
 decimal_digits b bs (suc n) apart some = decimal apart
@@ -86,7 +86,7 @@ hexadecimal_digits x bs zero fits letter some = absurd (let e = some refl in ome
 hexadecimal_digits x [] (suc n) fits letter some = absurd (omega arith)
 hexadecimal_digits x (b ∷ bs) (suc n) fits letter some = hexadecimal letter
 
--- the constant after a prefix is spelled by the prefix and what stands after it
+-- the prefix and what follows it spell the constant
 spelled_behind : (c : Constant) (text prefix behind : List ℕ) (base : ℕ) → text ≡ prefix ++ behind
     → IsBehind base (prefix_len (is_digit_of base) behind) behind c
     → IsPrefix prefix base (take (prefix_len (is_digit_of base) behind) behind)
@@ -104,7 +104,7 @@ spelled_behind c text prefix behind base whole parts prefixed =
       ended = parts.ended;
     }
 
--- the constant that the scanner finds at one base
+-- the constant that the scanner finds for one base
 spelled_at : ℕ → List ℕ → Option Constant
 spelled_at base text = constant_behind base (prefix_len (is_digit_of base) (drop (prefix_of_base base) text)) (drop (prefix_of_base base) text)
 
@@ -146,7 +146,7 @@ constant_sound b bs c e = ⊎_elim
     spelled_behind c _ [] (b ∷ bs) 10 refl parts (decimal_digits b bs _ apart parts.some))
     (cases_eq b 48)
 
--- a suffix begins with no digit
+-- a suffix does not begin with a digit
 suffix_letter : (x : ℕ) → (x ≡ 117) ⊎ (x ≡ 85) → 16 ≤ digit_value x
 suffix_letter x letter = ⊎_elim (λ e. subst (λ y. 16 ≤ digit_value y) (sym e) (omega arith)) (λ e. subst (λ y. 16 ≤ digit_value y) (sym e) (omega arith)) letter
 
@@ -174,7 +174,7 @@ behind_is_found base digits suffix s small some all ended =
     ∙ ap (λ ds. with_suffix base ds (suffix_of (drop (length digits) (digits ++ suffix)))) (take_at digits suffix (length digits) refl)
     ∙ ap (with_suffix base digits) (ap suffix_of (drop_at digits suffix (length digits) refl) ∙ suffix_is suffix s ended)
 
--- after `0`, octal digits and a suffix begin with no x
+-- octal digits and a suffix after `0` do not begin with x
 no_hexadecimal : (digits suffix : List ℕ) (s : Bool) → AllByRecursion (λ b. IsTrue (is_digit_of 8 b)) digits → IsSuffix suffix s → (get_or (digits ++ suffix) 0 0 == 120 || get_or (digits ++ suffix) 0 0 == 88) ≡ false
 no_hexadecimal [] _ _ all none = refl
 no_hexadecimal [] _ _ all (unsigned {x} letter) = ⊎_elim (λ e. subst (λ y. (y == 120 || y == 88) ≡ false) (sym e) refl) (λ e. subst (λ y. (y == 120 || y == 88) ≡ false) (sym e) refl) letter

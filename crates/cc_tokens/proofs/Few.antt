@@ -1,5 +1,4 @@
--- A search goes through the few keywords or punctuators that begin with the first byte alone: those that begin otherwise
--- do not pass its test.
+-- A search looks only through the few keywords or punctuators that begin with the first byte: the others fail its test.
 use Rattle.std.proofs.Common.{◌≡◌, ℕ, ◌≤◌, Bool, true, false, ◌==◌, List, ◌++◌, length, drop, refl, sym, ap, ◌∙◌, subst, arith, Option, Some, None}
 use Rattle.std.specs.Prelude.{slice_index}
 use Rattle.std.specs.List.{find, starts_with, AllByRecursion}
@@ -17,7 +16,7 @@ use Rattle.cc_tokens.proofs.Tables.{keyword_named-bytes}
 use Rattle.cc_tokens.proofs.Words.{found_passes, missing_fails}
 use Rattle.cc_tokens.proofs.Punctuators.{is_descending, longest_first, head_test, punctuator_found, punctuator_longest, punctuator_missing, punctuator_one}
 
--- the keyword of a keyword's bytes is among those that begin as they do
+-- the keyword of some bytes is among those with the same first byte
 keyword_among : (k : Keyword) → find (λ j. bytes_eq (keyword_bytes j) (keyword_bytes k)) (keywords_with (slice_index (keyword_bytes k) 0)) ≡ Some k
 keyword_among keyword.Auto = refl
 keyword_among keyword.Break = refl
@@ -57,7 +56,7 @@ keyword_among keyword.Bool = refl
 keyword_among keyword.Complex = refl
 keyword_among keyword.Imaginary = refl
 
--- a keyword that passes the test is the word's
+-- a keyword that passes the test is the one that the word spells
 passes_named : (word : List ℕ) (k : Keyword) → bytes_eq (keyword_bytes k) word ≡ true → word ≡ keyword_bytes k
 passes_named word k e = sym ((bytes_eq-Decides (keyword_bytes k) word).0 e)
 
@@ -77,7 +76,7 @@ keyword_among_few word = by (find (λ k. bytes_eq (keyword_bytes k) word) (keywo
         let is : word ≡ keyword_bytes k = named_bytes word k a in
         sym f ∙ ap (λ w. find (λ j. bytes_eq (keyword_bytes j) w) (keywords_with (slice_index w 0))) is ∙ keyword_among k
 
--- those that begin as a punctuator does have the longest first
+-- the punctuators with the same first byte are ordered longest first
 begun_descend : (p : Punctuator) → is_descending 3 (punctuators_with (slice_index (punctuator_bytes p) 0)) ≡ true
 begun_descend punctuator.ShiftLeftAssign = refl
 begun_descend punctuator.ShiftRightAssign = refl
@@ -123,7 +122,7 @@ begun_descend punctuator.Tilde = refl
 begun_descend punctuator.Exclamation = refl
 begun_descend punctuator.Assign = refl
 
--- what holds of each punctuator that begins as one does holds of that one
+-- what holds of each punctuator with the same first byte holds of this one
 of_each_begun : (P : Punctuator → Type 0) (p : Punctuator) → AllByRecursion P (punctuators_with (slice_index (punctuator_bytes p) 0)) → P p
 of_each_begun P punctuator.ShiftLeftAssign all = all.0
 of_each_begun P punctuator.ShiftLeft all = all.1.0
@@ -169,7 +168,7 @@ of_each_begun P punctuator.Question all = all.0
 of_each_begun P punctuator.Colon all = all.0
 of_each_begun P punctuator.Tilde all = all.0
 
--- the first byte of a punctuator and what follows is the punctuator's
+-- the first byte of a punctuator and what follows it is the punctuator's own
 first_is : (p : Punctuator) (rest : List ℕ) → slice_index (punctuator_bytes p ++ rest) 0 ≡ slice_index (punctuator_bytes p) 0
 first_is punctuator.ShiftLeftAssign rest = refl
 first_is punctuator.ShiftRightAssign rest = refl
@@ -218,7 +217,7 @@ first_is punctuator.Assign rest = refl
 abbrev test : List ℕ → Punctuator → Bool
 test bytes p = starts_with (λ a b. a == b) bytes (punctuator_bytes p)
 
--- the first byte at which a punctuator stands is its own
+-- the first byte of bytes that begin with a punctuator is that punctuator's
 same_first : (bytes : List ℕ) (p : Punctuator) (rest : List ℕ) → bytes ≡ punctuator_bytes p ++ rest → slice_index bytes 0 ≡ slice_index (punctuator_bytes p) 0
 same_first bytes p rest e = ap (λ bs. slice_index bs 0) e ∙ first_is p rest
 

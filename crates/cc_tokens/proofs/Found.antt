@@ -1,5 +1,5 @@
--- What `tokens` has found before an offset: the text up to there is cut into pieces, and the tokens among them are those
--- found. Each answer of the scanner goes one piece on, or gives the first error.
+-- What `tokens` has found before an offset: the text up to there is cut into pieces, and the tokens among them are those found.
+-- Each answer of the scanner adds a piece or gives the first error.
 use Rattle.std.proofs.Common.{◌≡◌, ℕ, ◌+◌, ◌-◌, ◌<◌, ◌≤◌, List, [], ◌∷◌, ◌++◌, length, take, drop, refl, sym, ap, ◌∙◌, arith, subst, length-append, length-drop}
 use Rattle.std.specs.List.{flat_map}
 use Rattle.std.proofs.lemmas.List.{take_at, drop_at, append-nil, drop-drop, take_rest, drop_all, map_push}
@@ -19,7 +19,7 @@ use Rattle.cc_tokens.proofs.Cuts.{cut_more, bytes_more, tokens_more}
 pub found_none : (text : List ℕ) → FoundBefore text [] 0
 found_none text = record { within = omega arith; pieces = []; cut = refl; consumed = refl; tokens = refl; ordered = omega arith }
 
--- tokens in order, with more room after them, and with one more
+-- tokens in order stay in order with more room after them, and with one more token
 order_grows : (low : ℕ) (ts : List Token) (at high : ℕ) → AreInOrder low ts at → at ≤ high → AreInOrder low ts high
 order_grows low [] at high ordered le = omega arith
 order_grows low (t ∷ ts) at high ordered le = (ordered.0, ordered.1, order_grows t.to ts at high ordered.2 le)
@@ -29,7 +29,7 @@ order_more low [] at t ordered le some = (omega arith, some, omega arith)
 order_more low (u ∷ ts) at t ordered le some = (ordered.0, ordered.1, order_more u.to ts at t ordered.2 le some)
 
 module _ (text : List ℕ) (ts : List Token) (at n : ℕ) (found : FoundBefore text ts at) where
-  -- a piece more
+  -- one more piece
   found_piece : (p : TextPiece) (ts' : List Token) → StandsAt (drop at text) n p → lexemes text ts' ≡ lexemes text ts ++ tokens_of at (p ∷ []) → AreInOrder 0 ts' (at + n) → FoundBefore text ts' (at + n)
   found_piece p ts' stands tokens ordered =
       let size = stands.size in
@@ -62,7 +62,7 @@ module _ (text : List ℕ) (ts : List Token) (at n : ℕ) (found : FoundBefore t
       let same : lexeme text t ≡ record { kind = k; text = bytes; at = at } = ap (λ bs. record { kind = k; text = bs; at = at }) bytes_are in
       found_piece (token k bytes) (ts ++ t ∷ []) stands (map_push (lexeme text) ts t ∙ ap (λ l. lexemes text ts ++ l ∷ []) same) (order_more 0 ts at t found.ordered (omega arith) (omega arith))
 
--- the scanner's answer over what is left stands there
+-- what the scanner returns for the rest of the text is what the rest begins with
 pub head_at : (text : List ℕ) (at : ℕ) (f : Head) → at < length text → f ≡ head_of (take (length text - at) (drop at text)) → IsHead (drop at text) f
 head_at text at f below e =
     subst (IsHead (drop at text)) (sym (e ∙ ap head_of (take_rest text at))) (head_sound (drop at text) (omega (arith, length-drop at text)))

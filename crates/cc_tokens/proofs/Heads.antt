@@ -1,5 +1,5 @@
--- What the scanner answers at the head of the bytes agrees with the definition of a text's tokens: each answer is a
--- piece or an error that stands there (sound), and each piece or error that stands there is the answer (complete).
+-- What the scanner returns agrees with the definition of a text's tokens. What it returns is a piece or an error that the bytes
+-- begin with (sound), and it returns each piece or error that the bytes begin with (complete).
 use Rattle.std.proofs.Common.{◌≡◌, ℕ, suc, ◌+◌, ◌<◌, ◌≤◌, ◌⊎◌, Bool, true, false, ◌||◌, ◌==◌, List, [], ◌∷◌, ◌++◌, length, take, drop, refl, sym, ap, ◌∙◌, arith, subst, ⊎_elim, inl, inr, append_assoc, length-append, length-drop, Option, Some, None}
 use Rattle.std.specs.Prelude.{nat_lt, IsTrue}
 use Rattle.std.specs.Char.{is_ascii_digit}
@@ -20,7 +20,7 @@ use Rattle.cc_tokens.proofs.Words.{punctuator_some, word_is_longest, number_is_l
 use Rattle.cc_tokens.proofs.Punctuators.{punctuator_found, punctuator_longest, punctuator_missing}
 use Rattle.cc_tokens.proofs.Comments.{close_shape}
 
--- the bytes begin with a piece of n bytes that is right before what follows it
+-- the bytes begin with a piece of n bytes, which is right given what follows it
 pub record StandsAt (bytes : List ℕ) (n : ℕ) (p : TextPiece) : Type 0 where
   pub after : List ℕ
   pub whole : bytes ≡ piece_bytes p ++ after
@@ -28,14 +28,14 @@ pub record StandsAt (bytes : List ℕ) (n : ℕ) (p : TextPiece) : Type 0 where
   pub size : length (piece_bytes p) ≡ n
   pub some : 0 < n
 
--- what an answer of the scanner says of the bytes
+-- what each answer of the scanner means for the bytes
 abbrev pub IsHead : List ℕ → Head → Type 0
 IsHead bytes head.Blank = (b : ℕ) × StandsAt bytes 1 (blank b)
 IsHead bytes (head.Comment n) = (c : List ℕ) × StandsAt bytes n (comment c)
 IsHead bytes (head.Token k n) = (text : List ℕ) × StandsAt bytes n (token k text)
 IsHead bytes (head.Error error k) = (k < length bytes) × IsLexicalError error bytes k
 
--- the five ways that the first byte may go
+-- the five cases of the first byte
 module _ (b : ℕ) (bs : List ℕ) where
   pub head_blank : is_blank b ≡ true → head_of (b ∷ bs) ≡ head.Blank
   unfolding head_of
@@ -181,7 +181,7 @@ mark_sound b bs (Some p) no_blank no_comment no_word no_number e =
       },
     )
 
--- a comment that begins the bytes, by its splices
+-- a comment at the beginning of the bytes, by the line splices in it
 splices_sound : (c after bytes : List ℕ) → IsComment c after → 0 < length c → bytes ≡ c ++ after → IsHead bytes (comment_of (length c) bytes)
 splices_sound c after bytes commented some whole =
     let n = length c in
@@ -282,7 +282,7 @@ comment_sound (a ∷ s ∷ body) e =
     (λ again. subst (λ x. IsHead (47 ∷ x ∷ body) (comment_head (47 ∷ x ∷ body))) (sym (eqb-true s 47 again)) (line_sound body))
     (or_cases (s == 42) (s == 47) both.1))
 
--- **the answer stands at the head**
+-- **the bytes begin with what the scanner returns**
 pub head_sound : (bytes : List ℕ) → 0 < length bytes → IsHead bytes (head_of bytes)
 head_sound [] some = absurd (omega arith)
 head_sound (b ∷ bs) some = ⊎_elim

@@ -1,18 +1,33 @@
--- How it is shown that a text has one list of tokens. The scanner equals functions on lists. What these answer is at the head of the
--- bytes (Heads), and what is there is their answer (Complete), so no two tokens can be there. The laws of cuts join the pieces to the
--- tokens of a whole text (Cuts), and each text has tokens or a first error (Total).
+-- How it is shown that a text has one list of tokens. The scanner's functions equal functions on lists. What these return is what
+-- the bytes begin with (Heads), and they return whatever the bytes begin with (Complete), so no two tokens are possible. The laws
+-- of cuts join the pieces to the tokens of a whole text (Cuts), and each text has tokens or a first error (Total).
+-- the steps of the scanner's loops
 pub mod Loops
+-- the value of a constant, and that capping it is harmless
 pub mod ConstantValue
+-- facts that hold of every keyword or punctuator, each by cases
 pub mod Tables
+-- the length of a run, and the first place that a search finds
 pub mod Runs
+-- the constant that is found is the one that is spelled
 pub mod ConstantForms
+-- the longest token is found, by the first byte
 pub mod Words
+-- the punctuator that is found is the longest
 pub mod Punctuators
+-- a search needs only the keywords or punctuators with the right first byte
 pub mod Few
+-- a comment is found, and its first line splice
 pub mod Comments
+-- the bytes begin with what the scanner returns
 pub mod Heads
+-- the scanner returns what the bytes begin with
 pub mod Complete
+-- a text is cut in one way
 pub mod Cuts
+-- what `tokens` has found before an offset
 pub mod Found
+-- every text has tokens or a first error
 pub mod Total
+-- worked texts, with their tokens or their first error
 pub mod TokenRows

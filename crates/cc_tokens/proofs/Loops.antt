@@ -1,11 +1,11 @@
--- The steps of the scanner's loops: what each answer at an offset says of the answer one byte on.
+-- The steps of the scanner's loops: how each result at an offset follows from the result one byte later.
 use Rattle.std.proofs.Common.{◌≡◌, ℕ, suc, ◌+◌, ◌-◌, ◌*◌, ◌<◌, ◌≤◌, Bool, true, false, cond, List, [], ◌∷◌, length, get_or, drop, refl, ap, ◌∙◌, arith, nat_eq}
 use Rattle.std.proofs.lemmas.List.{drop_more, drop_all}
 use Rattle.std.proofs.lemmas.Bool.{cond-true, cond-false, false≢true, and_parts}
 use Rattle.cc_tokens.specs.Tokens.{begins_close}
 use Rattle.cc_tokens.specs.internal.Scan.{offset_within, run_length}
 
--- a search of one offset more, by its first
+-- a search over one more offset, by its first offset
 place_first : (test : List ℕ → Bool) (k x : ℕ) (xs : List ℕ) → offset_within test (suc k) (x ∷ xs) ≡ cond (test (x ∷ xs)) 0 (suc (offset_within test k xs))
 unfolding offset_within
 place_first test k x xs = refl
@@ -48,11 +48,11 @@ module _ (may : ℕ → ℕ → Bool) (before n : ℕ) (bytes : List ℕ) (withi
   pub run_more : may before (get_or bytes n 0) ≡ true → run_length may before (drop n bytes) ≡ suc (run_length may (get_or bytes n 0) (drop (n + 1) bytes))
   run_more goes = run_at ∙ cond-true _ _ _ goes
 
--- a capped value times a base
+-- a capped value times a base does not overflow
 pub capped_product : (v base : ℕ) → v ≤ 4294967296 → base ≤ 16 → v * base ≤ 68719476736
 capped_product v base small few = grind arith
 
--- where `*/` stands are two bytes
+-- `*/` has two bytes
 pub close_fits : (xs : List ℕ) → begins_close xs ≡ true → 2 ≤ length xs
 close_fits [] here = absurd (false≢true here)
 close_fits (a ∷ []) here = absurd (false≢true ((and_parts (nat_eq a 42) _ here).1))

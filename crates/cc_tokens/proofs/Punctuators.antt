@@ -1,4 +1,4 @@
--- The punctuator that the scanner finds is the longest at the head: the table has the longest first.
+-- The punctuator that the scanner finds is the longest one that the bytes begin with, because the table has the longest first.
 use Rattle.std.proofs.Common.{◌≡◌, ◌≢◌, ℕ, ◌≤◌, Bool, true, false, ◌&&◌, ◌==◌, List, [], ◌∷◌, ◌++◌, length, take, drop, refl, sym, ap, ◌∙◌, arith, subst, Some, None}
 use Rattle.std.specs.Prelude.{nat_le}
 use Rattle.std.specs.List.{find, starts_with, AllByRecursion}
@@ -38,7 +38,7 @@ longest_first test most (x ∷ ps) p descends e =
     (λ not_here e'. ((λ passes. absurd (false≢true (sym not_here ∙ passes))), ih e'))
     e
 
--- the test of the table: the punctuator stands at the head
+-- the test of the table: the bytes begin with the punctuator
 pub head_test : (bytes : List ℕ) (p : Punctuator) → (starts_with (λ a b. a == b) bytes (punctuator_bytes p) ≡ true → bytes ≡ punctuator_bytes p ++ drop (length (punctuator_bytes p)) bytes) × ((rest : List ℕ) → bytes ≡ punctuator_bytes p ++ rest → starts_with (λ a b. a == b) bytes (punctuator_bytes p) ≡ true)
 head_test bytes p = starts_is Decides-eqb bytes (punctuator_bytes p) (starts_with (λ a b. a == b) bytes (punctuator_bytes p)) refl
 
@@ -56,7 +56,7 @@ unfolding punctuator_at
 punctuator_missing bytes q rest e prefix =
     false≢true (sym (of_each_punctuator (λ r. starts_with (λ a b. a == b) bytes (punctuator_bytes r) ≡ false) (missing_fails (λ r. starts_with (λ a b. a == b) bytes (punctuator_bytes r)) PUNCTUATORS e) q) ∙ (head_test bytes q).1 rest prefix)
 
--- two punctuators at the head that are no longer than each other are one
+-- two punctuators of the same length that the bytes begin with are the same
 pub punctuator_one : (p q : Punctuator) (a b : List ℕ) → punctuator_bytes p ++ a ≡ punctuator_bytes q ++ b → length (punctuator_bytes p) ≡ length (punctuator_bytes q) → p ≡ q
 punctuator_one p q a b e sizes =
     let bytes : punctuator_bytes p ≡ punctuator_bytes q = sym (take_at (punctuator_bytes p) a (length (punctuator_bytes p)) refl) ∙ ap (take (length (punctuator_bytes p))) e ∙ take_at (punctuator_bytes q) b (length (punctuator_bytes p)) (sym sizes) in

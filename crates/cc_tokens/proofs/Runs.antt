@@ -1,12 +1,12 @@
--- The scanner's runs and searches, on lists: a run's length is the longest that goes on, and a search's answer is the
--- first place, however the bytes are cut.
+-- The scanner's runs and searches, on lists: a run is as long as possible, and a search returns the first place, however the
+-- bytes are cut.
 use Rattle.std.proofs.Common.{◌≡◌, ℕ, suc, zero, ◌<◌, ◌≤◌, Bool, true, false, cond, List, [], ◌∷◌, ◌++◌, length, take, drop, refl, ap, ◌∙◌, arith}
 use Rattle.std.proofs.lemmas.Bool.{cond-true, cond-false, cond_both}
 use Rattle.std.proofs.lemmas.List.{take-append-drop}
 use Rattle.cc_tokens.specs.Tokens.{Continues, Nowhere}
 use Rattle.cc_tokens.specs.internal.Scan.{offset_within, run_length}
 
--- a run is as long as it fits, and each of its bytes goes on
+-- a run fits within the bytes, and each of its bytes continues it
 pub run_fits : (may : ℕ → ℕ → Bool) (before : ℕ) (bs : List ℕ) → run_length may before bs ≤ length bs
 unfolding run_length
 run_fits may before [] = omega arith
@@ -21,7 +21,7 @@ run_continues may before (b ∷ bs) =
     let ih = run_continues may b bs in
     cond_both (may before b) (suc (run_length may b bs)) 0 (λ n. Continues may before (take n (b ∷ bs))) (λ goes. (goes, ih)) (λ stops. tt)
 
--- no run that goes on is longer
+-- no longer run is possible
 pub run_longest : (may : ℕ → ℕ → Bool) (before : ℕ) (prefix rest : List ℕ) → Continues may before prefix → length prefix ≤ run_length may before (prefix ++ rest)
 unfolding run_length
 run_longest may before [] rest goes = omega arith
@@ -30,7 +30,7 @@ run_longest may before (b ∷ prefix) rest goes =
     let e = cond-true (may before b) (suc (run_length may b (prefix ++ rest))) 0 goes.0 in
     omega arith
 
--- the first bytes, before the place that a search answers, don't begin what it looks for, and the place does
+-- a search's answer: what it looks for begins at none of the places before it, and begins there
 pub place_fits : (test : List ℕ → Bool) (n : ℕ) (bs : List ℕ) → offset_within test n bs ≤ n
 unfolding offset_within
 place_fits test zero bs = omega arith
@@ -56,7 +56,7 @@ place_here test (suc n) (b ∷ bs) fits below =
     let ih = place_here test n bs (omega arith) in
     cond_both (test (b ∷ bs)) 0 (suc (offset_within test n bs)) (λ k. k < suc n → test (drop k (b ∷ bs)) ≡ true) (λ here lt. here) (λ not_here lt. ih (omega arith)) below
 
--- and a search answers no other place
+-- a search returns no other place
 pub place_is : (test : List ℕ → Bool) (prefix after : List ℕ) (n : ℕ) → 0 < length after → Nowhere test prefix after → length prefix < n → test after ≡ true → offset_within test n (prefix ++ after) ≡ length prefix
 unfolding offset_within
 place_is test prefix after zero some none below here = absurd (omega arith)

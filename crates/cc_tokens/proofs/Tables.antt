@@ -1,5 +1,5 @@
--- Facts of every keyword and every punctuator, each by going through all of them: that the tables hold each, that no two
--- are spelled alike, and with which bytes a punctuator begins.
+-- Facts about every keyword and every punctuator, each by going through all of them: the tables have them all, no two are spelled
+-- alike, and which bytes a punctuator can begin with.
 use Rattle.std.proofs.Common.{◌≡◌, ℕ, Bool, true, List, length, refl, Some}
 use Rattle.std.specs.Prelude.{slice_index, not, ◌&&◌, nat_lt}
 use Rattle.std.specs.List.{AllByRecursion}
@@ -13,7 +13,7 @@ use Rattle.cc_tokens.specs.Spelling.{keyword_bytes, punctuator_bytes}
 use Rattle.cc_tokens.specs.Tokens.{is_blank, is_nondigit, IsIdentifierText}
 use Rattle.cc_tokens.specs.internal.Scan.{keyword_named, punctuator_at}
 
--- what holds of each keyword of the table holds of each keyword
+-- what holds of each keyword in the table holds of every keyword
 pub of_each_keyword : (P : Keyword → Type 0) → AllByRecursion P KEYWORDS → (k : Keyword) → P k
 of_each_keyword P all keyword.Auto = all.0
 of_each_keyword P all keyword.Break = all.1.0
@@ -53,7 +53,7 @@ of_each_keyword P all keyword.Bool = all.1.1.1.1.1.1.1.1.1.1.1.1.1.1.1.1.1.1.1.1
 of_each_keyword P all keyword.Complex = all.1.1.1.1.1.1.1.1.1.1.1.1.1.1.1.1.1.1.1.1.1.1.1.1.1.1.1.1.1.1.1.1.1.1.1.0
 of_each_keyword P all keyword.Imaginary = all.1.1.1.1.1.1.1.1.1.1.1.1.1.1.1.1.1.1.1.1.1.1.1.1.1.1.1.1.1.1.1.1.1.1.1.1.0
 
--- the keyword of a keyword's bytes is that keyword
+-- the bytes of a keyword spell that keyword
 pub keyword_named-bytes : (k : Keyword) → keyword_named (keyword_bytes k) ≡ Some k
 unfolding keyword_named
 keyword_named-bytes keyword.Auto = refl
@@ -94,7 +94,7 @@ keyword_named-bytes keyword.Bool = refl
 keyword_named-bytes keyword.Complex = refl
 keyword_named-bytes keyword.Imaginary = refl
 
--- a keyword begins with a letter or `_`, and each byte goes on with a word
+-- a keyword begins with a letter or `_`, and each further byte continues a word
 pub keyword_is_word : (k : Keyword) → IsIdentifierText (keyword_bytes k)
 keyword_is_word keyword.Auto = (refl, (refl, (refl, (refl, tt))))
 keyword_is_word keyword.Break = (refl, (refl, (refl, (refl, (refl, tt)))))
@@ -134,7 +134,7 @@ keyword_is_word keyword.Bool = (refl, (refl, (refl, (refl, (refl, tt)))))
 keyword_is_word keyword.Complex = (refl, (refl, (refl, (refl, (refl, (refl, (refl, (refl, tt))))))))
 keyword_is_word keyword.Imaginary = (refl, (refl, (refl, (refl, (refl, (refl, (refl, (refl, (refl, (refl, tt))))))))))
 
--- what holds of each punctuator of the table holds of each punctuator
+-- what holds of each punctuator in the table holds of every punctuator
 pub of_each_punctuator : (P : Punctuator → Type 0) → AllByRecursion P PUNCTUATORS → (p : Punctuator) → P p
 of_each_punctuator P all punctuator.OpenParenthesis = all.1.1.1.1.1.1.1.1.1.1.1.1.1.1.1.1.1.1.1.1.0
 of_each_punctuator P all punctuator.CloseParenthesis = all.1.1.1.1.1.1.1.1.1.1.1.1.1.1.1.1.1.1.1.1.1.0
@@ -180,7 +180,7 @@ of_each_punctuator P all punctuator.CaretAssign = all.1.1.1.1.1.1.1.1.1.1.1.1.1.
 of_each_punctuator P all punctuator.PlusPlus = all.1.1.1.1.1.1.1.1.1.1.1.1.1.1.1.1.1.1.0
 of_each_punctuator P all punctuator.MinusMinus = all.1.1.1.1.1.1.1.1.1.1.1.1.1.1.1.1.1.1.1.0
 
--- the punctuator of a punctuator's bytes is that punctuator
+-- the bytes of a punctuator spell that punctuator
 pub punctuator_at-bytes : (p : Punctuator) → punctuator_at (punctuator_bytes p) ≡ Some p
 unfolding punctuator_at
 punctuator_at-bytes punctuator.OpenParenthesis = refl

@@ -1,5 +1,5 @@
--- Texts with their tokens, or with their first error, worked by hand: a comment ends a token, blanks that two signs need,
--- and a number that goes on after its exponent letter.
+-- Texts with their tokens or their first error, worked by hand: a comment that ends a token, blanks that two signs need, and a
+-- number that continues after its exponent letter.
 use Rattle.std.proofs.Common.{◌≡◌, ℕ, ◌+◌, ◌<◌, List, [], ◌∷◌, ◌++◌, length, drop, refl, subst, arith}
 use lib.Chars.{codes}
 use Rattle.cc_tokens.specs.declared.scalar.Scalar.TheVariants.{Int}
@@ -15,7 +15,7 @@ use Rattle.cc_tokens.proofs.Heads.{IsHead, head_sound}
 use Rattle.cc_tokens.specs.Reading.{FoundBefore}
 use Rattle.cc_tokens.proofs.Found.{found_none, found_blank, found_comment, found_token, found_all}
 
--- one step on a text, by what stands there
+-- one step on a text, by what comes next
 module _ (text : List ℕ) (ts : List Token) (at : ℕ) (found : FoundBefore text ts at) (some : 0 < length (drop at text)) where
   at_blank : head_of (drop at text) ≡ head.Blank → FoundBefore text ts (at + 1)
   at_blank e = let stands = subst (IsHead (drop at text)) e (head_sound (drop at text) some) in found_blank text ts at 1 found stands.0 stands.1
@@ -46,12 +46,12 @@ two_signs =
     let e = at_token text _ 4 d (omega arith) (Number Int 1) 1 refl in
     found_all text _ 5 e (omega arith)
 
--- no sum of 0xe and 1
+-- `0xe+1` is not the sum of 0xe and 1
 exponent_sign : FirstLexicalError (codes "0xe+1") BadConstant 0
 unfolding head_of run_length base_of suffix_of constant_spelled
 exponent_sign = record { pieces = []; rest = codes "0xe+1"; offset = 0; cut = refl; erroneous = (head_sound (codes "0xe+1") (omega arith)).1; where_at = refl }
 
--- the comment is never closed, whatever stands in it
+-- a comment that is never closed, with a line splice in it
 unclosed_before_splice : FirstLexicalError (47 ∷ 42 ∷ 92 ∷ 10 ∷ []) UnclosedComment 0
 unfolding head_of offset_within
 unclosed_before_splice = record { pieces = []; rest = 47 ∷ 42 ∷ 92 ∷ 10 ∷ []; offset = 0; cut = refl; erroneous = (head_sound (47 ∷ 42 ∷ 92 ∷ 10 ∷ []) (omega arith)).1; where_at = refl }

@@ -1,4 +1,4 @@
--- Each text is cut to its end, or up to an error: what stands at the head of what is left goes one piece on.
+-- Each text is cut up to its end or up to an error: what the rest begins with is the next piece or the error.
 use Rattle.std.proofs.Common.{ℕ, suc, zero, ◌+◌, ◌≤◌, ◌⊎◌, List, [], ◌∷◌, ◌++◌, length, refl, ap, arith, inl, inr, ⊎_elim, length-append}
 use Rattle.std.specs.List.{flat_map}
 use Rattle.cc_tokens.specs.declared.lexical_error.LexicalError.{LexicalError}
@@ -9,11 +9,11 @@ use Rattle.cc_tokens.specs.internal.Scan.{head_of}
 use Rattle.cc_tokens.proofs.Heads.{StandsAt, IsHead, head_sound}
 use Rattle.cc_tokens.proofs.Cuts.{cut_more}
 
--- the text is cut to its end, or has an error
+-- the text is cut to its end, or has a first error
 Ends : List ℕ → Type 0
 Ends text = ((ps : List TextPiece) × IsCut ps text []) ⊎ ((error : LexicalError) × (at : ℕ) × FirstLexicalError text error at)
 
--- one piece on
+-- one more piece
 goes : (text : List ℕ) (ps : List TextPiece) (rest : List ℕ) (n most : ℕ) (p : TextPiece) → IsCut ps text rest → length rest ≤ suc most → StandsAt rest n p
     → ((qs : List TextPiece) (left : List ℕ) → IsCut qs text left → length left ≤ most → Ends text) → Ends text
 goes text ps rest n most p cut size stands on =
@@ -24,7 +24,7 @@ goes text ps rest n most p cut size stands on =
     let some = stands.some in
     on (ps ++ p ∷ []) stands.after (cut_more ps p text rest stands.after cut whole stands.stands) (omega arith)
 
--- by what stands at the head
+-- by what the rest begins with
 by_head : (text : List ℕ) (ps : List TextPiece) (rest : List ℕ) (most : ℕ) (f : Head) → IsCut ps text rest → length rest ≤ suc most → IsHead rest f
     → ((qs : List TextPiece) (left : List ℕ) → IsCut qs text left → length left ≤ most → Ends text) → Ends text
 unfolding Ends
@@ -34,7 +34,7 @@ by_head text ps rest most (head.Token k n) cut size stands on = goes text ps res
 by_head text ps rest most (head.Error error k) cut size stands on =
     inr (error, length (flat_map piece_bytes ps) + k, record { pieces = ps; rest = rest; offset = k; cut = cut; erroneous = stands.1; where_at = refl })
 
--- most is a bound on what is left
+-- `most` is a bound on the length of the rest
 cut_on : (most : ℕ) (text : List ℕ) (ps : List TextPiece) (rest : List ℕ) → IsCut ps text rest → length rest ≤ most → Ends text
 unfolding Ends
 cut_on most text ps [] cut size = inl (ps, cut)

@@ -1,5 +1,5 @@
--- Words, numbers and punctuators at the head of the bytes: what the scanner takes is the longest prefix that can be a
--- token, by the first byte, which says which of the three it can be.
+-- Words, numbers and punctuators at the beginning of the bytes: the scanner takes the longest prefix that can be a token. The
+-- first byte decides which of the three it can be.
 use Rattle.std.proofs.Common.{◌≡◌, ℕ, suc, ◌<◌, ◌≤◌, Bool, true, false, List, [], ◌∷◌, ◌++◌, length, take, drop, refl, sym, ap, ◌∙◌, arith, subst, Option, Some, None}
 use Rattle.std.specs.List.{find, AllByRecursion}
 use Rattle.std.specs.Str.{bytes_eq}
@@ -17,7 +17,7 @@ use Rattle.cc_tokens.specs.internal.Scan.{run_length, keyword_named, word_kind}
 use Rattle.cc_tokens.proofs.Tables.{keyword_named-bytes, begins_as_punctuator, punctuator_begins}
 use Rattle.cc_tokens.proofs.Runs.{run_fits, run_continues, run_longest}
 
--- a byte is a letter or `_`, or a digit, or white space, and no two of these
+-- a byte is at most one of these: a letter or `_`, a digit, white space
 pub digit_not_nondigit : (b : ℕ) → is_nondigit b ≡ true → is_ascii_digit b ≡ true → ⊥
 digit_not_nondigit b letter digit = grind (arith, nat_tests)
 
@@ -30,7 +30,7 @@ digit_not_blank b digit = grind (arith, nat_tests)
 pub digit_is_no_nondigit : (b : ℕ) → is_ascii_digit b ≡ true → is_nondigit b ≡ false
 digit_is_no_nondigit b digit = grind (arith, nat_tests)
 
--- what a punctuator's first byte is not
+-- what a punctuator's first byte cannot be
 pub record IsMark (b : ℕ) : Type 0 where
   pub no_blank : is_blank b ≡ false
   pub no_nondigit : is_nondigit b ≡ false
@@ -43,7 +43,7 @@ marked b bs e =
     let word_or_number = and_parts _ _ both.1 in
     record { no_blank = not-true _ blank.1; no_nondigit = not-true _ word_or_number.0; no_digit = not-true _ word_or_number.1 }
 
--- the first byte of a prefix is that of the whole
+-- a prefix has the same first byte as the whole
 record IsPrefixOf (b : ℕ) (bs other rest : List ℕ) : Type 0 where
   pub behind : List ℕ
   pub whole : other ≡ b ∷ behind
@@ -59,7 +59,7 @@ punctuator_marks b bs (c ∷ behind) rest p is e =
     let same : c ≡ b = cc in
     subst IsMark same (marked c behind (ap begins_as_punctuator is ∙ punctuator_begins p))
 
--- a punctuator has a byte
+-- a punctuator has at least one byte
 some_bytes : (bytes : List ℕ) → begins_as_punctuator bytes ≡ true → 0 < length bytes
 some_bytes [] e = absurd (false≢true e)
 some_bytes (b ∷ bs) e = omega arith
@@ -96,7 +96,7 @@ number_head b bs (c ∷ behind) rest digit (number w) e =
     record { behind = behind; whole = cc; others = cc; goes = subst (λ x. Continues continues_number x behind) same w.1 }
 number_head b bs other rest digit (punctuator p is) e = absurd (false≢true (sym (punctuator_marks b bs other rest p is e).no_digit ∙ digit))
 
--- how many bytes a run takes, its first counted
+-- how many bytes a run has, its first included
 run_bounds : (may : ℕ → ℕ → Bool) (b : ℕ) (bs other rest : List ℕ) → IsRunFrom may b bs other rest → length other ≤ suc (run_length may b bs)
 run_bounds may b bs other rest run =
     let longest = run_longest may b run.behind rest run.goes in
@@ -107,7 +107,7 @@ run_bounds may b bs other rest run =
 taken_length : (may : ℕ → ℕ → Bool) (b : ℕ) (bs : List ℕ) → length (take (run_length may b bs) bs) ≡ run_length may b bs
 taken_length may b bs = length-take-le (run_length may b bs) bs (run_fits may b bs)
 
--- the word at the head is the longest token there, and so is the number
+-- the word at the beginning is the longest token there, and so is the number
 pub word_is_longest : (b : ℕ) (bs : List ℕ) → is_nondigit b ≡ true → IsLongest (b ∷ take (run_length continues_word b bs) bs) (drop (run_length continues_word b bs) bs)
 word_is_longest b bs letter = record {
   can_be = word (letter, run_continues continues_word b bs);
@@ -128,7 +128,7 @@ number_is_longest b bs digit = record {
       omega arith;
 }
 
--- the longest word at the head is the run, and so is the number
+-- the longest word at the beginning is the run, and so is the number
 longest_takes : (may : ℕ → ℕ → Bool) (b : ℕ) (bs after : List ℕ) → IsLongest (b ∷ bs) after → Continues may b bs
     → CanBeToken (b ∷ take (run_length may b (bs ++ after)) (bs ++ after)) → run_length may b (bs ++ after) ≡ length bs
 longest_takes may b bs after longest goes can =
@@ -144,7 +144,7 @@ word_takes b bs after longest w = longest_takes continues_word b bs after longes
 pub number_takes : (b : ℕ) (bs after : List ℕ) → IsLongest (b ∷ bs) after → IsNumber (b ∷ bs) → run_length continues_number b (bs ++ after) ≡ length bs
 number_takes b bs after longest w = longest_takes continues_number b bs after longest w.1 (number (w.0, run_continues continues_number b (bs ++ after)))
 
--- a search of a table finds what passes, and nothing only where nothing passes
+-- a search of a table finds something that passes the test, and finds nothing only if nothing passes
 pub found_passes : {X : Type 0} (test : X → Bool) (xs : List X) (x : X) → find test xs ≡ Some x → test x ≡ true
 found_passes test [] x e = absurd (let h : ⊥ = cc in h)
 found_passes {X} test (y ∷ xs) x e =
@@ -157,7 +157,7 @@ missing_fails {X} test (y ∷ xs) e =
     let ih = missing_fails test xs in
     cond_both (test y) (Some y) (find test xs) (λ o. o ≡ None → AllByRecursion (λ x. test x ≡ false) (y ∷ xs)) (λ here e'. absurd (let h : ⊥ = cc in h)) (λ not_here e'. (not_here, ih e')) e
 
--- a word that is found spells the keyword, and one that is not spells none
+-- a word that is found spells the keyword; a word that is not found spells none
 word_spells_by : (text : List ℕ) (o : Option Keyword) → keyword_named text ≡ o → IsIdentifierText text → SpellsToken (word_kind o) text
 unfolding keyword_named
 word_spells_by text None e w = (w, λ k is. let h : None ≡ Some k = sym e ∙ ap keyword_named is ∙ keyword_named-bytes k in absurd (let g : ⊥ = cc in g))

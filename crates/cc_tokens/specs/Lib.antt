@@ -8,9 +8,9 @@ pub mod Token
 pub mod Spelling
 -- integer constants: what spells them, their values and types
 pub mod Constant
--- the tokens of a text, its first error where it has none, and why it is refused
+-- the tokens of a text, the first error of a text that has none, and why it is refused
 pub mod Tokens
 -- reading a text token by token
 pub mod Reading
--- no promise rests on these
+-- definitions that no promise depends on
 pub mod internal

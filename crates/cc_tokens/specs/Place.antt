@@ -3,11 +3,11 @@ use Rattle.std.specs.Prelude.{ℕ, ◌+◌, ◌==◌, not, List, length, take, r
 use Rattle.std.specs.List.{take_while}
 use Rattle.cc_tokens.specs.declared.place.Place.{Place}
 
--- the bytes of the line that the text ends in, the last one first
+-- the bytes of the text's last line, in reverse order
 abbrev pub last_line_reversed : List ℕ → List ℕ
 last_line_reversed text = take_while (λ b. not (b == 10)) (reverse text)
 
--- the place of the byte at an offset, or of the end of the text: one line more than newlines stand before it, and one
--- column more than bytes stand between it and the last of these
+-- the place of the byte at an offset, or of the end of the text: the line is one more than the newlines before the offset, the
+-- column one more than the bytes since the last newline
 abbrev pub place_of : List ℕ → ℕ → Place
 place_of text at = record { line = 1 + count_by (λ b. b == 10) (take at text); column = 1 + length (last_line_reversed (take at text)) }

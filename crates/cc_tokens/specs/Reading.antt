@@ -7,7 +7,7 @@ use Rattle.cc_tokens.specs.declared.lexer.NextToken.TheVariants as next
 use Rattle.cc_tokens.specs.Token.{lexemes}
 use Rattle.cc_tokens.specs.Tokens.{TextPiece, piece_bytes, IsCut, tokens_of, AreInOrder, FirstLexicalError}
 
--- the tokens ts are found before the offset: the text up to there is cut into pieces, and the tokens among them are these
+-- the tokens before the offset are ts: the text up to there is cut into pieces, and these are the tokens among them
 pub record FoundBefore (text : List ℕ) (ts : List Token) (at : ℕ) : Type 0 where
   pub within : at ≤ length text
   pub pieces : List TextPiece
@@ -16,13 +16,13 @@ pub record FoundBefore (text : List ℕ) (ts : List Token) (at : ℕ) : Type 0 w
   pub tokens : lexemes text ts ≡ tokens_of 0 pieces
   pub ordered : AreInOrder 0 ts at
 
--- what comes next: one token more, or no other one up to the end of the text, or the first error of the text
+-- what comes next: one more token, or no other up to the end of the text, or the text's first error
 abbrev pub FoundNext : List ℕ → List Token → NextToken → Type 0
 FoundNext text ts (next.Token t) = FoundBefore text (ts ++ t ∷ []) t.to
 FoundNext text ts next.End = FoundBefore text ts (length text)
 FoundNext text ts (next.Error error p) = FirstLexicalError text error p
 
--- what comes next lies behind the offset, within the text
+-- what comes next is at or after the offset, and within the text
 abbrev pub IsBehind : (at high : ℕ) → NextToken → Type 0
 IsBehind at high (next.Token t) = (at ≤ t.from) × (t.from < t.to) × (t.to ≤ high)
 IsBehind at high next.End = Unit {0}

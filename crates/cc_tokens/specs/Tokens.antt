@@ -1,4 +1,4 @@
--- The tokens of a text, and its first error where it has none (C99 6.4).
+-- The tokens of a text, and the first error of a text that has none (C99 6.4).
 use Rattle.std.specs.Prelude.{◌≡◌, ◌≢◌, ℕ, ◌+◌, ◌<◌, ◌≤◌, ◌⊎◌, Bool, true, false, ◌||◌, ◌&&◌, ◌==◌, nat_le, slice_index, List, [], ◌∷◌, ◌++◌, length, Some, None, IsTrue}
 use Rattle.std.specs.List.{flat_map}
 use Rattle.std.specs.Char.{is_ascii_digit, is_ascii_alphabetic}
@@ -25,19 +25,19 @@ is_blank b = b == 32 || (nat_le 9 b && nat_le b 13)
 abbrev pub is_nondigit : ℕ → Bool
 is_nondigit b = is_ascii_alphabetic b || b == 95
 
--- a byte that goes on with an identifier, whatever stands before it
+-- a byte that continues an identifier, whatever precedes it
 abbrev pub continues_word : ℕ → ℕ → Bool
 continues_word before b = is_nondigit b || is_ascii_digit b
 
--- a letter after which a sign goes on with a number: e, E, p, P
+-- a letter after which a sign continues a number: e, E, p, P
 abbrev pub is_exponent_letter : ℕ → Bool
 is_exponent_letter b = (b == 101 || b == 69) || (b == 112 || b == 80)
 
--- a byte that goes on with a number: a digit, a letter, `_`, `.`, or a sign directly after e, E, p or P (6.4.8)
+-- a byte that continues a number: a digit, a letter, `_`, `.`, or a sign directly after e, E, p or P (6.4.8)
 abbrev pub continues_number : ℕ → ℕ → Bool
 continues_number before b = (continues_word before b || b == 46) || (is_exponent_letter before && (b == 43 || b == 45))
 
--- each byte goes on from the one before it
+-- each byte may follow the one before it
 abbrev pub Continues : (ℕ → ℕ → Bool) → ℕ → List ℕ → Type 0
 Continues goes_on before [] = Unit {0}
 Continues goes_on before (b ∷ bs) = IsTrue (goes_on before b) × Continues goes_on b bs
@@ -65,16 +65,16 @@ SpellsToken (kind.Keyword k) text = text ≡ keyword_bytes k
 SpellsToken (kind.Number type n) text = (c : Constant) × SpellsConstant c text × (constant_type c ≡ Some type) × (n ≡ digits_value c)
 SpellsToken (kind.Punctuator p) text = text ≡ punctuator_bytes p
 
--- of text and what follows it, text is the longest prefix that can be a token (6.4, paragraph 4)
+-- text is the longest prefix, of itself and what follows it, that can be a token (6.4, paragraph 4)
 pub record IsLongest (text after : List ℕ) : Type 0 where
   pub can_be : CanBeToken text
   pub longest : (other rest : List ℕ) → CanBeToken other → text ++ after ≡ other ++ rest → length other ≤ length text
 
--- a comment begins here: `/*` or `//` (6.4.9). Past the end of the bytes `slice_index` is 0, which no test looks for
+-- a comment begins here: `/*` or `//` (6.4.9). Past the end of the bytes `slice_index` is 0, which no test looks for.
 abbrev pub begins_comment : List ℕ → Bool
 begins_comment bytes = slice_index bytes 0 == 47 && (slice_index bytes 1 == 42 || slice_index bytes 1 == 47)
 
--- `*/` stands here
+-- `*/` begins here
 abbrev pub begins_close : List ℕ → Bool
 begins_close bytes = slice_index bytes 0 == 42 && slice_index bytes 1 == 47
 
@@ -86,13 +86,12 @@ begins_line_end bytes = slice_index bytes 0 == 10
 abbrev pub begins_splice : List ℕ → Bool
 begins_splice bytes = slice_index bytes 0 == 92 && (slice_index bytes 1 == 10 || (slice_index bytes 1 == 13 && slice_index bytes 2 == 10))
 
--- what the test looks for stands at no byte of the prefix, read with what follows it
+-- the test holds at no byte of the prefix, read together with what follows
 abbrev pub Nowhere : (List ℕ → Bool) → List ℕ → List ℕ → Type 0
 Nowhere test [] after = Unit {0}
 Nowhere test (b ∷ prefix) after = (test (b ∷ prefix ++ after) ≡ false) × Nowhere test prefix after
 
--- a comment, before what follows it: `/*` up to the first `*/` after it, or `//` up to the end of the line or of the
--- text (6.4.9)
+-- a comment, and what follows it: `/*` up to the first `*/` after it, or `//` up to the end of the line or of the text (6.4.9)
 pub data IsComment : List ℕ → List ℕ → Type 0 where
   block : {after : List ℕ} (body : List ℕ) → Nowhere begins_close body (42 ∷ 47 ∷ after) → IsComment (47 ∷ 42 ∷ body ++ (42 ∷ 47 ∷ [])) after
   line : {after : List ℕ} (body : List ℕ) → Nowhere begins_line_end body after → (after ≡ []) ⊎ IsTrue (begins_line_end after) → IsComment (47 ∷ 47 ∷ body) after
@@ -109,19 +108,19 @@ piece_bytes (blank b) = b ∷ []
 piece_bytes (comment c) = c
 piece_bytes (token k text) = text
 
--- the piece is right before what follows it: a comment has no line splice in it; where a comment begins no token does;
--- a token is the longest, and is what its bytes spell
+-- the piece is right, given what follows it: a comment has no line splice; a token does not begin like a comment, is the longest
+-- possible, and is what its bytes spell
 abbrev pub StandsBefore : TextPiece → List ℕ → Type 0
 StandsBefore (blank b) after = IsTrue (is_blank b)
 StandsBefore (comment c) after = IsComment c after × Nowhere begins_splice c after
 StandsBefore (token k text) after = (begins_comment (text ++ after) ≡ false) × IsLongest text after × SpellsToken k text
 
--- the text is these pieces, each right before what follows it, and then the rest
+-- the text consists of these pieces, each right given what follows it, and then the rest
 abbrev pub IsCut : List TextPiece → List ℕ → List ℕ → Type 0
 IsCut [] text rest = text ≡ rest
 IsCut (p ∷ ps) text rest = (after : List ℕ) × (text ≡ piece_bytes p ++ after) × StandsBefore p after × IsCut ps after rest
 
--- the tokens among pieces of which the first begins at an offset
+-- the tokens among some pieces; the first piece begins at this offset
 abbrev pub tokens_of : ℕ → List TextPiece → List Lexeme
 tokens_of at [] = []
 tokens_of at (blank b ∷ ps) = tokens_of (at + 1) ps
@@ -134,7 +133,7 @@ pub record IsTokens (text : List ℕ) (ts : List Lexeme) : Type 0 where
   pub cut : IsCut pieces text []
   pub tokens : ts ≡ tokens_of 0 pieces
 
--- the bytes begin with a byte that is no white space and begins no comment and no token
+-- the bytes begin with a byte that is not white space and begins no comment and no token
 pub record IsStray (bytes : List ℕ) : Type 0 where
   pub first : ℕ
   pub rest : List ℕ
@@ -143,7 +142,7 @@ pub record IsStray (bytes : List ℕ) : Type 0 where
   pub no_comment : begins_comment bytes ≡ false
   pub no_token : (text after : List ℕ) → CanBeToken text → bytes ≢ text ++ after
 
--- the bytes begin with a comment in which the first line splice stands at an offset
+-- the bytes begin with a comment whose first line splice is at an offset
 pub record IsSpliced (bytes : List ℕ) (offset : ℕ) : Type 0 where
   pub prefix : List ℕ
   pub back : List ℕ
@@ -155,13 +154,13 @@ pub record IsSpliced (bytes : List ℕ) (offset : ℕ) : Type 0 where
   pub here : begins_splice (back ++ after) ≡ true
   pub at : offset ≡ length prefix
 
--- the bytes begin with `/*`, and no `*/` stands after it
+-- the bytes begin with `/*`, and no `*/` follows
 pub record IsUnclosed (bytes : List ℕ) : Type 0 where
   pub body : List ℕ
   pub whole : bytes ≡ 47 ∷ 42 ∷ body
   pub never_closed : Nowhere begins_close body []
 
--- the longest prefix that can be a token is a number that no constant spells
+-- the longest prefix that can be a token is a number that spells no constant
 pub record IsBadConstant (bytes : List ℕ) : Type 0 where
   pub text : List ℕ
   pub after : List ℕ
@@ -180,14 +179,14 @@ pub record IsTooLarge (bytes : List ℕ) : Type 0 where
   pub spelled : SpellsConstant constant text
   pub no_type : constant_type constant ≡ None
 
--- no piece begins the bytes, but this error does, at an offset from their first
+-- the bytes begin with no piece but with this error, at an offset from their first byte
 abbrev pub IsLexicalError : LexicalError → List ℕ → ℕ → Type 0
 IsLexicalError BadByte bytes offset = (IsStray bytes × (offset ≡ 0)) ⊎ IsSpliced bytes offset
 IsLexicalError UnclosedComment bytes offset = IsUnclosed bytes × (offset ≡ 0)
 IsLexicalError BadConstant bytes offset = IsBadConstant bytes × (offset ≡ 0)
 IsLexicalError ConstantTooLarge bytes offset = IsTooLarge bytes × (offset ≡ 0)
 
--- the first error of the text, and the offset where it stands: before it are pieces alone
+-- the first error of the text, and its offset: before it there are only pieces
 pub record FirstLexicalError (text : List ℕ) (error : LexicalError) (at : ℕ) : Type 0 where
   pub pieces : List TextPiece
   pub rest : List ℕ
@@ -196,23 +195,23 @@ pub record FirstLexicalError (text : List ℕ) (error : LexicalError) (at : ℕ)
   pub erroneous : IsLexicalError error rest offset
   pub where_at : at ≡ length (flat_map piece_bytes pieces) + offset
 
--- the fault that an error is answered with
+-- the fault for an error at a place
 abbrev pub lexical_fault : LexicalError → Place → SyntaxFault
 lexical_fault BadByte p = fault.BadByte p
 lexical_fault UnclosedComment p = fault.UnclosedComment p
 lexical_fault BadConstant p = fault.BadConstant p
 lexical_fault ConstantTooLarge p = fault.ConstantTooLarge p
 
--- the tokens stand one after the other from low up to high, each of one byte at least
+-- the tokens follow one another from low up to high, each with at least one byte
 abbrev pub AreInOrder : (low : ℕ) → List Token → (high : ℕ) → Type 0
 AreInOrder low [] high = low ≤ high
 AreInOrder low (t ∷ ts) high = (low ≤ t.from) × (t.from < t.to) × AreInOrder t.to ts high
 
--- how many bytes a text may have
+-- the most bytes that a text may have
 abbrev pub most_bytes : ℕ
 most_bytes = 65536
 
--- a text within that, and the fault of its first error, at that error's place
+-- the text fits within that, and the fault is that of its first error, at that error's place
 pub record IsLexicalFault (text : List ℕ) (fault : SyntaxFault) : Type 0 where
   pub fits : length text ≤ most_bytes
   pub error : LexicalError
@@ -220,8 +219,7 @@ pub record IsLexicalFault (text : List ℕ) (fault : SyntaxFault) : Type 0 where
   pub first : FirstLexicalError text error at
   pub is : fault ≡ lexical_fault error (place_of text at)
 
--- when a text has no tokens: 7 where it has more bytes; where it hasn't, the fault of its first error, or
--- 40 where memory runs out
+-- why a text has no tokens: 7 exactly if it has too many bytes; otherwise the fault of its first error, or 40 if memory runs out
 abbrev pub IsTokenRefusal : List ℕ → SyntaxFault → Type 0
 IsTokenRefusal text fault.SourceTooLarge = most_bytes < length text
 IsTokenRefusal text fault.OutOfMemory = length text ≤ most_bytes
@@ -232,7 +230,7 @@ IsTokenRefusal text (fault.ConstantTooLarge p) = IsLexicalFault text (fault.Cons
 IsTokenRefusal text (fault.Unexpected p) = ⊥
 IsTokenRefusal text (fault.TooDeep p) = ⊥
 
--- a text has one list of tokens at most
+-- a text has at most one list of tokens
 abbrev pub TokensAreOne : Type 0
 TokensAreOne = (text : List ℕ) (a b : List Lexeme) → IsTokens text a → IsTokens text b → a ≡ b
 
@@ -240,10 +238,10 @@ TokensAreOne = (text : List ℕ) (a b : List Lexeme) → IsTokens text a → IsT
 abbrev pub TokensHaveNoLexicalError : Type 0
 TokensHaveNoLexicalError = (text : List ℕ) (ts : List Lexeme) (error : LexicalError) (at : ℕ) → IsTokens text ts → FirstLexicalError text error at → ⊥
 
--- a text has one first error at most
+-- a text has at most one first error
 abbrev pub FirstLexicalErrorIsOne : Type 0
 FirstLexicalErrorIsOne = (text : List ℕ) (f g : LexicalError) (i j : ℕ) → FirstLexicalError text f i → FirstLexicalError text g j → (f ≡ g) × (i ≡ j)
 
--- a text has tokens or a first error
+-- every text has tokens or a first error
 abbrev pub TokensOrLexicalError : Type 0
 TokensOrLexicalError = (text : List ℕ) → ((ts : List Lexeme) × IsTokens text ts) ⊎ ((error : LexicalError) × (at : ℕ) × FirstLexicalError text error at)

@@ -1,3 +1,3 @@
--- What private contracts and proofs speak of.
--- what the scanner's functions answer, as functions on lists
+-- Definitions that only private contracts and proofs use.
+-- what the scanner's functions return, as functions on lists
 pub mod Scan

@@ -7,22 +7,22 @@ use super::place::Place;
 use std::alloc::AllocError;
 use thiserror::Error;
 
-/// Why a text has no tokens or no tree. Each but `SourceTooLarge` and `OutOfMemory` says where.
+/// Why a text has no tokens or no syntax tree. Each fault but `SourceTooLarge` and `OutOfMemory` has its place.
 #[derive(Debug, Drop, Error)]
 pub enum SyntaxFault {
-    /// 1: a byte that begins no token, or a line splice.
+    /// 1: a byte that begins no token, or a line splice in a comment.
     #[error("BadByte")]
     BadByte(Place),
     /// 2: a comment that is never closed, at its first byte.
     #[error("UnclosedComment")]
     UnclosedComment(Place),
-    /// 3: a number that is no constant of the profile.
+    /// 3: a number that is not a constant of the profile.
     #[error("BadConstant")]
     BadConstant(Place),
-    /// 4: a constant past its type's range.
+    /// 4: a constant that is too large: above 2147483647 if it is decimal and has no suffix, or above 4294967295.
     #[error("ConstantTooLarge")]
     ConstantTooLarge(Place),
-    /// 5: a token with which no unit goes on; the end of the text counts as one.
+    /// 5: a token that cannot follow the ones before it in any unit. The end of the text counts as a token.
     #[error("Unexpected")]
     Unexpected(Place),
     /// 6: the 513th token of a full expression, or a statement or declaration at level 65.
@@ -53,7 +53,7 @@ impl SyntaxFault {
         }
     }
 
-    /// Where in the text the fault stands: faults 1 to 6 say it.
+    /// The place of the fault in the text: `Some` for faults 1 to 6.
     pub fn place(&self) -> Option<Place>
         ensures { result ≡ fault_place self.now }
     {

@@ -17,7 +17,7 @@ use std::alloc::Global;
 /// The most bytes that a text may have.
 pub const MOST_BYTES: usize = 65536;
 
-// The fault of an error at an offset.
+// The fault for an error at an offset.
 fn fault_at(text: &[u8], error: LexicalError, at: usize) -> SyntaxFault
     requires { at ≤ length text.now }
     ensures { result ≡ lexical_fault error (place_of text.now at) }
@@ -31,17 +31,17 @@ fn fault_at(text: &[u8], error: LexicalError, at: usize) -> SyntaxFault
     }
 }
 
-/// What comes next in a text, behind white space and comments.
+/// What comes next in a text, after white space and comments.
 #[derive(Clone, Copy)]
 pub enum NextToken {
     Token(Token),
-    /// No token up to the end of the text.
+    /// There is no token up to the end of the text.
     End,
-    /// No token: the first error of the text, and its offset.
+    /// There is an error first: the first error of the text, and its offset.
     Error(LexicalError, usize),
 }
 
-/// The next token of a text from an offset on, behind the tokens before it, which takes no memory.
+/// Returns the next token of a text, from an offset at the end of the tokens before it. Takes no memory.
 pub fn next_token(text: &[u8], at: usize) -> NextToken
     requires { at ≤ length text.now }
     ensures found { (ts : List token.Token) → FoundBefore text.now ts at → FoundNext text.now ts result }
@@ -62,11 +62,13 @@ pub fn next_token(text: &[u8], at: usize) -> NextToken
     NextToken::End
 }
 
-/// The tokens of a text, in order (C99 6.4 and the profile).
+/// Returns the tokens of a text, in order (C99 6.4 and the profile).
 ///
-/// Refusals: 7 where the text has more than 65,536 bytes, before all others; then the first of 1 to 4 in the text, at
-/// its first byte: 1 a byte that begins no token, or a line splice in a comment, 2 a comment that is never closed, 3 a
-/// number that is no constant, 4 a constant past its type's range; 40 where memory for the tokens ran out.
+/// Refuses with 7 (SourceTooLarge) a text of more than 65,536 bytes, whatever else is wrong with it. Otherwise it refuses with
+/// the first lexical error of the text, at the error's first byte: 1 (BadByte) for a byte that begins no token or a line splice
+/// in a comment, 2 (UnclosedComment) for a comment that is never closed, 3 (BadConstant) for a number that is not a constant, 4
+/// (ConstantTooLarge) for a constant above 2147483647 that is decimal and has no suffix, or for any above 4294967295. It refuses
+/// with 40 (OutOfMemory) if memory for the tokens runs out.
 pub fn tokens(alloc: Global, text: &[u8]) -> Result<Vec<Token>, SyntaxFault>
     ensures fits { IfOk result (λ ts. length text.now ≤ most_bytes) }
     ensures ordered { IfOk result (λ ts. AreInOrder 0 ts.items (length text.now)) }
@@ -93,8 +95,8 @@ pub fn tokens(alloc: Global, text: &[u8]) -> Result<Vec<Token>, SyntaxFault>
     Ok(found)
 }
 
-/// A text has one list of tokens or one first error, and not both. So `tokens` is `Ok` exactly where a text of at most
-/// 65,536 bytes has tokens, and memory for them.
+/// Shows that a text has either exactly one list of tokens or exactly one first error. So `tokens` is `Ok` exactly if the text
+/// has at most 65,536 bytes and has tokens, and there is memory for them.
 pub fn tokens_are_determined()
     ensures one { TokensAreOne }
     ensures no_error { TokensHaveNoLexicalError }

@@ -1,14 +1,14 @@
-// What keeps a text from having tokens.
+// Why a text has no tokens.
 
-/// What can stand in a text where neither white space nor a comment nor a token begins.
+/// What can be wrong at a byte that begins no white space, comment or token, or inside a comment.
 #[derive(Clone, Copy)]
 pub enum LexicalError {
     /// A byte that begins no token, or a line splice in a comment.
     BadByte,
     /// A comment that is never closed.
     UnclosedComment,
-    /// A number that is no constant of the profile.
+    /// A number that is not a constant of the profile.
     BadConstant,
-    /// A constant past its type's range.
+    /// A constant that is too large: above 2147483647 if it is decimal and has no suffix, or above 4294967295.
     ConstantTooLarge,
 }

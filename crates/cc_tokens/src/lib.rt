@@ -1,8 +1,14 @@
-//! From C text to its tokens (C99 6.4, those of the profile), and the refusals of a text.
-//! `token` has the types of tokens, `scalar` the types of numbers, `scan` what stands at the head of the bytes that are
-//! left, `lexer` the tokens of a whole text, `lexical_error` what keeps it from having them, `place` lines and columns, `fault` the
-//! refusals: those of the syntax too, so that one type answers both.
-//! Hands out `tokens`, `next_token`, `place_at`, the types, and the definitions that their contracts name (`specs/`).
+//! From C text to its tokens (C99 6.4, as far as the profile has them), and the refusals of a text.
+//!
+//! - `token`: the types of tokens.
+//! - `scalar`: the types of numbers.
+//! - `scan`: what a sequence of bytes begins with.
+//! - `lexer`: the tokens of a whole text.
+//! - `lexical_error`: why a text has no tokens.
+//! - `place`: lines and columns.
+//! - `fault`: the refusals, those of the syntax included, so that one type has both.
+//!
+//! The crate exports `tokens`, `next_token`, `place_at`, the types, and the definitions that their contracts use (`specs/`).
 #![tactic(auto)]
 
 mod fault;

@@ -1,10 +1,10 @@
 // Lines and columns.
 
-ghost use Rattle.std.specs.Prelude.{◌≡◌, ◌+◌, ◌≤◌, ◌<◌, ◌^◌, ◌==◌, length, count_by, not};
+ghost use Rattle.std.specs.Prelude.{◌≡◌, ◌+◌, ◌≤◌, ◌==◌, length, count_by};
 ghost use Rattle.std.specs.List.{take_while};
 ghost use Rattle.cc_tokens.specs.Place.{place_of, last_line_reversed};
 
-/// A place in a text: the line and the column, both counted from 1, the column in bytes.
+/// A place in a text. Line and column count from 1; the column counts bytes.
 #[derive(Clone, Copy, PartialEq, Eq, Debug)]
 pub struct Place {
     pub line: usize,
@@ -25,7 +25,8 @@ fn last_line_len(text: &[u8]) -> usize
     text.iter().rev().take_while(|b| **b != 10).count()
 }
 
-/// The place of the byte at an offset of a text, or the place one past its last byte.
+/// Returns the place of the byte at an offset of a text. The offset may be the text's length: the place is then one past the last
+/// byte.
 pub fn place_at(text: &[u8], at: usize) -> Place
     requires { at ≤ length text.now }
     ensures { result ≡ place_of text.now at }

@@ -1,16 +1,16 @@
-// What stands at the head of the bytes that are left: white space, a comment, a token, or an error.
+// What the remaining bytes of a text begin with: white space, a comment, a token, or an error.
 //
-// Each function answers what the function of its name in specs/internal/Scan.antt does; proofs/ shows that those agree with the
-// definition of the tokens of a text.
+// Each function returns what the function of the same name in specs/internal/Scan.antt gives. proofs/ shows that those agree with
+// the definition of a text's tokens.
 
-ghost use Rattle.std.specs.Prelude.{◌≡◌, ◌+◌, ◌*◌, ◌<◌, ◌≤◌, ◌||◌, ◌&&◌, ◌==◌, true, length, take, drop, min, slice_index};
+ghost use Rattle.std.specs.Prelude.{◌≡◌, ◌+◌, ◌*◌, ◌<◌, ◌≤◌, ◌||◌, ◌&&◌, ◌==◌, true, length, drop, min, slice_index};
 ghost use Rattle.std.specs.List.{find, fold, prefix_len, starts_with};
 ghost use Rattle.std.specs.Str.{bytes_eq};
 ghost use Rattle.std.specs.Char.{digit_value};
 ghost use Rattle.cc_tokens.specs.Spelling.{keyword_bytes, punctuator_bytes};
 ghost use Rattle.cc_tokens.specs.Constant.{is_digit_of, type_of_value};
 ghost use Rattle.cc_tokens.specs.Tokens.{is_blank, is_nondigit, is_exponent_letter, begins_comment};
-ghost use Rattle.cc_tokens.specs.internal.Scan.{begins, offset_within, goes_on, run_of, keywords_with, punctuators_with, keyword_named, punctuator_at, word_kind, base_of, prefix_of_base, suffix_of, constant_spelled, constant_kind, typed, number_head, comment_of, comment_head, head_of};
+ghost use Rattle.cc_tokens.specs.internal.Scan.{begins, offset_within, goes_on, run_of, keywords_with, punctuators_with, keyword_named, punctuator_at, word_kind, base_of, prefix_of_base, suffix_of, constant_spelled, constant_kind, typed, comment_of, comment_head, head_of};
 
 use super::lexical_error::LexicalError;
 use super::scalar::Scalar;
@@ -27,23 +27,23 @@ enum Mark {
     Splice,
 }
 
-/// A kind of token that goes on byte by byte.
+/// A kind of token that continues byte by byte.
 #[derive(Clone, Copy)]
 enum Run {
     Word,
     Number,
 }
 
-/// What stands at the head of the bytes that are left.
+/// What a sequence of bytes begins with.
 #[derive(Clone, Copy)]
 pub enum Head {
     /// A byte of white space.
     Blank,
-    /// A comment of this many bytes.
+    /// A comment, with its length in bytes.
     Comment(usize),
-    /// A token of this many bytes.
+    /// A token, with its length in bytes.
     Token(TokenKind, usize),
-    /// An error, this many bytes on.
+    /// An error, with its offset in bytes.
     Error(LexicalError, usize),
 }
 
@@ -105,7 +105,7 @@ fn begins(mark: Mark, bytes: &[u8]) -> bool
     }
 }
 
-// The first of n offsets at which the mark stands, or n.
+// The first of n offsets at which the mark is found, or n if it is not found.
 fn offset_within(mark: Mark, bytes: &[u8], n: usize) -> usize
     requires { n ≤ length bytes.now }
     ensures value { result ≡ offset_within (begins mark) n bytes.now }
@@ -120,7 +120,7 @@ fn offset_within(mark: Mark, bytes: &[u8], n: usize) -> usize
     n
 }
 
-// How many bytes of the run stand at the head, of which the first is one.
+// How many bytes the run at the beginning has. The first byte is known to belong to it.
 fn run_len(run: Run, bytes: &[u8]) -> usize
     requires { 0 < length bytes.now }
     ensures value { result ≡ run_of (goes_on run) bytes.now }
@@ -171,7 +171,7 @@ fn keywords_with(first: u8) -> &'static [Keyword]
     }
 }
 
-// The first of some keywords that has these bytes.
+// The first of some keywords that is spelled by these bytes.
 fn keyword_in(few: &[Keyword], word: &[u8]) -> Option<Keyword>
     ensures { result ≡ find (λ k. bytes_eq (keyword_bytes k) word.now) few.now }
 {
@@ -239,7 +239,7 @@ fn punctuators_with(first: u8) -> &'static [Punctuator]
     }
 }
 
-// The first of some punctuators that stands at the head.
+// The first of some punctuators that the bytes begin with.
 fn punctuator_in(few: &[Punctuator], bytes: &[u8]) -> Option<Punctuator>
     ensures { result ≡ find (λ p. starts_with (λ a b. a == b) bytes.now (punctuator_bytes p)) few.now }
 {
@@ -291,7 +291,7 @@ fn base_of(number: &[u8]) -> u8
     }
 }
 
-// How many bytes stand before the digits.
+// How many bytes precede the digits.
 fn prefix_of_base(base: u8) -> usize
     ensures { result ≡ prefix_of_base base }
 {
@@ -302,7 +302,7 @@ fn prefix_of_base(base: u8) -> usize
     }
 }
 
-// How many digits of the base stand at the head.
+// How many digits of the base the bytes begin with.
 fn digits_len(base: u8, bytes: &[u8]) -> usize
     ensures value { result ≡ prefix_len (is_digit_of base) bytes.now }
     ensures bound { result ≤ length bytes.now }
@@ -314,7 +314,7 @@ fn digits_len(base: u8, bytes: &[u8]) -> usize
     n
 }
 
-// Whether the bytes are a suffix, where they are one or nothing.
+// Whether the bytes are a suffix: `Some(true)` for `u` or `U`, `Some(false)` for no bytes, `None` for anything else.
 #[tactic(auto, unfolding(crate::specs::internal::Scan::suffix_of))]
 fn suffix_of(bytes: &[u8]) -> Option<bool>
     ensures { result ≡ suffix_of bytes.now }
@@ -328,7 +328,7 @@ fn suffix_of(bytes: &[u8]) -> Option<bool>
     }
 }
 
-// The value of the digits, or 2^32 where it is larger.
+// The value of the digits, capped at 2^32.
 fn value_of(base: u8, digits: &[u8]) -> u64
     requires { base ≤ 16 }
     ensures { result ≡ fold (λ v b. min (v * base + digit_value b) 4294967296) 0 digits.now }
@@ -352,7 +352,7 @@ fn typed(base: u8, suffixed: bool, value: u64) -> Result<TokenKind, LexicalError
     }
 }
 
-// What the bytes of a number are.
+// What kind of token the bytes of a number are.
 #[tactic(auto, unfolding(crate::specs::internal::Scan::constant_spelled))]
 fn constant_kind(number: &[u8]) -> Result<TokenKind, LexicalError>
     requires { 0 < length number.now }
@@ -399,7 +399,7 @@ fn comment_head(bytes: &[u8]) -> Head
     }
 }
 
-/// What stands at the head of the bytes, of which there is one at least.
+/// What the bytes begin with. There is at least one byte.
 #[tactic(auto, unfolding(crate::specs::internal::Scan::head_of))]
 pub fn head_of(bytes: &[u8]) -> Head
     requires { 0 < length bytes.now }

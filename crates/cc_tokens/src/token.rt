@@ -91,7 +91,7 @@ pub(crate) const KEYWORDS: [Keyword; 37] = [
 ];
 
 impl Keyword {
-    /// The bytes of the keyword.
+    /// The bytes that spell the keyword.
     pub fn bytes(self) -> &'static [u8]
         ensures { result.now ≡ keyword_bytes self }
     {
@@ -236,7 +236,7 @@ pub(crate) const PUNCTUATORS: [Punctuator; 43] = [
 ];
 
 impl Punctuator {
-    /// The bytes of the punctuator.
+    /// The bytes that spell the punctuator.
     pub fn bytes(self) -> &'static [u8]
         ensures { result.now ≡ punctuator_bytes self }
     {
@@ -293,12 +293,12 @@ impl Punctuator {
 pub enum TokenKind {
     Identifier,
     Keyword(Keyword),
-    /// A constant: its type and its word.
+    /// A constant: its type and its value.
     Number(Scalar, u32),
     Punctuator(Punctuator),
 }
 
-/// A token: what it is, and its bytes in the text, from `from` up to but not including `to`.
+/// A token: its kind, and its bytes in the text, from `from` up to but not including `to`.
 #[derive(Clone, Copy)]
 pub struct Token {
     pub kind: TokenKind,

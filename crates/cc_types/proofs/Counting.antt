@@ -1,4 +1,4 @@
--- What is counted is how many names there are.
+-- The count is the number of names.
 use Rattle.std.proofs.Common.{◌≡◌, ℕ, ◌+◌, Bool, true, false, if◌then◌else◌, nat_lt, List, [], ◌∷◌, ◌++◌, length, Option, Some, None, is_some, refl, sym, ap, ◌∙◌, arith}
 use Rattle.std.proofs.lemmas.Bool.{false≢true}
 use Rattle.cc_ast.specs.Tree.{Name}
@@ -24,16 +24,16 @@ passed-append most n at (x ∷ xs) ys = by (nat_lt n most) (passed-append most (
 pub count_count : (c : Count) (xs ys : List Name) → count_after (count_after c xs) ys ≡ count_after c (xs ++ ys)
 count_count c xs ys i = record { most = c.most; names = counted-append c.most c.names xs ys i; past = passed-append c.most c.names c.past xs ys i }
 
--- a part of a list of names, and then the rest of it
+-- one part of a list of names, and then the rest
 pub count-next : (c d whole : Count) (xs ys os : List Name) → count_after c os ≡ whole → os ≡ xs ++ ys → d ≡ count_after c xs → count_after d ys ≡ whole
 count-next c d whole xs ys os before eo ed = ap (λ k. count_after k ys) ed ∙ count_count c xs ys ∙ sym (ap (count_after c) eo) ∙ before
 
 pub count-two : (c d e : Count) (xs ys os : List Name) → d ≡ count_after c xs → e ≡ count_after d ys → os ≡ xs ++ ys → e ≡ count_after c os
 count-two c d e xs ys os ed ee eo = ee ∙ ap (λ k. count_after k ys) ed ∙ count_count c xs ys ∙ sym (ap (count_after c) eo)
 
--- ---- where no name is past the number allowed
+-- ---- if no name is past the number allowed
 
--- a place that is kept stays
+-- an offset that is kept does not change
 passed-some : (most n at : ℕ) (xs : List Name) → is_some (passed most n (Some at) xs) ≡ true
 passed-some most n at [] = refl
 passed-some most n at (x ∷ xs) = by (nat_lt n most) (passed-some most (n + 1) at xs) (passed-some most n at xs)
@@ -43,7 +43,7 @@ passed-some most n at (x ∷ xs) = by (nat_lt n most) (passed-some most (n + 1) 
     by true e d = e
     by false e d = d
 
--- where no name is past the number allowed, all are counted
+-- if no name is past the number allowed, all are counted
 pub counted-all : (most n : ℕ) (xs : List Name) → is_some (passed most n None xs) ≡ false → counted most n xs ≡ n + length xs
 counted-all most n [] h = omega arith
 counted-all most n (x ∷ xs) h = by (nat_lt n most) (counted-all most (n + 1) xs) (passed-some most n x.at xs) h

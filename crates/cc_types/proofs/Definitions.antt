@@ -37,7 +37,7 @@ length-definitions (Declaration s ∷ rest) = length-definitions rest
 length-definitions (Definition s body ∷ rest) = ap suc (length-definitions rest)
 length-definitions (Objects t os ∷ rest) = length-definitions rest
 
--- a definition has the name with its number
+-- the definition with a number has the name with that number
 pub named : (es : List tree.External) (n : ℕ) (s : tree.Signature) (body : tree.Stmts) → slice_get (definitions es) n ≡ Some (Definition s body) → slice_get (map (λ (x : Name). x.text) (function_names es)) n ≡ Some s.name.text
 named [] n s body e = absurd cc
 named (Declaration q ∷ rest) n s body e = named rest n s body e

@@ -1,11 +1,12 @@
--- Parameters leave what is around them, and what objects add to file scope is the same whatever is defined.
+-- Parameters do not change the scope around them, and what objects add to file scope does not depend on which functions are
+-- defined.
 use Rattle.std.proofs.Common.{◌≡◌, List, [], ◌∷◌, Option, Some, None, refl, ap, ◌∙◌}
 use Rattle.cc_ast.specs.scalar.Scalar.{Scalar}
 use Rattle.cc_ast.specs.Tree as tree
 use Rattle.cc_ast.specs.Tree.{Parameter, Object, Single, Array, Bytes}
 use Rattle.cc_types.specs.Scope.{Visible, FileScope, with_object, with_objects, parameter_declared, parameters_declared}
 
--- parameters leave what is around them
+-- parameters do not change the scope around them
 parameter_declared-outer : (t : Scalar) (x : Option tree.Name) (v : Visible) → (parameter_declared t x v).outer ≡ v.outer
 parameter_declared-outer t None v = refl
 parameter_declared-outer t (Some x) v = refl

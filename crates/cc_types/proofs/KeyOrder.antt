@@ -1,4 +1,4 @@
--- A map in the order of its keys' bytes finds the names that are the same.
+-- A map ordered by its keys' bytes finds exactly the names that are the same.
 use Rattle.std.proofs.Common.{◌≡◌, ℕ, Bool, cond, List, Option, sym, ap, ◌∙◌, Bor}
 use Rattle.std.specs.Cmp.Lexicographic.{slice_cmp, texts_ties}
 use Rattle.std.specs.declared.cmp.Ordering.{Ordering}
@@ -15,12 +15,12 @@ same_key a b = same_name a.now b.now
 abbrev pub key_cmp : Bor (List ℕ) → Bor (List ℕ) → Ordering
 key_cmp a b = slice_cmp nat_cmp a.now b.now
 
--- keys are equal in their order exactly where they are the same name
+-- keys are equal in this order exactly if they are the same name
 pub same_key-ties : (x q : Bor (List ℕ)) → same_key x q ≡ is_eq (key_cmp x q)
 same_key-ties x q = texts_ties x.now q.now
 
 module _ {X : Type 0} where
-  -- what the map finds in its order
+  -- what the map finds by this order
   pub lookup-get : (m : BTreeMap (Bor (List ℕ)) X) (x : Bor (List ℕ)) → lookup (same_key x) m.entries ≡ get key_cmp m x
   lookup-get m x = λ i. lookup (λ k. same_key-ties x k i) m.entries
 

@@ -1,4 +1,4 @@
--- The numbers of names: a name that is numbered keeps its number, and no other name gets it.
+-- The numbers of names: a name that has a number keeps it, and no other name gets it.
 use Rattle.std.proofs.Common.{◌≡◌, ℕ, suc, ◌<◌, ◌≤◌, ◌+◌, Bool, true, false, cond, List, [], ◌∷◌, length, Option, Some, None, is_some, refl, sym, ap, ◌∙◌, Bor, nat_eq, arith}
 use Rattle.std.specs.Cmp.Lexicographic.{bytes_decides, nat_list_eq_equiv}
 use Rattle.std.proofs.lemmas.Bool.Decides.{nat_tests}
@@ -9,7 +9,7 @@ use Rattle.cc_types.specs.Numberings.{numbered_in, number_of_name, number_or_nex
 use Rattle.std.specs.Ordering.{is_eq}
 use Rattle.cc_types.proofs.KeyOrder.{same_key, key_cmp, same_key-ties, lookup-get}
 
--- what the map has at a name is its number
+-- what the map has for a name is its number
 pub lookup-numbered : (entries : List (Bor (List ℕ) × ℕ)) (q : Bor (List ℕ)) → lookup (same_key q) entries ≡ number_of_name (numbered_in entries) q.now
 lookup-numbered [] q = refl
 lookup-numbered (e ∷ es) q = ap (cond (same_name q.now e.0.now) (Some e.1)) (lookup-numbered es q)
@@ -24,7 +24,7 @@ length-numbered (e ∷ es) = ap suc (length-numbered es)
 pub AreNumbers-none : AreNumbers []
 AreNumbers-none = record { one = λ x y n e f. absurd cc; below = λ x n e. absurd cc }
 
--- ---- one name more
+-- ---- one more name
 
 module _ (old new : List (List ℕ × ℕ)) (x : List ℕ) (n : ℕ) (numbers : AreNumbers old) (is : n ≡ number_or_next old x)
     (found : (y : List ℕ) → number_of_name new y ≡ cond (same_name x y) (Some n) (number_of_name old y))
@@ -57,7 +57,7 @@ module _ (old new : List (List ℕ × ℕ)) (x : List ℕ) (n : ℕ) (numbers : 
       by true h = let same : n ≡ m = cc in let within = inside in omega (arith, same, within)
       by false h = let few : m < length old = numbers.below y m h in let more = longer in omega (arith, few, more)
 
-  -- a name that had another number than this one
+  -- a name that had a number other than this one
   apart : (z : List ℕ) → same_name x z ≡ false → number_of_name old z ≡ Some n → true ≡ false
   apart z h e = by (number_of_name old x) refl
     where
@@ -82,7 +82,7 @@ module _ (old new : List (List ℕ × ℕ)) (x : List ℕ) (n : ℕ) (numbers : 
   pub IsNumbered-is : IsNumbered old new x n
   IsNumbered-is = record { number = is; found = found; numbers = record { one = one; below = below }; longer = longer }
 
--- the map with a number at a name, its own or the next
+-- the map after a name gets a number, its own or the next
 module _ (old new : BTreeMap (Bor (List ℕ)) ℕ) (k : Bor (List ℕ)) (n : ℕ) (numbers : AreNumbers (numbered_in old.entries)) where
   IsNumbered-map : n ≡ number_or_next (numbered_in old.entries) k.now → ((q : Bor (List ℕ)) → get key_cmp new q ≡ cond (is_eq (key_cmp k q)) (Some n) (get key_cmp old q))
       → length new.entries ≡ length old.entries + cond (is_some (get key_cmp old k)) 0 1 → IsNumbered (numbered_in old.entries) (numbered_in new.entries) k.now n
@@ -100,7 +100,7 @@ module _ (old new : BTreeMap (Bor (List ℕ)) ℕ) (k : Bor (List ℕ)) (n : ℕ
       (next ∙ sym (length-numbered old.entries) ∙ ap (λ r. elim r [ None ↦ length (numbered_in old.entries) | Some m ↦ m ]) (none ∙ get-numbered old k))
       updates (long ∙ ap (λ r. length old.entries + cond (is_some r) 0 1) none)
 
--- a name that is there keeps its number
+-- a name that has a number keeps it
 pub IsNumbered-again : (names : List (List ℕ × ℕ)) (x : List ℕ) (n : ℕ) → AreNumbers names → number_of_name names x ≡ Some n → IsNumbered names names x n
 IsNumbered-again names x n numbers own = record {
   number = sym (ap (λ r. elim r [ None ↦ length names | Some m ↦ m ]) own);
@@ -113,14 +113,14 @@ IsNumbered-again names x n numbers own = record {
     by y true h = sym (ap (number_of_name names) ((bytes_decides x y).0 h)) ∙ own
     by y false h = refl
 
--- ---- tables from the numbers of names
+-- ---- tables indexed by the numbers of names
 
 -- the name's own number
 pub number-own : (old new : List (List ℕ × ℕ)) (x : List ℕ) (n : ℕ) → IsNumbered old new x n → number_of_name new x ≡ Some n
 number-own old new x n is = is.found x ∙ ap (λ c. cond c (Some n) (number_of_name old x)) (nat_list_eq_equiv.refl x)
 
 module _ {A : Type 0} where
-  -- with one name more that has a number, a table has of each name what it had
+  -- after one more name gets a number, a table has for each name what it had
   pub at-numbered : (old new : List (List ℕ × ℕ)) (x : List ℕ) (n : ℕ) (table : ℕ → Option A) → ((m : ℕ) → length old ≤ m → table m ≡ None) → IsNumbered old new x n
       → (y : List ℕ) → at_number table (number_of_name new y) ≡ at_number table (number_of_name old y)
   at-numbered old new x n table rest is y = ap (at_number table) (is.found y) ∙ by (same_name x y) refl
@@ -142,7 +142,7 @@ module _ {A : Type 0} where
   -- a table that is changed at the number of one name
   module _ (names : List (List ℕ × ℕ)) (x : List ℕ) (n : ℕ) (own : number_of_name names x ≡ Some n) (numbers : AreNumbers names)
       (old new : ℕ → Option A) (w : Option A) (updates : (m : ℕ) → new m ≡ cond (nat_eq n m) w (old m)) where
-    -- has of each name what it had, but for this one
+    -- has for every other name what it had
     pub at-changed : (y : List ℕ) → at_number new (number_of_name names y) ≡ cond (same_name x y) w (at_number old (number_of_name names y))
     at-changed y = by (number_of_name names y) (same_name x y) refl refl
       where
@@ -162,7 +162,7 @@ module _ {A : Type 0} where
                 absurd (let no : true ≡ false = sym (numbers.one x y m (own ∙ ap Some at) e) ∙ h in cc)
             other false k = k
 
-    -- and still nothing at a number that no name has
+    -- it still has nothing at a number that no name has
     pub rest-changed : ((m : ℕ) → length names ≤ m → old m ≡ None) → (m : ℕ) → length names ≤ m → new m ≡ None
     rest-changed rest m h =
         updates m ∙ ap (λ c. cond c w (old m)) (let few = numbers.below x n own in let is : nat_eq n m ≡ false = grind (arith, nat_tests, few, h) in is) ∙ rest m h

@@ -1,4 +1,4 @@
--- What the number of a name says of where it stands.
+-- What the number of a name says about its position among the bindings.
 use Rattle.std.proofs.Common.{◌≡◌, ℕ, zero, suc, ◌-◌, ◌<◌, ◌≤◌, Bool, true, false, cond, List, [], ◌∷◌, length, take, drop, Option, Some, None, IfSome, is_some, refl, sym, ap, ◌∙◌, nat_eq, arith}
 use Rattle.std.specs.Cmp.Lexicographic.{pointwise}
 use Rattle.std.proofs.lemmas.Bool.Decides.{nat_tests}
@@ -26,7 +26,7 @@ from-below bs x k h = by (number_in bs x) (number_in-below bs x)
     by None w = refl
     by (Some n) w = grind (arith, nat_tests)
 
--- the newest of some bindings are those whose numbers are the greatest
+-- the newest bindings are those with the greatest numbers
 pub is_declared-take : (bs : List Binding) (x : List ℕ) (i : ℕ) → i ≤ length bs → is_declared (take i bs) x ≡ from (length bs - i) (number_in bs x)
 is_declared-take bs x zero h = sym (from-below bs x (length bs - 0) (omega arith))
 is_declared-take [] x (suc i) h = refl
@@ -37,7 +37,7 @@ is_declared-take (b ∷ bs) x (suc i) h = by (pointwise nat_eq b.name x) (is_dec
     by true e = grind (arith, nat_tests)
     by false e = let k : suc (length bs) - suc i ≡ length bs - i = omega arith in e ∙ ap (λ j. from j (number_in bs x)) (sym k)
 
--- a name has a number exactly where it is declared
+-- a name has a number exactly if it is declared
 pub is_some-number_in : (bs : List Binding) (x : List ℕ) → is_some (number_in bs x) ≡ is_declared bs x
 is_some-number_in [] x = refl
 is_some-number_in (b ∷ bs) x = by (pointwise nat_eq b.name x) (is_some-number_in bs x)
@@ -46,7 +46,7 @@ is_some-number_in (b ∷ bs) x = by (pointwise nat_eq b.name x) (is_some-number_
     by true e = refl
     by false e = e
 
--- ---- file scope, where nothing but it is in scope
+-- ---- if only file scope is open
 
 none-inner : (bs : List Binding) (i : ℕ) → i ≤ length bs → take i bs ≡ [] → i ≡ 0
 none-inner bs zero h e = refl

@@ -1,4 +1,4 @@
--- The table of names: what a binding hides comes back when the binding goes.
+-- The table of names: what a binding hides comes back when the binding is removed.
 use Rattle.std.proofs.Common.{◌≡◌, ℕ, suc, ◌+◌, ◌<◌, Bool, true, false, cond, List, [], ◌∷◌, ◌++◌, length, map, reverse, get_or, Option, Some, None, IfSome, Result, Ok, Err, OnOk, OnErr, refl, sym, ap, subst, ◌∙◌, nat_eq, arith}
 use Rattle.std.specs.Cmp.Lexicographic.{bytes_decides, nat_list_eq_equiv}
 use Rattle.std.proofs.lemmas.List.{reverse-append, reverse-reverse, length-append, length-reverse, get_or_append_left}
@@ -23,7 +23,7 @@ length-bindings (b ∷ bs) = ap suc (length-bindings bs)
 reverse-push : (bs : List Binding) (b : Binding) → reverse (bs ++ b ∷ []) ≡ b ∷ reverse bs
 reverse-push bs b = reverse-append bs (b ∷ [])
 
--- ---- the newest binding of a name, at its number
+-- ---- the newest binding of a name, at the name's number
 
 record IsAt (rs : List Binding) (x : List ℕ) (i : ℕ) : Type 0 where
   within : i < length rs
@@ -68,7 +68,7 @@ not-found (b ∷ bs) x e = by (same_name b.name x) (not-found bs x) e
     by true f k = absurd cc
     by false f k = f k
 
--- what is answered of a name, by the number of its newest binding
+-- what a look-up of a name finds, by the number of its newest binding
 pub entity_found-is : (bs : List Binding) (x : List ℕ) (r : Option Newest) → number_of r ≡ number_in (bindings_of bs) x → IfSome r (λ n. (d : Binding) → n.entity ≡ (get_or bs n.number d).entity)
     → entity_found r ≡ scope.found (bindings_of bs) x
 entity_found-is bs x None e h = sym (not-found (bindings_of bs) x (sym e))
@@ -77,14 +77,14 @@ entity_found-is (b ∷ bs) x (Some n) e h =
     ap (λ a. Some (entity_of a)) (h b) ∙ ap (λ (l : List Binding). Some (entity_of (get_or l n.number b).entity)) (sym (reverse-reverse (b ∷ bs)))
     ∙ sym ((at-reverse (reverse (b ∷ bs)) x n.number (sym e)).entity b)
 
--- the same where a binding stands behind them
+-- the same with one newer binding
 pub entity_found-pushed : (bs : List Binding) (b : Binding) (x : List ℕ) (r : Option Newest) → number_of r ≡ number_in (bindings_of bs) x
     → IfSome r (λ n. (d : Binding) → n.entity ≡ (get_or (bs ++ b ∷ []) n.number d).entity) → entity_found r ≡ scope.found (bindings_of bs) x
 entity_found-pushed bs b x None e h = entity_found-is bs x None e tt
 entity_found-pushed bs b x (Some n) e h =
     entity_found-is bs x (Some n) e (λ d. h d ∙ ap (λ (v : Binding). v.entity) (get_or_append_left bs (b ∷ []) d n.number (number_in-within bs x (Some n.number) e)))
 
--- ---- names that are numbered
+-- ---- names that have numbers
 
 numbered-kept : (old new : List (List ℕ × ℕ)) (x : List ℕ) (n : ℕ) → IsNumbered old new x n → (y : List ℕ) (m : ℕ) → number_of_name old y ≡ Some m → number_of_name new y ≡ Some m
 numbered-kept old new x n is y m e = is.found y ∙ by (same_name x y) refl
@@ -97,7 +97,7 @@ AreHidden-kept : (old new : List (List ℕ × ℕ)) (x : List ℕ) (n : ℕ) →
 AreHidden-kept old new x n is [] h = tt
 AreHidden-kept old new x n is (b ∷ rs) h = (numbered-kept old new x n is b.name.now b.number h.0, h.1, AreHidden-kept old new x n is rs h.2)
 
--- with one name more that has a number, the table is as it was
+-- the table stays right when one more name gets a number
 pub IsTable-numbered : (bs : List Binding) (old new : List (List ℕ × ℕ)) (x : List ℕ) (n : ℕ) (table : ℕ → Option ℕ) → IsTable bs old table → IsNumbered old new x n → IsTable bs new table
 IsTable-numbered bs old new x n table before is = record {
   numbers = is.numbers;
@@ -118,7 +118,7 @@ pub hidden-within : (bs : List Binding) (b : Binding) (x : List ℕ) (r : Option
 hidden-within bs b x None e = tt
 hidden-within bs b x (Some n) e = let within = number_in-within bs x (Some n) e in let size : length (bs ++ b ∷ []) ≡ length bs + 1 = length-append bs (b ∷ []) in omega (arith, within, size)
 
--- ---- a binding more, and one less
+-- ---- one binding more, and one less
 
 pub IsTable-pushed : (bs : List Binding) (b : Binding) (names : List (List ℕ × ℕ)) (old new : ℕ → Option ℕ) → IsTable bs names old → number_of_name names b.name.now ≡ Some b.number
     → b.hidden ≡ old b.number → ((m : ℕ) → new m ≡ cond (nat_eq b.number m) (Some (length bs)) (old m)) → IsTable (bs ++ b ∷ []) names new
@@ -138,7 +138,7 @@ module _ (bs : List Binding) (b : Binding) (names : List (List ℕ × ℕ)) (old
   found_is : (y : List ℕ) → at_number old (number_of_name names y) ≡ number_in (map binding_of (b ∷ reverse bs)) y
   found_is y = before.found y ∙ ap (λ l. number_in (map binding_of l) y) (reverse-push bs b)
 
-  -- the table without its newest binding, whose name gets back what it hides
+  -- the table without its newest binding: what that binding hid comes back
   pub IsTable-popped : (w : Option ℕ) → b.hidden ≡ w → ((m : ℕ) → new m ≡ cond (nat_eq b.number m) w (old m)) → IsTable bs names new
   IsTable-popped w ew updates = record {
     numbers = before.numbers;
@@ -151,7 +151,7 @@ module _ (bs : List Binding) (b : Binding) (names : List (List ℕ × ℕ)) (old
       restored y true h = sym ew ∙ hidden_is.1 ∙ ap (number_in (bindings_of bs)) ((bytes_decides b.name.now y).0 h)
       restored y false h = refl
 
-  -- the newest binding's number is in the table, so putting back what it hides needs no memory
+  -- the newest binding's number is in the table, so restoring what it hides takes no memory
   pub newest-there : old b.number ≡ Some (length (map binding_of (reverse bs)))
   newest-there = sym (ap (at_number old) hidden_is.0) ∙ found_is b.name.now ∙ ap (λ c. cond c (Some (length (map binding_of (reverse bs)))) (number_in (bindings_of bs) b.name.now)) (same-itself b.name.now)
 

@@ -1,4 +1,4 @@
--- The trees of calls and blocks, whose parts the code keeps as rows.
+-- The trees of calls and blocks, whose parts the code keeps in rows.
 use Rattle.std.proofs.Common.{◌≡◌, suc, ◌+◌, List, [], ◌∷◌, length, refl, ap, arith, rules}
 use Rattle.cc_ast.specs.Tree as tree
 use Rattle.cc_ast.specs.Erase.{name_tree, expression_tree, expressions_tree, statement_tree, statements_tree, statements_of, beginning_tree, optional_tree, optional_action}

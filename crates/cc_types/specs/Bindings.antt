@@ -8,20 +8,21 @@ use Rattle.cc_types.specs.Entities.{entity_of}
 use Rattle.cc_types.specs.declared.bindings.Binding.{Binding}
 use Rattle.cc_types.specs.declared.bindings.Newest.{Newest}
 
--- a binding, as the definitions see it
+-- a binding as the definitions see it
 abbrev pub binding_of : Binding → scope.Binding
 binding_of b = record { name = b.name.now; entity = entity_of b.entity }
 
--- the bindings, the newest first; they are kept the oldest first
+-- the bindings, newest first; the code keeps them oldest first
 abbrev pub bindings_of : List Binding → List scope.Binding
 bindings_of bs = map binding_of (reverse bs)
 
--- the number of the newest binding of a name: how many stand after it
+-- the number of the newest binding of a name: how many bindings are older
 abbrev pub number_in : List scope.Binding → List ℕ → Option ℕ
 number_in [] x = None
 number_in (b ∷ behind) x = if same_name b.name x then Some (length behind) else number_in behind x
 
--- each binding, the newest first, has the number of its name, and what was the newest of its name before it
+-- each binding has the number of its name, and what was the newest binding of its name before it; the bindings are given newest
+-- first
 abbrev pub AreHidden : List (List ℕ × ℕ) → List Binding → Type 0
 AreHidden names [] = Unit {0}
 AreHidden names (b ∷ rest) = (number_of_name names b.name.now ≡ Some b.number) × (b.hidden ≡ number_in (map binding_of rest) b.name.now) × AreHidden names rest
@@ -33,7 +34,7 @@ pub record IsTable (bs : List Binding) (names : List (List ℕ × ℕ)) (table :
   pub hidden : AreHidden names (reverse bs)
   pub rest : (n : ℕ) → length names ≤ n → table n ≡ None
 
--- what is answered of a name
+-- what a look-up of a name finds
 abbrev pub number_of : Option Newest → Option ℕ
 number_of None = None
 number_of (Some n) = Some n.number
@@ -42,19 +43,19 @@ abbrev pub entity_found : Option Newest → Option scope.Entity
 entity_found None = None
 entity_found (Some n) = Some (entity_of n.entity)
 
--- the scope that some bindings make, where the innermost scope has declared this many of them
+-- the scope made of some bindings, if the innermost scope has declared this many of them
 abbrev pub scope_of : List scope.Binding → ℕ → Visible
 scope_of all inner = record { inner = take inner all; outer = drop inner all }
 
--- the scope after an inner one, in a scope that has declared this many names
+-- the scope after an inner one is closed, if it has declared this many names
 abbrev pub closed : ℕ → Visible → Visible
 closed around v = record { inner = take around v.outer; outer = drop around v.outer }
 
--- the scope in which nothing but file scope is
+-- only file scope is open
 abbrev pub file_level : List scope.Binding → Visible
 file_level bs = record { inner = []; outer = bs }
 
--- file scope where nothing else is in scope, as far as its names go; and with the names of functions that are defined
+-- file scope if no other scope is open, without the names of defined functions; and the same with these names
 abbrev pub file_with : Visible → List (List ℕ) → scope.FileScope
 file_with v defined = record { bindings = v.outer; defined = defined }
 

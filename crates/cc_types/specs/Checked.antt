@@ -1,8 +1,8 @@
--- What a typed unit keeps.
+-- What a typed unit guarantees.
 use Rattle.cc_ast.specs.Tree.{Source}
 use Rattle.cc_types.specs.Typed.{IsTyped, IsWithinLimits}
 
--- what a typed unit keeps of its source
+-- what a typed unit guarantees of its source
 pub record IsChecked (s : Source) : Type 0 where
   pub typed : IsTyped s.externals
   pub limits : IsWithinLimits s.externals

@@ -1,4 +1,4 @@
--- What the code keeps of names, as the definitions see it.
+-- What names denote in the code, as the definitions see it.
 use Rattle.std.specs.Prelude.{ℕ, List, [], ◌∷◌, map, Option, Some, None}
 use Rattle.std.specs.Borrow.{Bor}
 use Rattle.cc_ast.specs.scalar.Scalar.TheVariants.{Int}
@@ -8,7 +8,7 @@ use Rattle.cc_types.specs.Scope.{Visible, function_entity}
 use Rattle.cc_types.specs.declared.entity.Entity.{Entity}
 use Rattle.cc_types.specs.declared.entity.Entity.TheVariants.{Variable, Elements, Function, WriteWord, ReadWord}
 
--- what an entity is
+-- what an entity of the code denotes
 abbrev pub entity_of : Entity → scope.Entity
 entity_of (Variable t) = scope.Variable t
 entity_of (Elements t) = scope.Elements t

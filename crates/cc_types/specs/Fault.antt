@@ -6,7 +6,7 @@ use Rattle.cc_types.specs.declared.rule.Rule.TheVariants as rule
 use Rattle.cc_types.specs.declared.fault.TypeFault.{TypeFault}
 use Rattle.cc_types.specs.declared.fault.TypeFault.TheVariants.{Unknown, Redeclared, WrongKind, WrongCount, VoidValue, BadReturn, BadAssign, BadBreak, NoMain, Undefined, TooMany, OutOfMemory}
 
--- the number that a fault is known by
+-- the number by which a fault is known
 abbrev pub fault_number : TypeFault → ℕ
 fault_number (Unknown p) = 11
 fault_number (Redeclared p) = 12
@@ -21,7 +21,7 @@ fault_number (Undefined p) = 20
 fault_number (TooMany p) = 21
 fault_number OutOfMemory = 40
 
--- where a fault is
+-- the place of a fault
 abbrev pub fault_place : TypeFault → Option Place
 fault_place (Unknown p) = Some p
 fault_place (Redeclared p) = Some p

@@ -1,8 +1,8 @@
 -- when two identifiers are the same
 pub mod Names
--- the types in which operators work, and what they give on words
+-- the types in which operators work, and their values on words
 pub mod Operators
--- what names stand for, and which of them are in scope
+-- what names denote, and which names are in scope
 pub mod Scope
 -- the type of an expression, and the value of a constant expression
 pub mod Types
@@ -14,18 +14,19 @@ pub mod Limits
 pub mod Counts
 -- the faults: their numbers and places
 pub mod Fault
--- which units are typed, and why another one is refused
+-- which units are typed, and why the others are refused
 pub mod Typed
--- what a text comes to, from its first byte to its types
+-- the verdict on a text, by parsing and by the check of types
 pub mod Verdict
--- what a typed unit keeps
+-- what a typed unit guarantees
 pub mod Checked
--- what a definition that is handed out shows
+-- the tree of a definition that the code returns
 pub mod Defined
--- what the names in scope that are handed out stand for
+-- what names denote in the code
 pub mod Entities
 -- how the numbers of names are kept
 pub mod Numberings
 -- how the names in scope are kept
 pub mod Bindings
+-- definitions that only private contracts and proofs use
 pub mod internal

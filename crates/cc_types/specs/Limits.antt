@@ -1,11 +1,11 @@
--- The limits that a unit may pass, each at the name that passes it.
+-- The limits that a unit may pass, each reported at the name that passes it.
 use Rattle.std.specs.Prelude.{ℕ, ◌+◌, List, [], ◌∷◌, ◌++◌, length, take, drop, map, if◌then◌else◌, nat_lt}
 use Rattle.cc_ast.specs.Tree.{Name, Declarator, Beginning, Declares, Performs, Stmt, Stmts, end, next, Block, Local, Perform, Return, Break, Continue, If, IfElse, While, DoWhile, For, Signature, Object, Single, Array, Bytes, External, Declaration, Definition, Objects}
 use Rattle.cc_types.specs.Types.{object_words}
 use Rattle.cc_types.specs.declared.rule.RuleError.{RuleError}
 use Rattle.cc_types.specs.declared.rule.Rule.TheVariants.{TooMany}
 
--- parameters of a function; locals of one function, in all its blocks together and parameters not counted; defined
+-- the most parameters of a function; locals of a function, in all its blocks together and without its parameters; defined
 -- functions; words of all objects at file scope together
 abbrev pub most_parameters : ℕ
 most_parameters = 8
@@ -19,11 +19,11 @@ most_functions = 64
 abbrev pub most_words : ℕ
 most_words = 65536
 
--- the limit passed at a name
+-- a limit is passed at this name
 abbrev pub too_many : Name → RuleError
 too_many x = record { rule = TooMany; at = x.at }
 
--- the first name past this many
+-- the limit is passed at the first name past this many, if there is one
 abbrev pub past : ℕ → List Name → List RuleError
 past most names = map too_many (take 1 (drop most names))
 
@@ -41,7 +41,7 @@ abbrev pub beginning_names : Beginning → List Name
 beginning_names (Declares t ds) = declared_names ds
 beginning_names (Performs a) = []
 
--- the locals that a statement declares, and a list of statements, in the order of the text
+-- the locals that a statement or a list of statements declares, in the order of the text
 abbrev mutual
   pub locals_of : Stmt → List Name
   locals_of (Block all) = locals all
@@ -62,7 +62,7 @@ abbrev mutual
 
 -- ---- functions and words
 
--- the names of the functions that are defined, in the order of their definitions
+-- the names of the defined functions, in the order of their definitions
 abbrev pub function_names : List External → List Name
 function_names [] = []
 function_names (Declaration s ∷ rest) = function_names rest
@@ -81,7 +81,7 @@ object_name (Single x initial) = x
 object_name (Array x n values) = x
 object_name (Bytes x n values) = x
 
--- the object that passes the limit on words, where this many are taken before
+-- the object that passes the limit on words, if this many words are taken before
 abbrev pub word_excesses : ℕ → List Object → List RuleError
 word_excesses taken [] = []
 word_excesses taken (o ∷ rest) = if nat_lt most_words (taken + object_words o) then too_many (object_name o) ∷ [] else word_excesses (taken + object_words o) rest

@@ -1,6 +1,5 @@
--- The types in which operators work, and what they give on words. The numbers in parentheses are clauses of
--- ISO/IEC 9899:1999. Typing needs the words for constant expressions; the value of any other expression is made of the
--- same functions.
+-- The types in which operators work, and the operators' values on words. The numbers in parentheses are clauses of ISO/IEC
+-- 9899:1999. Typing needs the words for constant expressions; the values of all other expressions use the same functions.
 use Rattle.std.specs.Prelude.{ℕ, ◌==◌, ◌&&◌, ◌||◌, Bool, not, if◌then◌else◌, Option, Some, None}
 use Rattle.cc_words.specs.Words.{truth_value, add, sub, mul, neg, complement, is_zero, eq, ne, lt_s, le_s, lt_u, le_u, div_s, rem_s, div_u, rem_u, shl, shr_s, shr_u, and, or, xor}
 use Rattle.cc_ast.specs.scalar.Scalar.{Scalar}
@@ -16,18 +15,18 @@ use Rattle.cc_ast.specs.declared.ast.StepOperator.TheVariants.{Increment, Decrem
 
 -- ---- types
 
--- two operands meet in unsigned where one of them has it (6.3.1.8)
+-- the common type of two operands is unsigned if one of them is (6.3.1.8)
 abbrev pub common_type : Scalar → Scalar → Scalar
 common_type Int t = t
 common_type Unsigned t = Unsigned
 
--- the type in which an operator works: that of the left operand for a shift (6.5.7), else the common one
+-- the type in which an operator works: the left operand's for a shift (6.5.7), otherwise the common type
 abbrev pub working_type : BinaryOperator → Scalar → Scalar → Scalar
 working_type ShiftLeft t u = t
 working_type ShiftRight t u = t
 working_type op t u = common_type t u
 
--- the type of what it gives: relations, equality, && and || give int (6.5.8, 6.5.9, 6.5.13, 6.5.14)
+-- the type of the value: relations, equality, && and || give int (6.5.8, 6.5.9, 6.5.13, 6.5.14)
 abbrev pub binary_type : BinaryOperator → Scalar → Scalar → Scalar
 binary_type Less t u = Int
 binary_type Greater t u = Int
@@ -39,14 +38,14 @@ binary_type LogicalAnd t u = Int
 binary_type LogicalOr t u = Int
 binary_type op t u = working_type op t u
 
--- the type of what a unary operator gives: ! gives int, the others keep the operand's (6.5.3.3)
+-- the type of a unary operator's value: int for !, the operand's for the others (6.5.3.3)
 abbrev pub unary_type : UnaryOperator → Scalar → Scalar
 unary_type Not t = Int
 unary_type op t = t
 
 -- ---- words
 
--- what a unary operator gives (6.5.3.3)
+-- the value of a unary operator (6.5.3.3)
 abbrev pub unary_word : UnaryOperator → ℕ → ℕ
 unary_word Plus a = a
 unary_word Minus a = neg a
@@ -57,8 +56,8 @@ unary_word Not a = is_zero a
 abbrev pub is_true : ℕ → Bool
 is_true w = not (w == 0)
 
--- what a binary operator gives in the type in which it works, and nothing where it goes wrong: a quotient by 0 or of
--- -2147483648 by -1, a shift by a count below 0 or above 31. A count below 0 is a word above 31
+-- the value of a binary operator for its working type, or None if it is undefined: a quotient by 0 or of -2147483648 by -1, a
+-- shift by a count below 0 or above 31. A count below 0 is a word above 31.
 abbrev pub binary_word : BinaryOperator → Scalar → ℕ → ℕ → Option ℕ
 binary_word Multiply t a b = Some (mul a b)
 binary_word Divide Int a b = div_s a b
@@ -86,13 +85,13 @@ binary_word Or t a b = Some (or a b)
 binary_word LogicalAnd t a b = Some (truth_value (is_true a && is_true b))
 binary_word LogicalOr t a b = Some (truth_value (is_true a || is_true b))
 
--- the value where the left operand alone decides it: the right one is not evaluated then (6.5.13, 6.5.14)
+-- the value if the left operand alone decides it: then the right one is not evaluated (6.5.13, 6.5.14)
 abbrev pub decided : BinaryOperator → ℕ → Option ℕ
 decided LogicalAnd a = if is_true a then None else Some 0
 decided LogicalOr a = if is_true a then Some 1 else None
 decided op a = None
 
--- the operator that an assignment applies to the old value, none for `=` (6.5.16.2)
+-- the operator that an assignment applies to the old value; None for `=` (6.5.16.2)
 abbrev pub applied_operator : AssignmentOperator → Option BinaryOperator
 applied_operator assignment.Plain = None
 applied_operator assignment.Multiply = Some Multiply

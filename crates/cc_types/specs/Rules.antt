@@ -1,6 +1,6 @@
--- The rules of scope and type, by the places where a unit breaks them. Each part of the tree says which rules it breaks
--- in the scope where it stands, and no order of checking is in it; what follows an error is judged as if its type were
--- int. The numbers in parentheses are clauses of ISO/IEC 9899:1999.
+-- The rules of scope and type, given by the places where a unit breaks them. Each part of the tree lists the rules that it
+-- breaks, in its scope. The order in which a checker goes is not part of this. After an error, the part is judged as if its type
+-- were int. The numbers in parentheses are clauses of ISO/IEC 9899:1999.
 use Rattle.std.specs.Prelude.{ℕ, ◌+◌, Bool, true, false, ◌==◌, ◌||◌, ◌&&◌, not, List, [], ◌∷◌, ◌++◌, length, Option, Some, None, if◌then◌else◌, is_some, nat_lt, codes}
 use Rattle.cc_ast.specs.scalar.Scalar.{Scalar}
 use Rattle.cc_ast.specs.scalar.Scalar.TheVariants.{Int}
@@ -13,31 +13,31 @@ use Rattle.cc_types.specs.declared.rule.RuleError.{RuleError}
 use Rattle.cc_types.specs.declared.rule.Rule.{Rule}
 use Rattle.cc_types.specs.declared.rule.Rule.TheVariants.{Unknown, Redeclared, WrongKind, WrongCount, VoidValue, BadReturn, BadAssign, BadBreak, Undefined}
 
--- one rule broken, at the token with an offset
+-- one rule is broken, at the token with this offset
 abbrev pub broken : Rule → ℕ → List RuleError
 broken r at = record { rule = r; at = at } ∷ []
 
--- a rule that is broken where this is so
+-- a rule is broken if the condition holds
 abbrev pub broken_if : Bool → Rule → ℕ → List RuleError
 broken_if holds r at = if holds then broken r at else []
 
 -- ---- names
 
--- a name where a variable must stand: an array or a function there breaks the rule that is given
+-- a name in a place that needs a variable: an array or a function breaks the given rule
 abbrev pub variable_errors : Rule → Option Entity → ℕ → List RuleError
 variable_errors misuse None at = broken Unknown at
 variable_errors misuse (Some (Variable t)) at = []
 variable_errors misuse (Some (Elements t)) at = broken misuse at
 variable_errors misuse (Some (Function r ts)) at = broken misuse at
 
--- a name that is indexed: an array (6.5.2.1)
+-- a name that is indexed must be an array (6.5.2.1)
 abbrev pub array_errors : Option Entity → ℕ → List RuleError
 array_errors None at = broken Unknown at
 array_errors (Some (Variable t)) at = broken WrongKind at
 array_errors (Some (Elements t)) at = []
 array_errors (Some (Function r ts)) at = broken WrongKind at
 
--- a name that is called with this many arguments: a function of as many parameters (6.5.2.2)
+-- a name that is called with this many arguments must be a function of as many parameters (6.5.2.2)
 abbrev pub function_errors : Option Entity → ℕ → ℕ → List RuleError
 function_errors None count at = broken Unknown at
 function_errors (Some (Variable t)) count at = broken WrongKind at
@@ -51,14 +51,14 @@ abbrev pub count_of : Exprs → ℕ
 count_of none = 0
 count_of (more e rest) = 1 + count_of rest
 
--- a void call, in parentheses too, where a value is used (6.3.2.2)
+-- a void call whose value is used, also in parentheses (6.3.2.2)
 abbrev pub void_errors : List Binding → Expr → List RuleError
 void_errors bs (Call f es) = elim (result_type (found bs f.text)) [ None ↦ broken VoidValue f.at | Some t ↦ [] ]
 void_errors bs (Parenthesised e) = void_errors bs e
 void_errors bs e = []
 
--- an expression that is evaluated, whether its value is used or not: each part but a pair of parentheses uses the values
--- of its parts (6.5)
+-- an expression that is evaluated, whether its value is used or not: every part but a pair of parentheses uses the values of its
+-- parts (6.5)
 abbrev mutual
   pub expression_errors : List Binding → Expr → List RuleError
   expression_errors bs (Number t n) = []
@@ -80,17 +80,17 @@ abbrev mutual
 abbrev pub value_errors : List Binding → Expr → List RuleError
 value_errors bs e = expression_errors bs e ++ void_errors bs e
 
--- one that may be left out
+-- an expression that may be absent
 abbrev pub optional_errors : List Binding → Option Expr → List RuleError
 optional_errors bs None = []
 optional_errors bs (Some e) = value_errors bs e
 
--- what is written: a variable, or an element of an array (6.5.16)
+-- the target of an assignment: a variable, or an element of an array (6.5.16)
 abbrev pub target_errors : List Binding → Target → List RuleError
 target_errors bs (AtVariable x) = variable_errors BadAssign (found bs x.text) x.at
 target_errors bs (AtElement x e) = array_errors (found bs x.text) x.at ++ value_errors bs e
 
--- an expression statement may be a void call; any other expression's value is used (6.8.3)
+-- an expression statement may be a void call; the value of any other expression is used (6.8.3)
 abbrev pub action_errors : List Binding → Action → List RuleError
 action_errors bs (Assign op t e) = target_errors bs t ++ value_errors bs e
 action_errors bs (Step op t) = target_errors bs t
@@ -122,17 +122,17 @@ return_errors None bs at (Some e) = broken BadReturn at ++ value_errors bs e
 return_errors (Some t) bs at None = broken BadReturn at
 return_errors (Some t) bs at (Some e) = value_errors bs e
 
--- where a statement stands: what its function gives, none for void, and whether a loop is around it
+-- what surrounds a statement: its function's result type, None for void, and whether it is in a loop
 pub record Around : Type 0 where
   pub result : Option Scalar
   pub in_loop : Bool
 
--- the same, in the body of a loop
+-- the same inside the body of a loop
 abbrev pub within_loop : Around → Around
 within_loop a = record a { in_loop = true }
 
--- a statement, and a list of statements. A block and each part of a statement are scopes of their own (6.8.2, 6.8.4,
--- 6.8.5), and a `for` header is one around its body; break and continue stand in a loop (6.8.6.2, 6.8.6.3)
+-- a statement, and a list of statements. A block and each part of a statement are scopes of their own (6.8.2, 6.8.4, 6.8.5), and
+-- a `for` header is a scope around the loop's body. break and continue must be in a loop (6.8.6.2, 6.8.6.3).
 abbrev mutual
   pub statement_errors : Stmt → Around → Visible → List RuleError
   statement_errors (Block all) a v = statements_errors all a (opened v)
@@ -157,8 +157,7 @@ abbrev mutual
 
 -- ---- file scope
 
--- a constant expression has no names and no calls, and does not go wrong; where it breaks this, it does at its first token
--- (6.6)
+-- a constant expression has no names and no calls, and does not go wrong; an error is reported at its first token (6.6)
 abbrev pub constant_errors : List Binding → ConstantExpr → List RuleError
 constant_errors bs c = value_errors bs c.expr ++ broken_if (not (is_some (constant_word c))) WrongKind c.at
 
@@ -170,12 +169,13 @@ abbrev pub constants_errors : List Binding → List ConstantExpr → List RuleEr
 constants_errors bs [] = []
 constants_errors bs (c ∷ rest) = constant_errors bs c ++ constants_errors bs rest
 
--- an array has an element at least, and no fewer than its list has values (6.7.5.2, 6.7.8)
+-- an array has at least one element, and no fewer than its list has values (6.7.5.2, 6.7.8)
 abbrev pub length_errors : Option ℕ → ℕ → ℕ → List RuleError
 length_errors None given at = []
 length_errors (Some n) given at = broken_if (n == 0 || nat_lt n given) WrongCount at
 
--- an array, which file scope has not yet. Its length stands before its name is in scope, and the values of its list after that (6.2.1)
+-- an array that file scope does not have yet. Its length precedes the point at which its name comes into scope; the values of its
+-- list follow it (6.2.1).
 abbrev pub named_array_errors : Scalar → Name → Option ConstantExpr → List ConstantExpr → FileScope → List RuleError
 named_array_errors t x n values f =
     broken_if (is_declared f.bindings x.text) Redeclared x.at
@@ -183,7 +183,7 @@ named_array_errors t x n values f =
     ++ (length_errors (array_length n values) (length values) x.at
     ++ constants_errors (with_declared x.text (Elements t) f).bindings values))
 
--- one name of a declaration of objects
+-- one name in a declaration of objects
 abbrev pub object_errors : Scalar → Object → FileScope → List RuleError
 object_errors t (Single x initial) f =
     broken_if (is_declared f.bindings x.text) Redeclared x.at
@@ -195,7 +195,7 @@ abbrev pub objects_errors : Scalar → List Object → FileScope → List RuleEr
 objects_errors t [] f = []
 objects_errors t (o ∷ rest) f = object_errors t o f ++ objects_errors t rest (with_object t o f)
 
--- a name of a parameter: parameters are a scope, which declares no name twice
+-- the name of a parameter: parameters are a scope, which declares no name twice
 abbrev pub parameter_errors : Option Name → Visible → List RuleError
 parameter_errors None v = []
 parameter_errors (Some x) v = broken_if (is_declared v.inner x.text) Redeclared x.at
@@ -204,18 +204,18 @@ abbrev pub parameters_errors : List Parameter → Visible → List RuleError
 parameters_errors [] v = []
 parameters_errors (p ∷ rest) v = parameter_errors p.name v ++ parameters_errors rest (parameter_declared p.scalar p.name v)
 
--- a declaration of what stands already differs from it
+-- a declaration contradicts what its name already denotes
 abbrev pub differs : Option Entity → Entity → Bool
 differs None e = false
 differs (Some old) e = not (same_entity old e)
 
--- what is said of a function: another declaration of its name says the same types (6.7)
+-- the head of a function: another declaration of its name has the same types (6.7)
 abbrev pub signature_errors : Signature → FileScope → List RuleError
 signature_errors s f =
     broken_if (differs (found f.bindings s.name.text) (function_entity s)) Redeclared s.name.at
     ++ parameters_errors s.parameters (record { inner = []; outer = (with_function s f).bindings })
 
--- an external declaration; a function is defined once, and a builtin never (6.9)
+-- an external declaration; a function is defined only once, and a builtin never (6.9)
 abbrev pub external_errors : External → FileScope → List RuleError
 external_errors (Declaration s) f = signature_errors s f
 external_errors (Definition s body) f =
@@ -234,7 +234,7 @@ errors externals = externals_errors externals first_file_scope
 
 -- ---- what a whole unit must have
 
--- a definition of `int main`, without parameters (5.1.2.2.1)
+-- a definition of `int main` without parameters (5.1.2.2.1)
 abbrev pub is_main : External → Bool
 is_main (Definition s body) = same_name (codes "main") s.name.text && (same_result s.result (Some Int) && length s.parameters == 0)
 is_main e = false
@@ -243,7 +243,7 @@ abbrev pub defines_main : List External → Bool
 defines_main [] = false
 defines_main (e ∷ rest) = is_main e || defines_main rest
 
--- the names of the functions that are called, each call of its own
+-- the names of the functions that are called, one for each call
 abbrev mutual
   pub called_in : Expr → List Name
   called_in (Number t n) = []
@@ -304,7 +304,7 @@ abbrev mutual
   called_in_statements end = []
   called_in_statements (next first rest) = called_in_statement first ++ called_in_statements rest
 
--- those in constant expressions, each of which breaks a rule already
+-- the calls in constant expressions; each of these breaks a rule already
 abbrev pub called_in_constant : ConstantExpr → List Name
 called_in_constant c = called_in c.expr
 
@@ -335,7 +335,7 @@ abbrev pub called : List External → List Name
 called [] = []
 called (e ∷ rest) = called_in_external e ++ called rest
 
--- the calls among these of functions that are not defined
+-- those of these calls whose function is not defined
 abbrev pub undefined_among : List (List ℕ) → List Name → List RuleError
 undefined_among defined [] = []
 undefined_among defined (f ∷ rest) = broken_if (not (has_name defined f.text)) Undefined f.at ++ undefined_among defined rest

@@ -1,12 +1,12 @@
--- What names stand for, and which of them are in scope (C99 6.2.1).
+-- What names denote, and which names are in scope (C99 6.2.1).
 use Rattle.std.specs.Prelude.{ℕ, Bool, true, false, ◌&&◌, ◌||◌, List, [], ◌∷◌, ◌++◌, map, Option, Some, None, if◌then◌else◌, is_some, codes}
 use Rattle.cc_ast.specs.scalar.Scalar.{Scalar}
 use Rattle.cc_ast.specs.scalar.Scalar.TheVariants.{Int, Unsigned}
 use Rattle.cc_ast.specs.Tree.{Name, Declarator, Beginning, Declares, Performs, Stmt, Local, Parameter, Signature, Object, Single, Array, Bytes, External, Declaration, Definition, Objects}
 use Rattle.cc_types.specs.Names.{same_name}
 
--- what a name stands for: an object of one value (a variable, a parameter, a local), an array of elements of one type, or
--- a function, with the type of its result (none for void) and those of its parameters
+-- what a name denotes: an object with one value (a variable, a parameter, a local), an array with the type of its elements, or a
+-- function with the type of its result (None for void) and those of its parameters
 pub data Entity : Type 0 where
   Variable : Scalar → Entity
   Elements : Scalar → Entity
@@ -17,7 +17,7 @@ pub record Binding : Type 0 where
   pub name : List ℕ
   pub entity : Entity
 
--- what the newest declaration of a name says, where there is one
+-- what the newest declaration of a name says it denotes, if there is one
 abbrev pub found : List Binding → List ℕ → Option Entity
 found [] x = None
 found (b ∷ behind) x = if same_name b.name x then Some b.entity else found behind x
@@ -26,16 +26,16 @@ found (b ∷ behind) x = if same_name b.name x then Some b.entity else found beh
 abbrev pub is_declared : List Binding → List ℕ → Bool
 is_declared bs x = is_some (found bs x)
 
--- what is in scope: what the innermost scope has declared so far, and what stands around it, the newest first
+-- what is in scope: what the innermost scope has declared so far, and what surrounds it, newest first
 pub record Visible : Type 0 where
   pub inner : List Binding
   pub outer : List Binding
 
--- all that is in scope; inner declarations hide outer ones
+-- all names in scope; inner declarations hide outer ones
 abbrev pub in_scope : Visible → List Binding
 in_scope v = v.inner ++ v.outer
 
--- the scope at the start of an inner one
+-- the scope when an inner one is opened
 abbrev pub opened : Visible → Visible
 opened v = record { inner = []; outer = in_scope v }
 
@@ -48,7 +48,7 @@ abbrev pub all_declared : Scalar → List Declarator → Visible → Visible
 all_declared t [] v = v
 all_declared t (d ∷ rest) v = all_declared t rest (declared d.name.text (Variable t) v)
 
--- the scope after a statement: a declaration adds its names, and every other statement leaves it
+-- the scope after a statement: a declaration adds its names, every other statement leaves the scope as it is
 abbrev pub scope_behind : Stmt → Visible → Visible
 scope_behind (Local t ds) v = all_declared t ds v
 scope_behind s v = v
@@ -58,7 +58,7 @@ abbrev pub scope_behind_beginning : Beginning → Visible → Visible
 scope_behind_beginning (Declares t ds) v = all_declared t ds v
 scope_behind_beginning (Performs a) v = v
 
--- the scope after a parameter, where it has a name
+-- the scope after a parameter, which may have no name
 abbrev pub parameter_declared : Scalar → Option Name → Visible → Visible
 parameter_declared t None v = v
 parameter_declared t (Some x) v = declared x.text (Variable t) v
@@ -70,12 +70,12 @@ parameters_declared (p ∷ rest) v = parameters_declared rest (parameter_declare
 
 -- ---- file scope
 
--- what is declared in file scope so far, and the names of the functions that are defined; the builtins are both
+-- what file scope has declared so far, and the names of the defined functions; the builtins are among both
 pub record FileScope : Type 0 where
   pub bindings : List Binding
   pub defined : List (List ℕ)
 
--- a name is one of some names
+-- a name is among these names
 abbrev pub has_name : List (List ℕ) → List ℕ → Bool
 has_name [] x = false
 has_name (y ∷ rest) x = same_name y x || has_name rest x
@@ -87,18 +87,18 @@ first_file_scope = record {
   defined = codes "write_word" ∷ codes "read_word" ∷ [];
 }
 
--- the same with a name that is declared there
+-- file scope after a declaration of a name
 abbrev pub with_declared : List ℕ → Entity → FileScope → FileScope
 with_declared x entity f = record f { bindings = if is_declared f.bindings x then f.bindings else record { name = x; entity = entity } ∷ f.bindings }
 
--- what is said of a function stands for this
+-- what a function's head declares its name to denote
 abbrev pub function_entity : Signature → Entity
 function_entity s = Function s.result (map (λ (p : Parameter). p.scalar) s.parameters)
 
 abbrev pub with_function : Signature → FileScope → FileScope
 with_function s f = with_declared s.name.text (function_entity s) f
 
--- what one name of a declaration of objects stands for
+-- file scope after one name in a declaration of objects
 abbrev pub with_object : Scalar → Object → FileScope → FileScope
 with_object t (Single x initial) f = with_declared x.text (Variable t) f
 with_object t (Array x n values) f = with_declared x.text (Elements t) f
@@ -120,8 +120,8 @@ abbrev pub file_scope_behind_all : List External → FileScope → FileScope
 file_scope_behind_all [] f = f
 file_scope_behind_all (e ∷ rest) f = file_scope_behind_all rest (file_scope_behind e f)
 
--- the scope of a function's body before its first statement, where file scope was so before it: the parameters and the
--- body's outermost block are one scope
+-- the scope of a function's body before its first statement, given file scope before it: the parameters and the body's outermost
+-- block are one scope
 abbrev pub body_scope : Signature → FileScope → Visible
 body_scope s f = parameters_declared s.parameters (record { inner = []; outer = (with_function s f).bindings })
 
@@ -142,7 +142,7 @@ same_result None None = true
 same_result (Some t) (Some u) = same_scalar t u
 same_result r q = false
 
--- two functions of the same types
+-- two functions with the same types
 abbrev pub same_entity : Entity → Entity → Bool
 same_entity (Function r ts) (Function q us) = same_result r q && same_scalars ts us
 same_entity e f = false

@@ -1,4 +1,4 @@
--- Which units are typed, and why another one is refused.
+-- Which units are typed, and why the others are refused.
 use Rattle.std.specs.Prelude.{ℕ, ◌≡◌, ◌⊎◌, ◌<◌, ◌≤◌, true, false, List, [], ◌∷◌, ◌++◌, length, map, Contains, Option, Some, None}
 use Rattle.std.specs.List.{AllByRecursion}
 use Rattle.cc_ast.specs.Tree.{Name, External, Declaration, Definition, Objects, Source}
@@ -10,16 +10,15 @@ use Rattle.cc_types.specs.declared.rule.RuleError.{RuleError}
 use Rattle.cc_types.specs.declared.fault.TypeFault.{TypeFault}
 use Rattle.cc_types.specs.declared.fault.TypeFault.TheVariants.{NoMain}
 
--- a unit is typed where it breaks no rule, defines main, and defines each function that it calls
+-- a unit is typed if it breaks no rule, defines main, and defines each function that it calls
 abbrev pub IsTyped : List External → Type 0
 IsTyped externals = (errors externals ≡ []) × (defines_main externals ≡ true) × (undefined_calls externals ≡ [])
 
--- and it keeps the limits where it passes none
+-- a unit keeps the limits if it passes none
 abbrev pub IsWithinLimits : List External → Type 0
 IsWithinLimits externals = excesses externals ≡ []
 
--- one error comes before another, or is the same: its token is earlier, or the token is the same and its number is
--- not greater
+-- one error is not after another: its token is earlier, or it is at the same token and its number is not greater
 abbrev pub NotAfter : RuleError → RuleError → Type 0
 NotAfter o p = (o.at < p.at) ⊎ ((o.at ≡ p.at) × (rule_number o.rule ≤ rule_number p.rule))
 
@@ -27,33 +26,32 @@ NotAfter o p = (o.at < p.at) ⊎ ((o.at ≡ p.at) × (rule_number o.rule ≤ rul
 abbrev pub IsFirst : RuleError → List RuleError → Type 0
 IsFirst o all = Contains all o × AllByRecursion (NotAfter o) all
 
--- the fault is the first of some errors, at its token
+-- the fault is that of the first of some errors, at its token
 abbrev pub IsFaultOfFirst : List ℕ → List RuleError → TypeFault → Type 0
 IsFaultOfFirst text all fault = (o : RuleError) × IsFirst o all × (fault ≡ fault_of o.rule (place_of text o.at))
 
--- every rule that a unit breaks and limit that it passes
+-- every rule that a unit breaks, and every limit that it passes
 abbrev pub all_errors : List External → List RuleError
 all_errors externals = errors externals ++ excesses externals
 
--- a unit is refused for the first of its errors; where there is none, for a missing main, at the end of the text; where
--- main is there, for the first call of a function that is not defined
+-- a unit is refused for the first of its errors; without errors, for a missing main, at the end of the text; and with a main, for
+-- the first call of a function that is not defined
 abbrev pub IsTypeRefusal : Source → TypeFault → Type 0
 IsTypeRefusal s fault =
     IsFaultOfFirst s.text (all_errors s.externals) fault
     ⊎ (((all_errors s.externals ≡ []) × (defines_main s.externals ≡ false) × (fault ≡ NoMain (place_of s.text (length s.text))))
     ⊎ ((all_errors s.externals ≡ []) × (defines_main s.externals ≡ true) × IsFaultOfFirst s.text (undefined_calls s.externals) fault))
 
--- what `check` may answer for a unit, lack of memory set aside: no fault where it is typed within the limits, else why it is
--- refused
+-- what `check` may return for a unit if memory suffices: no fault if it is typed within the limits, else why it is refused
 abbrev pub IsTypeAnswer : Source → Option TypeFault → Type 0
 IsTypeAnswer s None = IsTyped s.externals × IsWithinLimits s.externals
 IsTypeAnswer s (Some fault) = IsTypeRefusal s fault
 
--- a unit has one answer at most: two are the same fault at the same place, or none
+-- a unit has at most one such answer: two answers are the same fault at the same place, or both no fault
 abbrev pub TypeAnswersAreOne : Type 0
 TypeAnswersAreOne = (s : Source) (a b : Option TypeFault) → IsTypeAnswer s a → IsTypeAnswer s b → a ≡ b
 
--- and a unit has one
+-- every unit has such an answer
 abbrev pub UnitsHaveTypeAnswers : Type 0
 UnitsHaveTypeAnswers = (s : Source) → (a : Option TypeFault) × IsTypeAnswer s a
 

@@ -1,4 +1,4 @@
--- What `parse` and then `check` come to for a text.
+-- What `parse` and then `check` decide about a text.
 use Rattle.std.specs.Prelude.{◌≡◌, ℕ, List, Some, None, Ok, Err}
 use Rattle.cc_ast.specs.fault.SyntaxFault.{SyntaxFault}
 use Rattle.cc_ast.specs.Tree.{External, Source}
@@ -12,20 +12,20 @@ pub data Verdict : Type 0 where
   NotTyped : TypeFault → Verdict
   Program : List External → Verdict
 
--- the source with a text and a tree
+-- the source made of a text and a tree
 abbrev pub source_with : List ℕ → List External → Source
 source_with text tree = record { text = text; externals = tree }
 
--- what the two calls may answer for a text, lack of memory set aside
+-- what the two calls may decide about a text if memory suffices
 abbrev pub IsVerdict : List ℕ → Verdict → Type 0
 IsVerdict text (NoTree f) = IsParseAnswer text (Err f)
 IsVerdict text (NotTyped f) = (tree : List External) × IsParseAnswer text (Ok tree) × IsTypeAnswer (source_with text tree) (Some f)
 IsVerdict text (Program tree) = IsParseAnswer text (Ok tree) × IsTypeAnswer (source_with text tree) None
 
--- a text has one verdict at most
+-- a text has at most one verdict
 abbrev pub VerdictsAreOne : Type 0
 VerdictsAreOne = (text : List ℕ) (v w : Verdict) → IsVerdict text v → IsVerdict text w → v ≡ w
 
--- and a text has one
+-- every text has a verdict
 abbrev pub TextsHaveVerdicts : Type 0
 TextsHaveVerdicts = (text : List ℕ) → (v : Verdict) × IsVerdict text v

@@ -1,7 +1,7 @@
 // The names in scope, with the newest binding of each.
 //
-// A name is numbered once, and `newest` has the newest binding at each name's number; a binding keeps what was the newest of its name
-// before it. So a look-up is one search for the number and one step, and taking the newest binding back needs no search.
+// Each name has a number, and `newest` has the newest binding at each name's number. A binding keeps what was the newest of its
+// name before it. So a look-up is one search for the number and one step, and removing the newest binding needs no search.
 
 ghost use Rattle.std.specs.Prelude.{◌≡◌, [], ◌∷◌, ◌<◌, ◌^◌, length, drop, IfSome, IfOk, OnOk, OnErr, slice_index_or};
 ghost use Rattle.cc_types.specs.Scope.{found};
@@ -15,7 +15,7 @@ use indexmap::IndexMap;
 use std::alloc::{AllocError, Global};
 use std::marker::Model;
 
-/// The newest binding of a name: its number, and what the name stands for.
+/// The newest binding of a name: the binding's number, and what the name denotes.
 #[derive(Clone, Copy)]
 pub struct Newest<'a> {
     pub number: usize,
@@ -37,7 +37,7 @@ pub struct Bindings<'a> {
     newest: IndexMap<usize, usize>,
 }
 
-// By hand, so that crates above call it and do not prove anew how each part is dropped.
+// Written by hand, so that the crates above use this proof and need not show again how each part is dropped.
 impl Drop for Bindings<'_> {
     fn drop(self) {
         let Bindings {
@@ -61,7 +61,7 @@ impl<'a> Model for Bindings<'a> {
     ghost invariant = { λ b. IsTable b.list.items b.names (get nat_eq b.newest) };
 }
 
-// The binding with a number, where there is one.
+// The binding with this number, if there is one.
 fn newest_at<'a>(list: &[Binding<'a>], number: Option<usize>) -> Option<Newest<'a>>
     requires { IfSome number (λ n. n < length list.now) }
     ensures number { number_of result ≡ number }
@@ -95,7 +95,7 @@ impl<'a> Bindings<'a> {
         self.list.len()
     }
 
-    /// The newest binding of a name, where it is in scope.
+    /// Returns the newest binding of a name, or `None` if the name is not in scope.
     pub fn find(&self, name: &[u8]) -> Option<Newest<'a>>
         ensures number { number_of result ≡ number_in self.now name.now }
         ensures entity { entity_found result ≡ found self.now name.now }
@@ -105,7 +105,8 @@ impl<'a> Bindings<'a> {
         newest_at(self.list.as_slice(), place)
     }
 
-    /// Adds a name, which gets the next number, and answers the binding of its name that it hides, where it hides one.
+    /// Adds a name, which gets the next number, and returns the binding of the same name that it hides, if there is one. An `Err`
+    /// leaves the bindings unchanged.
     pub fn push(
         &mut self,
         name: &'a [u8],
@@ -134,7 +135,7 @@ impl<'a> Bindings<'a> {
         }
     }
 
-    /// Takes the newest name back.
+    /// Removes the newest name.
     pub fn pop(&mut self)
         ensures { self.new ≡ drop 1 self.old }
     {
@@ -150,7 +151,7 @@ impl<'a> Bindings<'a> {
             return;
         };
         match hidden {
-            // The number is in the table, so this needs no memory.
+            // The number is in the table already, so this takes no memory.
             Some(place) => {
                 let _ = self.newest.insert(number, place);
             }

@@ -37,7 +37,7 @@ fn unary_word(operator: UnaryOperator, word: u32) -> u32
     }
 }
 
-/// What a binary operator gives in the type in which it works, and nothing where it goes wrong.
+/// The word that a binary operator gives for the working type, or `None` if C leaves it undefined.
 pub fn binary_word(operator: BinaryOperator, working: Scalar, a: u32, b: u32) -> Option<u32>
     ensures { result ≡ binary_word operator working a b }
 {
@@ -72,7 +72,7 @@ pub fn binary_word(operator: BinaryOperator, working: Scalar, a: u32, b: u32) ->
     }
 }
 
-/// The word of an expression without names and calls, where it does not go wrong.
+/// The word of an expression without names and calls, or `None` if its evaluation goes wrong.
 pub fn constant_value(tree: &Expression) -> Option<u32>
     ensures { result ≡ constant_value (expression_tree tree.now) }
 {
@@ -123,7 +123,7 @@ pub fn is_constant(tree: &Expression) -> bool
     }
 }
 
-/// The word of a constant expression, where it is one.
+/// The word of a constant expression, or `None` if the expression is not constant or goes wrong.
 pub fn constant_word(constant: &ConstantExpression) -> Option<u32>
     ensures { result ≡ constant_word (constant_tree constant.now) }
 {
@@ -134,7 +134,7 @@ pub fn constant_word(constant: &ConstantExpression) -> Option<u32>
     }
 }
 
-/// How many elements an array has, where that is known.
+/// How many elements an array has, or `None` if its length is not a constant.
 pub fn array_length(
     length: &Option<ConstantExpression>,
     values: &[ConstantExpression],

@@ -1,22 +1,22 @@
-// What names stand for.
+// What names denote.
 
-ghost use Rattle.std.specs.Prelude.{◌≡◌, length, map, option_map, Some};
+ghost use Rattle.std.specs.Prelude.{◌≡◌, Some};
 ghost use Rattle.cc_ast.specs.Erase.{parameter_trees, signature_tree};
-ghost use Rattle.cc_types.specs.Entities.{entity_of, optional_entity};
+ghost use Rattle.cc_types.specs.Entities.{optional_entity};
 ghost use Rattle.cc_types.specs.internal.Scopes.{scalars};
 ghost use Rattle.cc_types.specs.Scope.{function_entity, same_scalar, same_scalars, same_result};
 ghost use Rattle.cc_types.specs.Rules.{differs};
 
 use cc_ast::{Parameter, Scalar, Signature};
 
-/// What a name stands for.
+/// What a name denotes.
 #[derive(Clone, Copy)]
 pub enum Entity<'a> {
-    /// An object of one value: a variable, a parameter or a local.
+    /// An object with one value: a variable, a parameter or a local.
     Variable(Scalar),
-    /// An array of elements of one type.
+    /// An array, with the type of its elements.
     Elements(Scalar),
-    /// A function, as its first declaration says.
+    /// A function, with its first declaration.
     Function(&'a Signature),
     /// The builtin `void write_word(int)`.
     WriteWord,
@@ -33,7 +33,7 @@ fn same_scalar(one: Scalar, other: Scalar) -> bool
     }
 }
 
-/// Whether two results are of one type.
+/// Whether two functions' results have the same type.
 pub fn same_result(one: Option<Scalar>, other: Option<Scalar>) -> bool
     ensures { result ≡ same_result one other }
 {
@@ -60,7 +60,7 @@ fn same_types(one: &[Parameter], other: &[Parameter]) -> bool
     true
 }
 
-/// Whether a declaration of a function says something else of its name than what stands already.
+/// Whether a declaration of a function contradicts what its name already denotes.
 pub fn differs(standing: Option<Entity<'_>>, signature: &Signature) -> bool
     ensures { result ≡ differs (optional_entity standing.entry) (function_entity (signature_tree signature.now)) }
 {

@@ -1,10 +1,14 @@
-//! What a typed unit is, and what a walk over one needs again: the names in scope, the types in which operators work, the words of
-//! constants and objects, and how many locals a body declares. Whether a unit is one is told by the check, `cc_typing`, which stands
-//! above: whoever only takes a typed unit does not wait for its proof.
+//! What a typed unit is, and what is computed over one more than once: the names in scope, the types in which operators work, the
+//! words of constants and objects, and how many locals a body declares. The check that decides whether a unit is typed is in
+//! `cc_typing`, which is above this crate. So a crate that only takes typed units does not wait for the check's proof.
 //!
-//! `typed` has the type, which keeps that no rule is broken and no limit passed; `rule` has the names of the rules, and `fault` why a unit
-//! is refused. `scope` keeps the names in scope, on `bindings`, `numbering` and `entity`; `constants` has the values of constant
-//! expressions, `operators` the types in which operators work, `limits` the limits, with what is counted towards them.
+//! - `typed`: the type, which guarantees that no rule is broken and no limit passed.
+//! - `rule`: the names of the rules.
+//! - `fault`: why a unit is refused.
+//! - `scope`, on `bindings`, `numbering` and `entity`: the names in scope.
+//! - `constants`: the values of constant expressions.
+//! - `operators`: the types in which operators work.
+//! - `limits`: the limits, and what is counted towards them.
 #![tactic(auto)]
 
 mod bindings;

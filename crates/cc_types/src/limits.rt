@@ -1,4 +1,4 @@
-// The limits, and how names and the words of objects are counted, which the check and the passes both do.
+// The limits, and how names and the words of objects are counted. The check and the passes both use these.
 
 ghost use Rattle.std.specs.Prelude.{◌≡◌, [], ◌∷◌, None, length, IfOk};
 ghost use Rattle.cc_ast.specs.Erase.{name_tree, optional_constant, constant_trees, declarator_trees, beginning_tree, statement_tree, statements_of, object_tree};
@@ -14,7 +14,7 @@ use std::alloc::AllocError;
 /// The most parameters of a function.
 pub const MOST_PARAMETERS: usize = 8;
 
-/// The most locals of a function, its parameters not counted.
+/// The most locals of a function, not counting its parameters.
 pub const MOST_LOCALS: usize = 256;
 
 /// The most functions that a unit may define.
@@ -23,7 +23,7 @@ pub const MOST_FUNCTIONS: usize = 64;
 /// The most words that all objects at file scope may have.
 pub const MOST_WORDS: usize = 65536;
 
-/// How many names may stand, how many do, up to that, and where the first one past it is.
+/// How many names are allowed (`most`), how many have been counted, up to that number, and the offset of the first name past it.
 #[derive(Clone, Copy)]
 pub struct Count {
     pub most: usize,
@@ -32,7 +32,7 @@ pub struct Count {
 }
 
 impl Count {
-    /// No name yet.
+    /// Returns a count of no names.
     pub fn new(most: usize) -> Count
         ensures { result ≡ record { most = most; names = 0; past = None } }
     {
@@ -43,7 +43,7 @@ impl Count {
         }
     }
 
-    /// One name more.
+    /// Counts one more name.
     pub fn add(&mut self, name: &Identifier)
         ensures { self.new ≡ count_after self.old (name_tree name.now ∷ []) }
     {
@@ -99,7 +99,7 @@ fn count_locals_of(count: &mut Count, statement: &Statement)
     }
 }
 
-/// Counts the locals that statements declare.
+/// Counts the locals that statements declare, those in inner blocks included.
 #[cycle(locals)]
 pub fn count_locals(count: &mut Count, all: &[Statement])
     ensures { count.new ≡ count_after count.old (locals (statements_of all.now)) }
@@ -109,8 +109,8 @@ pub fn count_locals(count: &mut Count, all: &[Statement])
     }
 }
 
-/// How many locals a function's body declares, in all its blocks together. `AllocError` where that is more than a number can
-/// say, which would not fit memory.
+/// How many locals a function's body declares, in all its blocks together. `AllocError` if the number does not fit a `usize`;
+/// such a body would not fit in memory.
 pub fn local_count(body: &[Statement]) -> Result<usize, AllocError>
     ensures { IfOk result (λ n. n ≡ length (locals (statements_of body.now))) }
 {
@@ -124,7 +124,7 @@ pub fn local_count(body: &[Statement]) -> Result<usize, AllocError>
 
 // ---- words
 
-/// How many elements an object has, where a single object is one; none where its length is not known.
+/// How many elements an object has: 1 for a single object, 0 for an array whose length is not known.
 pub fn object_elements(object: &Object) -> usize
     ensures { result ≡ object_elements (object_tree object.now) }
 {
@@ -136,7 +136,7 @@ pub fn object_elements(object: &Object) -> usize
     }
 }
 
-/// How many words an object takes; none where its length is not known.
+/// How many words an object takes: 0 if its length is not known.
 pub fn object_words(object: &Object) -> usize
     ensures { result ≡ object_words (object_tree object.now) }
 {
@@ -149,7 +149,7 @@ pub fn object_words(object: &Object) -> usize
     }
 }
 
-// How many elements an array has; none where that is not known.
+// How many elements an array has: 0 if that is not known.
 fn array_elements(length: &Option<ConstantExpression>, values: &[ConstantExpression]) -> usize
     ensures { result ≡ array_elements (optional_constant length.now) (constant_trees values.now) }
 {

@@ -1,7 +1,7 @@
-// The numbers of names: a name gets one where it first appears, and keeps it.
+// The numbers of names: a name gets a number when it first appears, and keeps it.
 //
-// A name is found in the order of the names' bytes, so no choice of names makes a search long. What names stand for is kept in
-// tables from their numbers, of which whoever writes a text can choose none.
+// The search is by the order of the names' bytes, so no choice of names makes it long. What names denote is kept in tables
+// indexed by their numbers, which the writer of a text cannot choose.
 
 ghost use Rattle.std.specs.Prelude.{◌≡◌, [], IfOk, OnErr};
 ghost use Rattle.cc_types.specs.Numberings.{number_of_name, IsNumbered};
@@ -28,7 +28,7 @@ impl<'a> Model for Numbering<'a> {
 }
 
 impl<'a> Numbering<'a> {
-    /// No name has a number yet.
+    /// Returns a numbering without names.
     pub fn new(alloc: Global) -> Numbering<'a>
         ensures { result ≡ [] }
     {
@@ -37,14 +37,14 @@ impl<'a> Numbering<'a> {
         }
     }
 
-    /// The number of a name, where it has one.
+    /// The number of a name, if it has one.
     pub fn find(&self, name: &[u8]) -> Option<usize>
         ensures { result ≡ number_of_name self.now name.now }
     {
         self.numbers.get(name).copied()
     }
 
-    /// The number of a name, which gets the next one where it has none.
+    /// The number of a name; a new name gets the next number. An `Err` leaves the numbers unchanged.
     pub fn add(&mut self, name: &'a [u8]) -> Result<usize, AllocError>
         ensures ok { IfOk result (λ n. IsNumbered self.old self.new name.now n) }
         ensures err { OnErr result (self.new ≡ self.old) }

@@ -5,7 +5,7 @@ ghost use Rattle.cc_types.specs.Operators.{common_type, working_type, binary_typ
 
 use cc_ast::{AssignmentOperator, BinaryOperator, Scalar, StepOperator, UnaryOperator};
 
-/// The type in which two operands meet (C99 6.3.1.8).
+/// The common type of two operands (C99 6.3.1.8).
 pub fn common_type(left: Scalar, right: Scalar) -> Scalar
     ensures { result ≡ common_type left right }
 {
@@ -15,7 +15,7 @@ pub fn common_type(left: Scalar, right: Scalar) -> Scalar
     }
 }
 
-/// The type in which an operator works: that of the left operand for a shift, else the common one.
+/// The type in which an operator works: the left operand's for a shift, otherwise the common type.
 pub fn working_type(operator: BinaryOperator, left: Scalar, right: Scalar) -> Scalar
     ensures { result ≡ working_type operator left right }
 {
@@ -25,7 +25,7 @@ pub fn working_type(operator: BinaryOperator, left: Scalar, right: Scalar) -> Sc
     }
 }
 
-/// The type of what a binary operator gives.
+/// The type of a binary operator's value.
 pub fn binary_type(operator: BinaryOperator, left: Scalar, right: Scalar) -> Scalar
     ensures { result ≡ binary_type operator left right }
 {
@@ -42,7 +42,7 @@ pub fn binary_type(operator: BinaryOperator, left: Scalar, right: Scalar) -> Sca
     }
 }
 
-/// The type of what a unary operator gives.
+/// The type of a unary operator's value.
 pub fn unary_type(operator: UnaryOperator, operand: Scalar) -> Scalar
     ensures { result ≡ unary_type operator operand }
 {
@@ -52,7 +52,7 @@ pub fn unary_type(operator: UnaryOperator, operand: Scalar) -> Scalar
     }
 }
 
-/// The operator that an assignment applies to the old value, none for `=`.
+/// The operator that an assignment applies to the old value; `None` for `=`.
 pub fn applied_operator(operator: AssignmentOperator) -> Option<BinaryOperator>
     ensures { result ≡ applied_operator operator }
 {
@@ -71,7 +71,7 @@ pub fn applied_operator(operator: AssignmentOperator) -> Option<BinaryOperator>
     }
 }
 
-/// The assignment that an increment or a decrement is, of the word 1.
+/// The assignment operator that an increment or decrement applies, with the operand 1.
 pub fn step_operator(operator: StepOperator) -> AssignmentOperator
     ensures { result ≡ step_operator operator }
 {

@@ -1,4 +1,4 @@
-// The rules and limits that a unit may break, and where one is broken.
+// The rules and limits that a unit may break, and the place where one is broken.
 
 /// A rule of scope or type, or a limit.
 #[derive(Clone, Copy)]
@@ -15,7 +15,7 @@ pub enum Rule {
     TooMany,
 }
 
-/// A rule that is broken at the token with an offset in the text.
+/// A rule that is broken, and the offset in the text of the token that breaks it.
 #[derive(Clone, Copy)]
 pub struct RuleError {
     pub rule: Rule,

@@ -1,6 +1,6 @@
-// What is in scope, scope by scope.
+// The names in scope, scope by scope.
 
-ghost use Rattle.std.specs.Prelude.{◌≡◌, ◌≤◌, [], length, drop, IfOk, OnOk, option_map};
+ghost use Rattle.std.specs.Prelude.{◌≡◌, ◌≤◌, [], length, drop, IfOk, OnOk};
 ghost use Rattle.cc_types.specs.Scope.{opened, declared, in_scope, is_declared, found, with_declared, first_file_scope};
 ghost use Rattle.cc_types.specs.Entities.{entity_of, optional_entity};
 ghost use Rattle.cc_types.specs.Bindings.{closed, file_level, number_of};
@@ -11,11 +11,11 @@ use super::entity::Entity;
 use std::alloc::{AllocError, Global};
 use std::marker::Model;
 
-/// The names of file scope, and those of the open blocks.
+/// The names of file scope, and those of the blocks that are open.
 #[derive(Drop)]
 pub struct Scope<'a> {
     bindings: Bindings<'a>,
-    // How many of the bindings, the newest ones, belong to the innermost scope; file scope counts as none.
+    // How many of the newest bindings belong to the innermost scope. This is 0 if only file scope is open.
     inner: usize,
 }
 
@@ -44,7 +44,7 @@ fn push_builtins(bindings: &mut Bindings<'_>) -> Result<(), AllocError>
     Ok(())
 }
 
-// Whether there is a binding, and its number is one from `first` on.
+// Whether there is a binding, and its number is at least `first`.
 fn is_from(binding: Option<Newest<'_>>, first: usize) -> bool
     ensures { result ≡ from first (number_of binding.entry) }
 {
@@ -55,7 +55,7 @@ fn is_from(binding: Option<Newest<'_>>, first: usize) -> bool
 }
 
 impl<'a> Scope<'a> {
-    /// File scope at the start of a text: the builtins.
+    /// Returns file scope at the start of a text: it has the builtins. `AllocError` if memory runs out.
     pub fn new(alloc: Global) -> Result<Scope<'a>, AllocError>
         ensures { IfOk result (λ s. s ≡ file_level first_file_scope.bindings) }
     {
@@ -69,7 +69,8 @@ impl<'a> Scope<'a> {
         }
     }
 
-    /// Begins an inner scope, and answers how many names the one around it had declared, for the `close` that ends it.
+    /// Opens an inner scope, and returns how many names the scope around it has declared. The `close` that ends the inner scope
+    /// takes that number.
     pub fn open(&mut self) -> usize
         ensures scope { self.new ≡ opened self.old }
         ensures around { result ≡ length self.old.inner }
@@ -79,7 +80,7 @@ impl<'a> Scope<'a> {
         around
     }
 
-    /// Ends a scope, whose names go, inside one that had declared this many.
+    /// Closes the innermost scope and removes its names. The scope around it has declared `around` names.
     pub fn close(&mut self, around: usize)
         requires { around ≤ length self.old.outer }
         ensures { self.new ≡ closed around self.old }
@@ -91,7 +92,8 @@ impl<'a> Scope<'a> {
         self.inner = around;
     }
 
-    /// Declares a name in the innermost scope, and answers whether that had declared it already.
+    /// Declares a name in the innermost scope, and returns whether this scope had declared it already. `AllocError` if memory
+    /// runs out; nothing is known of the scope then.
     pub fn declare(&mut self, name: &'a [u8], entity: Entity<'a>) -> Result<bool, AllocError>
         ensures scope { OnOk result (self.new ≡ declared name.now (entity_of entity.entry) self.old) }
         ensures again { IfOk result (λ b. b ≡ is_declared self.old.inner name.now) }
@@ -102,7 +104,7 @@ impl<'a> Scope<'a> {
         Ok(is_from(hidden, first))
     }
 
-    /// Takes the newest name of the innermost scope back, where it has one.
+    /// Removes the newest name of the innermost scope, if there is one.
     pub fn undeclare(&mut self)
         ensures { self.new ≡ record self.old { inner = drop 1 self.old.inner } }
     {
@@ -112,7 +114,8 @@ impl<'a> Scope<'a> {
         }
     }
 
-    /// Declares a name in file scope, where it is new; else what stands there stays. Answers whether it had declared it already.
+    /// Declares a name in file scope if it is new; an earlier declaration stays as it is. Returns whether the name was declared
+    /// already. `AllocError` if memory runs out; nothing is known of the scope then.
     pub fn declare_in_file(
         &mut self,
         name: &'a [u8],
@@ -129,7 +132,7 @@ impl<'a> Scope<'a> {
         Ok(false)
     }
 
-    /// What a name stands for.
+    /// What a name denotes, or `None` if it is not in scope.
     pub fn find(&self, name: &[u8]) -> Option<Entity<'a>>
         ensures { optional_entity result ≡ found (in_scope self.now) name.now }
     {

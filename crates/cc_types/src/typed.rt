@@ -18,7 +18,7 @@ pub struct TypedUnit {
     unit: Unit,
 }
 
-// By hand, so that crates above call it and do not prove anew how each part is dropped.
+// Written by hand, so that the crates above use this proof and need not show again how each part is dropped.
 impl Drop for TypedUnit {
     fn drop(self) {
         let TypedUnit { unit } = self;
@@ -40,7 +40,7 @@ impl Model for TypedUnit {
     ghost invariant = { λ t. IsChecked (source t.unit) };
 }
 
-/// A function that a unit defines.
+/// A function that a unit defines: its head and its body.
 #[derive(Clone, Copy)]
 pub struct Definition<'a> {
     pub signature: &'a Signature,
@@ -70,7 +70,7 @@ fn definition_in(external: &External) -> Option<Definition<'_>>
 }
 
 impl TypedUnit {
-    /// The typed unit of a parsed one that breaks no rule and passes no limit: what the type keeps is asked for here. It takes no memory.
+    /// Makes a typed unit of a parsed one. The caller shows that it breaks no rule and passes no limit. Takes no memory.
     pub fn new(unit: Unit) -> TypedUnit
         requires { IsChecked (source unit) }
         ensures { result ≡ unit }
@@ -78,7 +78,7 @@ impl TypedUnit {
         TypedUnit { unit }
     }
 
-    /// The text, byte for byte: 65,536 at most.
+    /// The text, byte for byte: at most 65,536 bytes.
     pub fn text(&self) -> &[u8]
         ensures answer { result.now ≡ (source self.now).text }
         ensures few { length result.now ≤ most_bytes }
@@ -97,7 +97,7 @@ impl TypedUnit {
         count
     }
 
-    /// The name of the function with a number. Functions are numbered from 0 in the order of their definitions.
+    /// The name of the function with this number. Functions are numbered from 0 in the order of their definitions.
     pub fn function_name(&self, function: usize) -> &[u8]
         requires { function < length (defined_names (source self.now)) }
         ensures { slice_get (defined_names (source self.now)) function ≡ Some result.now }
@@ -105,7 +105,7 @@ impl TypedUnit {
         self.definition(function).signature.name.bytes.as_slice()
     }
 
-    /// The function with a number. Functions are numbered from 0 in the order of their definitions.
+    /// The function with this number. Functions are numbered from 0 in the order of their definitions.
     pub fn definition(&self, function: usize) -> Definition<'_>
         requires { function < length (defined_names (source self.now)) }
         ensures { slice_get (definitions (source self.now).externals) function ≡ Some (definition_tree result) }
@@ -123,7 +123,7 @@ impl TypedUnit {
         unreachable!()
     }
 
-    /// The external declarations, which the text spells.
+    /// The external declarations that the text spells.
     pub fn externals(&self) -> &[External]
         ensures tree { external_trees result.now ≡ (source self.now).externals }
         ensures spelled { ∥ SpellsText (source self.now).text (source self.now).externals ∥₁ }

@@ -1,4 +1,4 @@
--- A unit has exactly one answer, since of some errors one is the first; so has a text, since it has one tree or one fault.
+-- A unit has exactly one answer, because the first of some errors is unique. So has a text, because it has one tree or one fault.
 use Rattle.std.proofs.Common.{◌≡◌, ◌<◌, ◌≤◌, ◌⊎◌, inl, inr, ℕ, zero, suc, Bool, true, false, ◌==◌, if◌then◌else◌, List, [], ◌∷◌, ◌++◌, length, get_or, Option, Some, None, Result, Ok, Err, refl, sym, ap, subst, ◌∙◌, arith}
 use Rattle.std.specs.List.{AllByRecursion}
 use Rattle.std.proofs.lemmas.Bool.{false≢true}
@@ -43,7 +43,7 @@ rule_back TooMany = refl
 same_rule : (r q : Rule) → rule_number r ≡ rule_number q → r ≡ q
 same_rule r q e = sym (rule_back r) ∙ ap (λ n. rule_with n) e ∙ rule_back q
 
--- of two errors neither of which comes after the other the tokens are one, and the numbers
+-- two errors have the same token and the same number if neither is after the other
 neither_at : (a b m n : ℕ) → (a < b) ⊎ ((a ≡ b) × (m ≤ n)) → (b < a) ⊎ ((b ≡ a) × (n ≤ m)) → (a ≡ b) × (m ≡ n)
 neither_at a b m n (inl h) (inl k) = absurd (omega arith)
 neither_at a b m n (inl h) (inr k) = let same = k.0 in absurd (omega arith)
@@ -58,7 +58,7 @@ holds_at P (x ∷ xs) o d (suc k) h i e = holds_at P xs o d k h.1 (omega arith) 
 not_after : (all : List RuleError) (o p : RuleError) → IsFirst o all → IsFirst p all → NotAfter o p
 not_after all o p first other = holds_at (NotAfter o) all p p other.0.0 first.1 other.0.1 other.0.2
 
--- the fault of the first error is one
+-- the fault of the first error is unique
 first_fault_one : (text : List ℕ) (all : List RuleError) (f g : TypeFault) → IsFaultOfFirst text all f → IsFaultOfFirst text all g → f ≡ g
 first_fault_one text all f g h k =
     let o = h.0 in
@@ -134,9 +134,9 @@ ok_or_err tree f e = cc
 none_or_some : (f : TypeFault) → let o : Option TypeFault = None in o ≡ Some f → ⊥
 none_or_some f e = cc
 
--- by what `parse` may answer for a text being one
+-- if `parse` has at most one answer for a text
 module _ (answers_are_one : ParseAnswersAreOne) where
-  -- two trees of a text are one, and so is what their unit answers
+  -- two trees of a text are the same, and so are the answers for their unit
   same_unit : (text : List ℕ) (t u : List External) (a b : Option TypeFault) → IsParseAnswer text (Ok t) → IsTypeAnswer (source_with text t) a → IsParseAnswer text (Ok u) → IsTypeAnswer (source_with text u) b → (t ≡ u) × (a ≡ b)
   same_unit text t u a b h k i j =
       let e = answers_are_one text (Ok t) (Ok u) h i in
@@ -168,7 +168,7 @@ unfolding Verdicts
 by_tree text (Err f, h) = (NoTree f, h)
 by_tree text (Ok tree, h) = by_types text tree h (units_have_type_answers (source_with text tree))
 
--- by a text having an answer
+-- if every text has an answer
 pub texts_have_verdicts : TextsHaveAnswers → TextsHaveVerdicts
 unfolding Verdicts
 texts_have_verdicts texts_have_answers text = by_tree text (texts_have_answers text)

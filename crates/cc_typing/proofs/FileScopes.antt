@@ -18,7 +18,7 @@ use Rattle.cc_types.proofs.FileScopes.{parameters_declared-outer, with_object-sa
 use Rattle.cc_typing.proofs.Parts as parts
 use Rattle.cc_typing.proofs.Parts.{two, three}
 
--- names alone are in scope in file scope
+-- in file scope, only file scope's names are in scope
 pub in_scope-file : (v : Visible) → v.inner ≡ [] → in_scope v ≡ v.outer
 in_scope-file v e = ap (λ (bs : List Binding). bs ++ v.outer) e
 
@@ -28,13 +28,13 @@ length-is (Some n) given at = refl
 
 -- ---- objects
 
--- after some names of a declaration of objects: what is done and what is left make the whole
+-- after some names in a declaration of objects: what is done and what is left make the whole
 pub record Objecting (t : Scalar) (v0 : Visible) (f0 : Found) (all : List Object) (v : Visible) (f : Found) (rest : List Object) : Type 0 where
   pub inner : v.inner ≡ []
   pub scope : (with_objects t rest (file_of v)).bindings ≡ (with_objects t all (file_of v0)).bindings
   pub found : after f (objects_errors t rest (file_of v)) (called_in_objects rest) ≡ after f0 (objects_errors t all (file_of v0)) (called_in_objects all)
 
--- after an object nothing is said of definitions
+-- an object does not change which functions are defined
 with_object-file : (t : Scalar) (o : Object) (g : FileScope) → with_object t o g ≡ record { bindings = (with_object t o g).bindings; defined = g.defined }
 with_object-file t (Single x initial) g = refl
 with_object-file t (Array x n values) g = refl
@@ -92,13 +92,13 @@ objects_errors-same t (o ∷ os) g h e =
     ap (λ l. l ++ objects_errors t os (with_object t o g)) (object_errors-same t o g h e)
     ∙ ap (λ l. object_errors t o h ++ l) (objects_errors-same t os (with_object t o g) (with_object t o h) (with_object-same t o g h e))
 
--- a definition alone adds to the functions that are defined
+-- only a definition adds to the defined functions
 pub defined-behind : (e : External) (g : FileScope) → (file_scope_behind e g).defined ≡ defined_in e ++ g.defined
 defined-behind (Declaration s) g = refl
 defined-behind (Definition s body) g = refl
 defined-behind (Objects t os) g = with_objects-defined t os g
 
--- what is found, set aside which definitions stand before
+-- what is found, apart from which functions have been defined already
 abbrev pub apart : Found → Found
 apart f = record f { functions = record { defined = f.functions.defined; before = [] } }
 
@@ -143,7 +143,7 @@ module _ (v : Visible) (names : List (List ℕ)) (e : External) where
       eu ∙ ap file_level (ez ∙ ap (λ (x : Visible). x.outer) ew ∙ parameters_declared-outer s.parameters (file_level (with_function s (file_of v)).bindings))
       ∙ sym (ap (λ x. file_level (file_scope_behind x (file_with v names)).bindings) is)
 
-  -- what an external declaration is found to come to
+  -- what is found in an external declaration
   abbrev IsFound : Found → Found → Type 0
   IsFound f g = g ≡ after (with_before f (defined_in e)) (external_errors e (file_with v names)) (called_in_external e)
 

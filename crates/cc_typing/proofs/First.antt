@@ -1,4 +1,4 @@
--- The error that is kept is the first of all.
+-- The error that is kept is the first of all errors.
 use Rattle.std.proofs.Common.{◌≡◌, ℕ, ◌<◌, ◌≤◌, ◌⊎◌, inl, inr, Bool, true, false, ◌&&◌, ◌||◌, ◌==◌, if◌then◌else◌, nat_lt, List, [], ◌∷◌, Some, None, Contains, refl, sym, subst, ◌∙◌, arith}
 use Rattle.std.specs.List.{AllByRecursion}
 use Rattle.std.proofs.lemmas.Bool.Decides.{nat_tests}
@@ -27,7 +27,7 @@ not_after-trans o p q = order-trans o.at p.at q.at (rule_number o.rule) (rule_nu
 not_after-itself : (o : RuleError) → NotAfter o o
 not_after-itself o = inr (refl, omega arith)
 
--- the earlier of two comes after neither
+-- the earlier of two errors is after neither
 earlier-first : (p x : RuleError) → NotAfter (earlier (Some p) x) p × NotAfter (earlier (Some p) x) x
 earlier-first p x = by (is_before x p) refl
   where
@@ -45,7 +45,7 @@ earlier-either p x = by (is_before x p)
 contains-first : (x : RuleError) (xs : List RuleError) (o : RuleError) → o ≡ x → Contains (x ∷ xs) o
 contains-first x xs o e = (0, omega arith, sym e)
 
--- what is kept of an error and more is the first of them
+-- what is kept of an error and some more is the first of them
 noted-first : (p : RuleError) (xs : List RuleError) (o : RuleError) → noted (Some p) xs ≡ Some o → ((o ≡ p) ⊎ Contains xs o) × NotAfter o p × AllByRecursion (NotAfter o) xs
 noted-first p [] o e = let same : o ≡ p = cc in (inl same, subst (λ q. NotAfter q p) (sym same) (not_after-itself p), tt)
 noted-first p (x ∷ xs) o e =

@@ -1,11 +1,19 @@
--- How a check is shown to find the first error. One equation a function: what is found after it is what was found before, then the rules
--- that its part of the tree breaks, of which the first by place and number is kept (Parts, Walks, First). The functions that a unit
--- defines are collected before the walk, so that each call is judged where it is.
+-- How the check is shown to find the first error. For each function there is one equation: what has been found after it is what
+-- was found before, with the rules that its part of the tree breaks. The first of these, by place and number, is kept (Parts,
+-- Walks, First). The functions that a unit defines are collected before the walk, so that each call can be judged when it is met.
+-- the table of functions after a change
 pub mod States
+-- what is found in one part and then in the next
 pub mod Parts
+-- the walk over statements
 pub mod Walks
+-- the walk over file scope
 pub mod FileScopes
+-- the offset at which a limit is passed
 pub mod Excesses
+-- the kept error is the first of all
 pub mod First
+-- what is found in a whole unit decides whether it is typed
 pub mod Verdict
+-- a unit has exactly one answer
 pub mod Determined

@@ -1,4 +1,4 @@
--- The table of functions, after one more is known of.
+-- The table of functions after a change.
 use Rattle.std.proofs.Common.{◌≡◌, ℕ, Bool, true, false, ◌||◌, cond, List, [], ◌∷◌, ◌++◌, Bor, Option, Some, refl, sym, ap, ◌∙◌, nat_eq}
 use Rattle.std.specs.Cmp.Lexicographic.{bytes_decides}
 use Rattle.std.proofs.lemmas.List.{reverse-append}
@@ -10,7 +10,7 @@ use Rattle.cc_typing.specs.declared.functions.State.{State}
 use Rattle.cc_typing.specs.internal.Functions.{AreStates, newest_first, is_defined, stands_before}
 use Rattle.cc_types.proofs.NameNumbers.{at-numbered, rest-numbered, at-changed, rest-changed}
 
--- with one name more that has a number, the table is as it was
+-- the table stays right when one more name gets a number
 pub AreStates-numbered : (old new : List (List ℕ × ℕ)) (x : List ℕ) (n : ℕ) (table : ℕ → Option State) (defined before : List (List ℕ)) → AreStates old table defined before → IsNumbered old new x n
     → AreStates new table defined before
 AreStates-numbered old new x n table defined before are is = record {
@@ -34,7 +34,7 @@ module _ (names : List (List ℕ × ℕ)) (x : List ℕ) (n : ℕ) (own : number
       by true = e
       by false = h y
 
-  -- and a mark that the name keeps
+  -- a mark that the name keeps
   kept : (mark : Option State → Bool) (marks : List (List ℕ)) → ((y : List ℕ) → mark (at_number old (number_of_name names y)) ≡ has_name marks y) → mark (Some s) ≡ mark (old n)
       → (y : List ℕ) → mark (at_number new (number_of_name names y)) ≡ has_name marks y
   kept mark marks h e y = ap mark (changed y) ∙ by (same_name x y) refl
@@ -62,6 +62,6 @@ module _ (names : List (List ℕ × ℕ)) (x : List ℕ) (n : ℕ) (own : number
     rest = rest-changed names x n own are.numbers old new (Some s) updates are.rest;
   }
 
--- a name that is put behind the others is the newest
+-- a name added at the end is the newest
 pub newest_first-push : (ks : List (Bor (List ℕ))) (k : Bor (List ℕ)) → newest_first (ks ++ k ∷ []) ≡ k.now ∷ newest_first ks
 newest_first-push ks k = ap names_in (reverse-append ks (k ∷ []))

@@ -15,7 +15,7 @@ use Rattle.cc_typing.proofs.Parts.{two, three}
 
 -- ---- scopes
 
--- what stands in the innermost scope leaves what is around it
+-- what is declared in the innermost scope does not change the scopes around it
 pub all_declared_outer : (t : Scalar) (ds : List Declarator) (v : Visible) → (all_declared t ds v).outer ≡ v.outer
 all_declared_outer t [] v = refl
 all_declared_outer t (d ∷ ds) v = all_declared_outer t ds (declared d.name.text (Variable t) v)
@@ -37,7 +37,7 @@ pub scope_behind_beginning_outer : (s : Beginning) (v : Visible) → (scope_behi
 scope_behind_beginning_outer (Declares t ds) v = all_declared_outer t ds v
 scope_behind_beginning_outer (Performs a) v = refl
 
--- after an inner scope the one around it is as it was
+-- after an inner scope the one around it is as before
 closed_opened : (s v : Visible) → v.outer ≡ in_scope s → closed (length s.inner) v ≡ s
 closed_opened s v e i = record {
   inner = (ap (take (length s.inner)) e ∙ take-append_seam s.inner s.outer) i;
@@ -52,7 +52,7 @@ closed-is s v w around e n ew = ew ∙ ap (λ k. closed k v) n ∙ closed_opened
 
 -- ---- declarations
 
--- after some names of a declaration: what is done and what is left make the whole
+-- after some names in a declaration: what is done and what is left make the whole
 pub record Declaring (t : Scalar) (v0 : Visible) (f0 : Found) (all : List Declarator) (v : Visible) (f : Found) (rest : List Declarator) : Type 0 where
   pub scope : all_declared t rest v ≡ all_declared t all v0
   pub found : after f (declared_errors t rest v) (called_in_declared rest) ≡ after f0 (declared_errors t all v0) (called_in_declared all)
@@ -124,7 +124,7 @@ module _ (a : Around) (v : Visible) (t : Stmt) (f : Found) where
       two f g h (looped body) (tested c) _ (called_in_statement body) (called_in c) _ (eg ∙ ap (λ u. after f (statement_errors body u (opened v)) (called_in_statement body)) ew) eh
       (ap (λ u. statement_errors u a v) is ∙ ap (λ u. looped u ++ tested c) (sym eb)) (ap called_in_statement is ∙ ap (λ u. called_in_statement u ++ called_in c) (sym eb))
 
-  -- a `for`, where u is the scope that its header opens, and n the scope after the header's first part
+  -- a `for`; u is the scope that its header opens, and n the scope after the header's first part
   pub for-found : (w : Around) → w ≡ within_loop a → (u n : Visible) → u ≡ opened v → (g h k m : Found) (start : Beginning) (c : Option Expr) (behind : Option Action) (b body : Stmt)
       → t ≡ For start c behind b → body ≡ b → n ≡ scope_behind_beginning start u
       → g ≡ after f (beginning_errors start u) (called_in_beginning start) → h ≡ after g (optional_errors (in_scope n) c) (called_in_optional c)

@@ -1,2 +1,4 @@
+-- worked examples
 pub mod rows
+-- definitions that only private contracts and proofs use
 pub mod internal

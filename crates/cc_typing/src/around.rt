@@ -1,8 +1,8 @@
-// Where a statement stands.
+// What surrounds a statement.
 
 use cc_ast::Scalar;
 
-/// What a statement's function gives, none for `void`, and whether a loop is around the statement.
+/// The result type of the statement's function, `None` for `void`, and whether the statement is in a loop.
 #[derive(Clone, Copy)]
 pub struct Surroundings {
     pub result: Option<Scalar>,

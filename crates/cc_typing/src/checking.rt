@@ -8,7 +8,7 @@ ghost use Rattle.cc_typing.specs.internal.Counts.{all_defined};
 ghost use Rattle.cc_types.specs.internal.Externals.{defined_in};
 ghost use Rattle.cc_types.specs.Fault.{fault_of};
 ghost use Rattle.cc_typing.specs.internal.Findings.{noted};
-ghost use Rattle.cc_types.specs.Rules.{errors, is_main, defines_main, undefined_calls};
+ghost use Rattle.cc_types.specs.Rules.{is_main, defines_main, undefined_calls};
 ghost use Rattle.cc_types.specs.Scope.{first_file_scope};
 ghost use Rattle.cc_types.specs.Typed.{IsTyped, IsWithinLimits, IsTypeRefusal, TypeAnswersAreOne, UnitsHaveTypeAnswers, all_errors};
 
@@ -24,9 +24,10 @@ const MAIN: &[u8] = b"main";
 
 /// Checks the rules of scope and type (C99 6.2.1, 6.5 to 6.9) and the limits.
 ///
-/// Of the faults 11 to 18 and 21 the one at the earliest token is answered, of several there the one with the least
-/// number. Where there is none, a unit without `main` has 19, at the end of the text; and where `main` is there, the first
-/// call of a function that is not defined has 20. 40 comes where memory runs out. The unit is given up on an `Err`.
+/// Refuses with one of the faults 11 to 18 and 21, the one at the earliest token, and of several there the one with the least
+/// number. If there is none of these, a unit without `main` is refused with 19 (NoMain), at the end of the text, and otherwise
+/// with 20 (Undefined) at the first call of a function that is not defined. Refuses with 40 (OutOfMemory) if memory runs out. An
+/// `Err` drops the unit.
 pub fn check(alloc: Global, unit: Unit) -> Result<TypedUnit, TypeFault>
     ensures answer { IfOk result (λ t. t ≡ unit) }
     ensures typed { OnOk result (IsTyped (source unit).externals) }
@@ -49,7 +50,7 @@ pub fn check(alloc: Global, unit: Unit) -> Result<TypedUnit, TypeFault>
     Ok(TypedUnit::new(unit))
 }
 
-// The first error, limits among them, and the first call of a function that is not defined.
+// The first error, limits included, and the first call of a function that is not defined.
 #[derive(Clone, Copy)]
 struct FirstErrors {
     first: Option<RuleError>,
@@ -79,7 +80,7 @@ fn first_errors(alloc: Global, externals: &[External]) -> Result<FirstErrors, Al
     Ok(found)
 }
 
-// The builtins are defined before a text begins.
+// Defines the builtins, which are defined before a text begins.
 fn add_builtins(functions: &mut Functions<'_>) -> Result<(), AllocError>
     requires { functions.old ≡ record { defined = []; before = [] } }
     ensures { OnOk result (functions.new ≡ record { defined = first_file_scope.defined; before = first_file_scope.defined }) }
@@ -122,7 +123,7 @@ fn add_functions<'a>(
     define_all(functions, externals)
 }
 
-// The functions that a unit defines, and the builtins, of which alone the definitions stand before.
+// The functions that a unit defines. At first only the builtins count as defined before.
 fn definitions<'a>(alloc: Global, externals: &'a [External]) -> Result<Functions<'a>, AllocError>
     ensures { IfOk result (λ r. r ≡ record { defined = all_defined (external_trees externals.now) first_file_scope.defined; before = first_file_scope.defined }) }
 {
@@ -177,15 +178,15 @@ fn fault(rule: Rule, place: Place) -> TypeFault
     }
 }
 
-// An offset past the end has the place of the end.
+// The place of an offset. An offset past the end has the place of the end.
 fn place_in(text: &[u8], at: usize) -> Place
     ensures { result ≡ place_of text.now at }
 {
     place_at(text, at.min(text.len()))
 }
 
-/// What `check` answers is a function of the unit, lack of memory set aside: each unit is typed within the limits, or has
-/// exactly one fault with one number and place.
+/// Shows that, if memory suffices, the unit alone determines what `check` returns: each unit is typed within the limits, or has
+/// one fault with one number and one place, and not both.
 pub fn check_is_determined()
     ensures one { TypeAnswersAreOne }
     ensures some { UnitsHaveTypeAnswers }

@@ -1,12 +1,11 @@
 // The rules of expressions and actions (C99 6.5, 6.8.3).
 //
-// The walk goes on after an error, since the first in the text need not be the first that is met. The recursion is as
-// deep as the tree: at most 512 tokens of a full expression.
+// The walk continues after an error, because the first error in the text need not be the first that the walk meets. The recursion
+// is as deep as the tree, which has at most 512 tokens in a full expression.
 
-ghost use Rattle.std.specs.Prelude.{◌≡◌, ◌==◌, [], not, length};
+ghost use Rattle.std.specs.Prelude.{◌≡◌, ◌==◌, [], not};
 ghost use Rattle.cc_ast.specs.Erase.{expression_tree, optional_tree, target_tree, action_tree, optional_action};
 ghost use Rattle.cc_ast.specs.internal.Arguments.{expressions_of};
-ghost use Rattle.cc_types.specs.Entities.{optional_entity};
 ghost use Rattle.cc_typing.specs.internal.Findings.{after};
 ghost use Rattle.cc_types.specs.declared.rule.Rule.TheVariants.{WrongCount};
 ghost use Rattle.cc_types.specs.Types.{result_type};
@@ -17,7 +16,7 @@ use super::findings::Findings;
 use cc_ast::{Action, Expression, Identifier, Scalar, Target};
 use cc_types::{Entity, Rule, Scope};
 
-// A name that must be a variable. An array or a function there breaks the rule that is given.
+// Checks a name that must be a variable. An array or a function breaks the given rule.
 fn variable(scope: &Scope, findings: &mut Findings, name: &Identifier, misuse: Rule)
     ensures { findings.new ≡ after findings.old (variable_errors misuse (found (in_scope scope.now) name.now.bytes.items) name.now.at) [] }
 {
@@ -28,7 +27,7 @@ fn variable(scope: &Scope, findings: &mut Findings, name: &Identifier, misuse: R
     }
 }
 
-// A name that must be an array.
+// Checks a name that must be an array.
 fn array(scope: &Scope, findings: &mut Findings, name: &Identifier)
     ensures { findings.new ≡ after findings.old (array_errors (found (in_scope scope.now) name.now.bytes.items) name.now.at) [] }
 {
@@ -39,14 +38,14 @@ fn array(scope: &Scope, findings: &mut Findings, name: &Identifier)
     }
 }
 
-// A call of a function of this many parameters.
+// Checks a call with `count` arguments of a function with this many parameters.
 fn argument_count(findings: &mut Findings, name: &Identifier, count: usize, parameters: usize)
     ensures { findings.new ≡ after findings.old (broken_if (not (count == parameters)) WrongCount name.now.at) [] }
 {
     findings.note_if(count != parameters, Rule::WrongCount, name.at);
 }
 
-// A name that must be a function of this many parameters.
+// Checks a name that must be a function of this many parameters.
 fn function(scope: &Scope, findings: &mut Findings, name: &Identifier, count: usize)
     ensures { findings.new ≡ after findings.old (function_errors (found (in_scope scope.now) name.now.bytes.items) count name.now.at) [] }
 {
@@ -63,7 +62,7 @@ fn function(scope: &Scope, findings: &mut Findings, name: &Identifier, count: us
     }
 }
 
-// The type of a function's result, none for `void`; a name that is no function is judged as one that gives `int`.
+// The type of a function's result, `None` for `void`. A name that is not a function is judged as if it returned `int`.
 fn result_type(scope: &Scope, name: &[u8]) -> Option<Scalar>
     ensures { result ≡ result_type (found (in_scope scope.now) name.now) }
 {
@@ -76,7 +75,7 @@ fn result_type(scope: &Scope, name: &[u8]) -> Option<Scalar>
     }
 }
 
-// A void call, in parentheses too, where a value is used.
+// Checks for a void call, also in parentheses, in a place that uses the value.
 fn void_call(scope: &Scope, findings: &mut Findings, tree: &Expression)
     ensures { findings.new ≡ after findings.old (void_errors (in_scope scope.now) (expression_tree tree.now)) [] }
 {
@@ -97,7 +96,7 @@ fn void_call(scope: &Scope, findings: &mut Findings, tree: &Expression)
     }
 }
 
-/// An expression whose value is used.
+/// Checks an expression whose value is used.
 #[cycle(expressions)]
 pub fn value(scope: &Scope, findings: &mut Findings, tree: &Expression)
     ensures { findings.new ≡ after findings.old (value_errors (in_scope scope.now) (expression_tree tree.now)) (called_in (expression_tree tree.now)) }
@@ -106,7 +105,7 @@ pub fn value(scope: &Scope, findings: &mut Findings, tree: &Expression)
     void_call(scope, findings, tree);
 }
 
-// An expression that is evaluated, whether its value is used or not.
+// Checks an expression that is evaluated, whether its value is used or not.
 #[cycle(expressions)]
 fn expression(scope: &Scope, findings: &mut Findings, tree: &Expression)
     ensures { findings.new ≡ after findings.old (expression_errors (in_scope scope.now) (expression_tree tree.now)) (called_in (expression_tree tree.now)) }
@@ -149,7 +148,7 @@ fn arguments(scope: &Scope, findings: &mut Findings, trees: &[Expression])
     }
 }
 
-/// A value that may be left out.
+/// Checks a value that may be absent.
 pub fn optional_value(scope: &Scope, findings: &mut Findings, tree: &Option<Box<Expression>>)
     ensures { findings.new ≡ after findings.old (optional_errors (in_scope scope.now) (optional_tree tree.now)) (called_in_optional (optional_tree tree.now)) }
 {
@@ -170,7 +169,7 @@ fn target(scope: &Scope, findings: &mut Findings, target: &Target)
     }
 }
 
-/// An assignment, an increment or decrement, or an expression whose value is not used.
+/// Checks an assignment, an increment or decrement, or an expression whose value is not used.
 pub fn action(scope: &Scope, findings: &mut Findings, action: &Action)
     ensures { findings.new ≡ after findings.old (action_errors (in_scope scope.now) (action_tree action.now)) (called_in_action (action_tree action.now)) }
 {
@@ -184,7 +183,7 @@ pub fn action(scope: &Scope, findings: &mut Findings, action: &Action)
     }
 }
 
-/// An action that may be left out.
+/// Checks an action that may be absent.
 pub fn optional_action(scope: &Scope, findings: &mut Findings, tree: &Option<Action>)
     ensures { findings.new ≡ after findings.old (optional_action_errors (in_scope scope.now) (optional_action tree.now)) (called_in_optional_action (optional_action tree.now)) }
 {

@@ -1,12 +1,12 @@
 // The rules of file scope (C99 6.2.1, 6.6, 6.7, 6.9).
 
-ghost use Rattle.std.specs.Prelude.{◌≡◌, ◌++◌, ℕ, List, [], length, option_map, OnOk};
+ghost use Rattle.std.specs.Prelude.{◌≡◌, ◌++◌, [], length, OnOk};
 ghost use Rattle.cc_ast.specs.Erase.{name_tree, constant_tree, optional_constant, constant_trees, object_tree, object_trees, parameter_tree, parameter_trees, signature_tree, external_tree, external_trees};
 ghost use Rattle.cc_types.specs.Bindings.{file_level, file_of, file_with};
 ghost use Rattle.cc_types.specs.internal.Externals.{defined_in};
 ghost use Rattle.cc_typing.specs.internal.Findings.{after, noted, is_bad_length, with_before};
 ghost use Rattle.cc_types.specs.Rules.{constant_errors, optional_constant_errors, constants_errors, named_array_errors, object_errors, objects_errors, parameter_errors, parameters_errors, signature_errors, external_errors, externals_errors, called_in_constant, called_in_optional_constant, called_in_constants, called_in_object, called_in_objects, called_in_external, called, undefined_among};
-ghost use Rattle.cc_types.specs.Scope.{Elements, in_scope, has_name, with_declared, with_object, with_objects, parameter_declared, parameters_declared, body_scope, file_scope_behind};
+ghost use Rattle.cc_types.specs.Scope.{Elements, in_scope, with_declared, with_object, with_objects, parameter_declared, parameters_declared, body_scope, file_scope_behind};
 
 use super::around::Surroundings;
 use super::expressions::value;
@@ -16,7 +16,7 @@ use cc_ast::{ConstantExpression, External, Identifier, Object, Parameter, Scalar
 use cc_types::{Entity, Rule, Scope, array_length, constant_word, differs};
 use std::alloc::AllocError;
 
-// A constant expression.
+// Checks a constant expression.
 fn constant(scope: &Scope, findings: &mut Findings, tree: &ConstantExpression)
     ensures { findings.new ≡ after findings.old (constant_errors (in_scope scope.now) (constant_tree tree.now)) (called_in_constant (constant_tree tree.now)) }
 {
@@ -32,7 +32,7 @@ fn optional_constant(scope: &Scope, findings: &mut Findings, tree: &Option<Const
     }
 }
 
-// The values of a list.
+// Checks the values of an initialiser list.
 fn constants(scope: &Scope, findings: &mut Findings, trees: &[ConstantExpression])
     ensures { findings.new ≡ after findings.old (constants_errors (in_scope scope.now) (constant_trees trees.now)) (called_in_constants (constant_trees trees.now)) }
 {
@@ -41,7 +41,7 @@ fn constants(scope: &Scope, findings: &mut Findings, trees: &[ConstantExpression
     }
 }
 
-// Whether an array has no element, or fewer than its list has values.
+// Whether an array has no elements, or fewer than its list has values.
 fn is_bad_length(length: Option<usize>, given: usize) -> bool
     ensures { result ≡ is_bad_length length given }
 {
@@ -51,7 +51,7 @@ fn is_bad_length(length: Option<usize>, given: usize) -> bool
     }
 }
 
-// One name of a declaration of objects.
+// Checks one name in a declaration of objects, and declares it.
 fn object<'a>(
     scope: &mut Scope<'a>,
     findings: &mut Findings,
@@ -86,7 +86,7 @@ fn object<'a>(
     Ok(())
 }
 
-// An array: its name, its length, and its list.
+// Checks an array's name, length and initialiser list, and declares the array.
 fn array<'a>(
     scope: &mut Scope<'a>,
     findings: &mut Findings,
@@ -109,7 +109,7 @@ fn array<'a>(
     Ok(())
 }
 
-// A declaration of objects.
+// Checks a declaration of objects.
 fn objects<'a>(
     scope: &mut Scope<'a>,
     findings: &mut Findings,
@@ -155,7 +155,7 @@ fn parameters<'a>(
     Ok(())
 }
 
-// What is said of a function. After it, the names of its parameters are in scope.
+// Checks the head of a function. Afterwards the names of its parameters are in scope.
 fn signature<'a>(
     scope: &mut Scope<'a>,
     findings: &mut Findings,
@@ -175,7 +175,7 @@ fn signature<'a>(
     parameters(scope, findings, tree.parameters.as_slice())
 }
 
-// An external declaration, with the definitions that stand before it.
+// Checks an external declaration. `findings` has the functions that are defined before it.
 fn external<'a>(
     scope: &mut Scope<'a>,
     findings: &mut Findings<'a>,
@@ -210,7 +210,7 @@ fn external<'a>(
     Ok(())
 }
 
-/// The external declarations of a unit.
+/// Checks the external declarations of a unit.
 pub fn all_externals<'a>(
     scope: &mut Scope<'a>,
     findings: &mut Findings<'a>,

@@ -1,9 +1,9 @@
-// What is found wrong on the way through a unit.
+// What the check has found so far.
 
-ghost use Rattle.std.specs.Prelude.{◌≡◌, [], ◌∷◌, ◌≤◌, OnOk};
+ghost use Rattle.std.specs.Prelude.{◌≡◌, [], ◌∷◌, OnOk};
 ghost use Rattle.cc_ast.specs.Erase.{name_tree};
 ghost use Rattle.cc_types.specs.Fault.{rule_number};
-ghost use Rattle.cc_typing.specs.internal.Findings.{is_before, earlier, after, noted, nothing_found, with_before};
+ghost use Rattle.cc_typing.specs.internal.Findings.{is_before, earlier, after, nothing_found, with_before};
 ghost use Rattle.cc_types.specs.Rules.{broken, broken_if};
 ghost use Rattle.cc_types.specs.Scope.{has_name};
 
@@ -36,7 +36,7 @@ fn comes_before(error: RuleError, other: RuleError) -> bool
     error.at < other.at || (error.at == other.at && number(error.rule) < number(other.rule))
 }
 
-/// The earlier of an error, where there is one, and another.
+/// The earlier of an error, if there is one, and another.
 pub fn earlier(first: Option<RuleError>, error: RuleError) -> RuleError
     ensures { result ≡ earlier first error }
 {
@@ -63,7 +63,7 @@ impl<'a> Model for Findings<'a> {
 }
 
 impl<'a> Findings<'a> {
-    /// Nothing, in a unit that defines these functions.
+    /// Nothing found yet, in a unit that defines these functions.
     pub fn new(functions: Functions<'a>) -> Findings<'a>
         ensures { result ≡ nothing_found functions.entry }
     {
@@ -74,14 +74,14 @@ impl<'a> Findings<'a> {
         }
     }
 
-    /// A rule is broken at the token with an offset.
+    /// Notes that a rule is broken at the token with this offset.
     pub fn note(&mut self, rule: Rule, at: usize)
         ensures { self.new ≡ after self.old (broken rule at) [] }
     {
         self.first = Some(earlier(self.first, RuleError { rule, at }));
     }
 
-    /// A rule is broken at the token with an offset, where this is so.
+    /// Notes that a rule is broken at the token with this offset, if `holds` is true.
     pub fn note_if(&mut self, holds: bool, rule: Rule, at: usize)
         ensures { self.new ≡ after self.old (broken_if holds rule at) [] }
     {
@@ -90,7 +90,7 @@ impl<'a> Findings<'a> {
         }
     }
 
-    /// A function is called.
+    /// Notes that a function is called.
     pub fn note_call(&mut self, name: &Identifier)
         ensures { self.new ≡ after self.old [] (name_tree name.now ∷ []) }
     {
@@ -103,14 +103,14 @@ impl<'a> Findings<'a> {
         }
     }
 
-    /// Whether a function of a name has its definition before.
+    /// Whether a function of this name has been defined already.
     pub fn stands_before(&self, name: &[u8]) -> bool
         ensures { result ≡ has_name self.now.functions.before name.now }
     {
         self.functions.stands_before(name)
     }
 
-    /// A function of a name has its definition before.
+    /// Notes that a function of this name has now been defined.
     pub fn mark_before(&mut self, name: &'a [u8]) -> Result<(), AllocError>
         ensures { OnOk result (self.new ≡ with_before self.old (name.now ∷ [])) }
     {

@@ -1,6 +1,6 @@
-// Which functions a unit defines, and which of their definitions stand before a place in it.
+// Which functions a unit defines, and which of them are defined before a given place.
 //
-// A function's name is numbered where it first appears, and the table from the numbers has what is known of the function.
+// A function's name gets a number when it first appears, and a table has what is known of the function at that number.
 
 ghost use Rattle.std.specs.Prelude.{◌≡◌, [], ◌∷◌, OnOk};
 ghost use Rattle.cc_types.specs.Scope.{has_name};
@@ -11,7 +11,7 @@ use indexmap::IndexMap;
 use std::alloc::{AllocError, Global};
 use std::marker::Model;
 
-// What is known of a function: whether the unit defines it, and whether its definition stands before.
+// What is known of a function: whether the unit defines it, and whether it has been defined already.
 #[derive(Clone, Copy)]
 pub struct State {
     defined: bool,
@@ -36,12 +36,12 @@ fn stands_before(state: Option<State>) -> bool
     }
 }
 
-/// The functions that are known, each by its number with its state.
+/// The known functions: each name's number, and each number's state.
 #[derive(Drop)]
 pub struct Functions<'a> {
     names: Numbering<'a>,
     states: IndexMap<usize, State>,
-    // The names alone, the newest last.
+    // The names by themselves, newest last.
     defined: Vec<&'a [u8]>,
     before: Vec<&'a [u8]>,
 }
@@ -60,7 +60,7 @@ impl<'a> Model for Functions<'a> {
 }
 
 impl<'a> Functions<'a> {
-    /// Nothing is known of any function.
+    /// Returns an empty table: nothing is known of any function.
     pub fn new(alloc: Global) -> Functions<'a>
         ensures { result ≡ record { defined = []; before = [] } }
     {
@@ -80,21 +80,21 @@ impl<'a> Functions<'a> {
         self.states.get(&number).copied()
     }
 
-    /// Whether the unit defines a function of a name.
+    /// Whether the unit defines a function of this name.
     pub fn is_defined(&self, name: &[u8]) -> bool
         ensures { result ≡ has_name self.now.defined name.now }
     {
         is_defined(self.state(name))
     }
 
-    /// Whether a function of a name has its definition before.
+    /// Whether a function of this name has been defined already.
     pub fn stands_before(&self, name: &[u8]) -> bool
         ensures { result ≡ has_name self.now.before name.now }
     {
         stands_before(self.state(name))
     }
 
-    /// The unit defines a function of a name.
+    /// Notes that the unit defines a function of this name.
     pub fn define(&mut self, name: &'a [u8]) -> Result<(), AllocError>
         ensures { OnOk result (self.new ≡ record self.old { defined = name.now ∷ self.old.defined }) }
     {
@@ -113,7 +113,7 @@ impl<'a> Functions<'a> {
         }
     }
 
-    /// A function of a name has its definition before.
+    /// Notes that a function of this name has now been defined.
     pub fn mark_before(&mut self, name: &'a [u8]) -> Result<(), AllocError>
         ensures { OnOk result (self.new ≡ record self.old { before = name.now ∷ self.old.before }) }
     {

@@ -1,10 +1,12 @@
-//! The check of the rules of scope and type of the C profile, and of its limits: whether a parsed unit is a typed one, and which rule or
+//! The check of the C profile's rules of scope and type, and of its limits: whether a parsed unit is typed, and which rule or
 //! limit it breaks first.
 //!
-//! `check` makes a `TypedUnit` of a parsed unit (`checking`). One walk goes over file scope (`externals`), `statements` and `expressions`,
-//! with the names in scope. It keeps the functions that are defined (`functions`), where a statement stands (`around`), and the first of
-//! what it finds (`findings`); `limits` counts what is limited. The types, what is in scope, and the rules' definitions are those of
-//! `cc_types`; what a caller of `check` and a walk over a typed unit need of it is handed out here too.
+//! `check` makes a `TypedUnit` of a parsed unit (`checking`). One walk visits file scope (`externals`), `statements` and
+//! `expressions`, with the names in scope. It keeps the functions that are defined (`functions`), what surrounds a statement
+//! (`around`), and the first errors (`findings`). `limits` counts what is limited.
+//!
+//! The types, the names in scope and the definitions of the rules are in `cc_types`. The crate also exports what a caller of
+//! `check`, or a walk over a typed unit, needs of them.
 #![tactic(auto)]
 
 mod around;

@@ -15,7 +15,7 @@ use cc_types::{
     object_words,
 };
 
-// The first of an error, where there is one, and of a limit passed at a place.
+// The earlier of an error, if there is one, and of a limit passed at this offset, if there is one.
 fn with_excess(first: Option<RuleError>, past: Option<usize>) -> Option<RuleError>
     ensures { result ≡ noted first (excess_of past) }
 {
@@ -33,7 +33,7 @@ fn with_excess(first: Option<RuleError>, past: Option<usize>) -> Option<RuleErro
 
 // ---- words
 
-// The words of objects so far, and where the limit on them was passed.
+// The words of the objects so far, and the offset of the object that passed the limit on them.
 #[derive(Drop)]
 struct Words {
     taken: usize,
@@ -148,7 +148,7 @@ fn past_words(externals: &[External]) -> Option<usize>
     words.past
 }
 
-/// The first of an error, where there is one, and of each limit that a unit passes.
+/// The earliest of an error, if there is one, and of the limits that a unit passes.
 pub fn with_excesses(first: Option<RuleError>, externals: &[External]) -> Option<RuleError>
     ensures { result ≡ noted first (excesses (external_trees externals.now)) }
 {

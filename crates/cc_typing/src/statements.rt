@@ -3,7 +3,7 @@
 // The recursion is as deep as the tree: at most 64 levels.
 
 ghost use Rattle.std.specs.Prelude.{◌≡◌, OnOk};
-ghost use Rattle.cc_ast.specs.Erase.{expression_tree, optional_tree, optional_action, declarator_tree, declarator_trees, beginning_tree, statement_tree, statements_of};
+ghost use Rattle.cc_ast.specs.Erase.{optional_tree, optional_action, declarator_tree, declarator_trees, beginning_tree, statement_tree, statements_of};
 ghost use Rattle.cc_ast.specs.Tree as tree;
 ghost use Rattle.cc_typing.specs.internal.Findings.{after, around_of, declarator_errors, is_bad_return};
 ghost use Rattle.cc_types.specs.Rules.{within_loop, declared_errors, beginning_errors, return_errors, statement_errors, statements_errors, called_in_optional, called_in_declared, called_in_beginning, called_in_statement, called_in_statements};
@@ -16,7 +16,7 @@ use cc_ast::{Action, Beginning, Declarator, Expression, Scalar, Statement};
 use cc_types::{Entity, Rule, Scope};
 use std::alloc::AllocError;
 
-// One name of a declaration, which is in scope in its own initialiser.
+// Checks one name in a declaration. The name is in scope in its own initialiser.
 fn declarator<'a>(
     scope: &mut Scope<'a>,
     findings: &mut Findings,
@@ -32,7 +32,7 @@ fn declarator<'a>(
     Ok(())
 }
 
-// A declaration of locals.
+// Checks a declaration of locals.
 fn declaration<'a>(
     scope: &mut Scope<'a>,
     findings: &mut Findings,
@@ -48,7 +48,7 @@ fn declaration<'a>(
     Ok(())
 }
 
-// The first part of a `for` header.
+// Checks the first part of a `for` header.
 fn beginning<'a>(
     scope: &mut Scope<'a>,
     findings: &mut Findings,
@@ -77,7 +77,7 @@ fn is_bad_return(gives: Option<Scalar>, tree: &Option<Box<Expression>>) -> bool
     }
 }
 
-// A `return`, where the offset is that of the word.
+// Checks a `return`. `at` is the offset of the keyword.
 fn returned(
     scope: &Scope,
     findings: &mut Findings,
@@ -91,7 +91,7 @@ fn returned(
     optional_value(scope, findings, tree);
 }
 
-// A statement that is a scope of its own.
+// Checks a statement that is a scope of its own.
 #[cycle(statements)]
 fn inner_statement<'a>(
     scope: &mut Scope<'a>,
@@ -108,7 +108,7 @@ fn inner_statement<'a>(
     Ok(())
 }
 
-// A statement. After it, what it declares in the innermost scope is in scope.
+// Checks a statement. Afterwards what it declares in the innermost scope is in scope.
 #[cycle(statements)]
 fn statement<'a>(
     scope: &mut Scope<'a>,
@@ -160,7 +160,7 @@ fn statement<'a>(
     }
 }
 
-// A `for`, whose header is a scope around its body.
+// Checks a `for`, whose header is a scope around its body.
 #[cycle(statements)]
 fn for_statement<'a>(
     scope: &mut Scope<'a>,
@@ -183,7 +183,7 @@ fn for_statement<'a>(
     Ok(())
 }
 
-// A block, which is a scope.
+// Checks a block, which is a scope.
 #[cycle(statements)]
 fn block<'a>(
     scope: &mut Scope<'a>,
@@ -200,7 +200,7 @@ fn block<'a>(
     Ok(())
 }
 
-/// The statements of a block, in its scope.
+/// Checks the statements of a block, in its scope.
 #[cycle(statements)]
 pub fn all_statements<'a>(
     scope: &mut Scope<'a>,

@@ -1,7 +1,7 @@
-//! What the compiler hands out and the library keeps: a unit with its source, its image and its certificate.
+//! What the compiler produces and the library keeps: a unit with its source, its image and its certificate.
 //!
-//! It stands on the machine's images alone, so that the store's crates do not wait for the compiler's proofs.
-//! It hands out `StoredUnit`, `Source` and `Certificate`.
+//! The crate needs only the machine's images, so that the store's crates do not wait for the compiler's proofs. It exports
+//! `StoredUnit`, `Source` and `Certificate`.
 #![tactic(auto)]
 
 mod unit;

@@ -13,7 +13,7 @@ pub struct Source {
     bytes: Vec<u8>,
 }
 
-// By hand, so that crates above call it and do not prove anew how each part is dropped.
+// Written by hand, so that the crates above use this proof and need not show again how each part is dropped.
 impl Drop for Source {
     fn drop(self) {
         let Source { bytes } = self;
@@ -31,7 +31,7 @@ impl Model for Source {
 }
 
 impl Source {
-    /// The source of these bytes, or the bytes back where they are more than 65,536. It takes no memory.
+    /// Makes a source of these bytes. Returns the bytes in an `Err` if there are more than 65,536. Takes no memory.
     pub fn new(bytes: Vec<u8>) -> Result<Source, Vec<u8>>
         ensures fits { IsOk result ↔ (length bytes.items ≤ 65536) }
         ensures hands_back { MatchResult result (λ source. source ≡ bytes.items) (λ back. back ≡ bytes) }
@@ -50,7 +50,7 @@ impl Source {
         self.bytes.as_slice()
     }
 
-    /// The bytes, given up. It takes no memory.
+    /// Gives up the source and returns its bytes. Takes no memory.
     pub fn into_bytes(self) -> Vec<u8>
         ensures { result.items ≡ self }
     {
@@ -59,14 +59,14 @@ impl Source {
     }
 }
 
-/// The certificate of a unit: any bytes, as many as memory holds. A clause sees their list.
+/// The certificate of a unit: any bytes, as many as fit in memory. A clause sees their list.
 ///
-/// Nothing here says what they spell: the store keeps them, and does not look at them.
+/// Nothing here says what they mean: the store keeps them, and does not look at them.
 pub struct Certificate {
     bytes: Vec<u8>,
 }
 
-// By hand, so that crates above call it and do not prove anew how each part is dropped.
+// Written by hand, so that the crates above use this proof and need not show again how each part is dropped.
 impl Drop for Certificate {
     fn drop(self) {
         let Certificate { bytes } = self;
@@ -82,7 +82,7 @@ impl Model for Certificate {
 }
 
 impl Certificate {
-    /// The certificate of these bytes. It takes no memory.
+    /// Makes a certificate of these bytes. Takes no memory.
     pub fn new(bytes: Vec<u8>) -> Certificate
         ensures { result ≡ bytes.items }
     {
@@ -96,7 +96,7 @@ impl Certificate {
         self.bytes.as_slice()
     }
 
-    /// The bytes, given up. It takes no memory.
+    /// Gives up the certificate and returns its bytes. Takes no memory.
     pub fn into_bytes(self) -> Vec<u8>
         ensures { result.items ≡ self }
     {
@@ -105,7 +105,7 @@ impl Certificate {
     }
 }
 
-/// A unit as the library keeps it: its source, the image that was made of it, and its certificate, where it has one.
+/// A unit as the library keeps it: its source, the image that was made of it, and its certificate if it has one.
 #[derive(Drop)]
 pub struct StoredUnit {
     pub source: Source,
@@ -114,8 +114,8 @@ pub struct StoredUnit {
 }
 
 impl StoredUnit {
-    /// Whether two units are the same: their sources, codes, globals and certificates are. A certificate without a byte
-    /// is not the same as none.
+    /// Whether two units are the same: whether their sources, codes, globals and certificates are. A certificate without bytes is
+    /// not the same as no certificate.
     pub fn is_same(&self, other: &StoredUnit) -> bool
         ensures { IsTrue result ↔ (self.now ≡ other.now) }
     {
@@ -126,7 +126,7 @@ impl StoredUnit {
     }
 }
 
-// Whether there are two certificates of the same bytes, or none.
+// Whether there are two certificates with the same bytes, or no certificate on either side.
 fn are_same(one: &Option<Certificate>, other: &Option<Certificate>) -> bool
     ensures { IsTrue result ↔ (one.now ≡ other.now) }
 {

@@ -1,4 +1,4 @@
--- What becomes of a set of equations: step after step, and by the bits of its table.
+-- What becomes of a set of equations: step by step, and by the bits of its table.
 use Rattle.std.proofs.Common.{◌≡◌, ℕ, suc, ◌+◌, ◌^◌, ◌<◌, List, [], ◌∷◌, ◌++◌, length, refl, sym, ap, ◌∙◌, subst, Bool, true, false, ◌==◌, ◌&&◌, ◌||◌, not, if◌then◌else◌, ◌⊎◌, inl, inr, arith, Contains}
 use Rattle.std.specs.Prelude.{Option, Some, None}
 use Rattle.std.proofs.lemmas.Bool.{or_cases, or_left, or_right, and_parts, and_from, cases_eq, eq-eqb, ne_eqb, eqb-true, not-true}
@@ -30,7 +30,7 @@ use Rattle.cc_validate.specs.internal.Carried.{AreCarried, AreBefore, IsBefore, 
 use Rattle.cc_validate.proofs.Members.{same_place_is, same_place_refl}
 use Rattle.cc_validate.proofs.Listed.{listed_has, listed_fits, has_listed}
 
--- ---- step after step
+-- ---- step by step
 
 pub carried_twice : (f g : Equation → Equation) (es fs gs : List Equation) → AreCarried f es fs → AreCarried g fs gs → AreCarried (λ e. g (f e)) es gs
 carried_twice f g es fs gs h i = record {
@@ -51,7 +51,7 @@ with_more more es fs gs e h i = record {
 pub with_none : (es : List Equation) → AreWith [] es es
 with_none es = record { more_in = λ x k. absurd (none_in x k); kept = λ x k. k; only = λ x k. inr k }
 
--- the equations of arguments, with one more of them
+-- the equations of arguments, with one more argument
 pub in_order_more : (place : ℕ) (arguments : List ℕ) (a : ℕ) → in_order place (arguments ++ a ∷ []) ≡ in_order place arguments ++ equation a (Register (place + length arguments)) ∷ []
 in_order_more place [] a = ap (λ n. equation a (Register n) ∷ []) (let e : place ≡ place + 0 = omega arith in e)
 in_order_more place (x ∷ rest) a =
@@ -299,13 +299,13 @@ removed_left old new e place h = record {
         ∙ and_from (has old x.register (number x.location)) (not (e.register == x.register && number e.location == number x.location)) (listed_has old x i)
         (ap not (ap (λ b. e.register == x.register && b) (same_bits e.location x.location place k) ∙ t))))
 
--- ---- one register for another, by the bits
+-- ---- one register replaced by another, by the bits
 
 module _ (old new : Table) (to from : ℕ) (source_fits : to < 2 ^ 32) (fits : from < 2 ^ 32) (h : (r c : ℕ) → has new r c ≡ row_moved to from (has old) r c) where
   abbrev pub renamed : Equation → Equation
   renamed e = equation (if to == e.register then from else e.register) e.location
 
-  -- the bits of a register that has the old one's now, and of another
+  -- the bits of the register that now has the old one's, and of any other
   gets : (r c : ℕ) → from ≡ r → has new r c ≡ (has old from c || has old to c)
   gets r c same = h r c ∙ ap (λ b. if b then has old from c || has old to c else has old r c && not (to == r)) (eq-eqb from r same)
 
@@ -361,7 +361,7 @@ module _ (old new : Table) (to from : ℕ) (source_fits : to < 2 ^ 32) (fits : f
   pub row_carried : AreCarried renamed (listed old) (listed new)
   row_carried = record { there = row_there; only = row_only }
 
--- ---- bits of equations alone
+-- ---- only bits of equations are set
 
 pub number_below : (l : Location) → IsPlace l → number l < most_places
 number_below (Register r) h = omega arith
@@ -415,7 +415,7 @@ all_kept o es fits none e i = go e.location refl (fits e i).1
         test true t = absurd (none k f t e i same)
         test false t = t
 
--- ---- a node that is no move
+-- ---- a node that is not a move
 
 pub fate_judged : (n : Node) (o : Operation) → ((to from next : ℕ) → n ≡ code.Move to from next → ⊥) → (e : Equation) → fate (node_of n) o e ≡ judged (result_of (node_of n)) (result_place o) (overwrites o) e
 fate_judged (code.Move to from next) o h e = absurd (h to from next refl)

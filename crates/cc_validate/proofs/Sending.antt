@@ -1,4 +1,5 @@
--- Where words come from through many moves: one move more of the table, and bits that are put where it says, one by one and all of them.
+-- Where words come from through many moves: one more move in the table, and bits that are put where the table says, one by one and all
+-- together.
 use Rattle.std.proofs.Common.{◌≡◌, ℕ, zero, suc, ◌+◌, ◌^◌, ◌<◌, ◌≤◌, List, [], ◌∷◌, ◌++◌, length, get_or, set, refl, sym, ap, ◌∙◌, subst, Bool, true, false, ◌==◌, ◌&&◌, ◌||◌, if◌then◌else◌, ◌⊎◌, inl, inr, arith, Contains, IsTrue}
 use Rattle.std.specs.List.{range_with_len}
 use Rattle.std.proofs.lemmas.Bool.{cases_eq, cases_lt, eq-eqb, eqb-true, and_parts, and_from, or_cases, or_left, or_right}
@@ -19,12 +20,12 @@ use Rattle.cc_validate.proofs.Carried.{same_number, same_test, number_below}
 
 -- ---- the table
 
--- through one move more at the end
+-- through one more move at the end
 before_more : (moves : List Move) (m : Move) (e : Equation) → before_moves (moves ++ m ∷ []) e ≡ before_moves moves (before_move m e)
 before_more [] m e = refl
 before_more (x ∷ moves) m e = ap (before_move x) (before_more moves m e)
 
--- moves change no register
+-- moves change no pseudo-register
 same_register : (moves : List Move) (e : Equation) → (before_moves moves e).register ≡ e.register
 same_register [] e = refl
 same_register (m ∷ moves) e = same_register moves e
@@ -47,7 +48,7 @@ module _ (moves : List Move) (origins : List ℕ) (m : Move) (to : IsPlace (targ
   abbrev next : List ℕ
   next = set origins (number (target m)) (get_or origins (number (source m)) 0)
 
-  -- what the table says of a location now is what it said of the one which the move takes for it
+  -- the table's entry for a location is now its old entry for the location that the move replaces it by
   said : (e : Equation) → IsPlace e.location → IsPlace (before_move m e).location × (get_or next (number e.location) 0 ≡ get_or origins (number (before_move m e).location) 0)
   said e h = go (same_location (target m) e.location) refl
     where
@@ -69,7 +70,7 @@ module _ (moves : List Move) (origins : List ℕ) (m : Move) (to : IsPlace (targ
     each = λ e h. (said e h).1 ∙ (are.each (before_move m e) (said e h).0 ∙ ap (λ (x : Equation). number x.location) (sym (before_more moves m e)));
   }
 
--- what a table says are numbers of locations
+-- the entries of the table are numbers of locations
 pub origins_low : (moves : List Move) (origins : List ℕ) → AreOrigins moves origins → (c : ℕ) → get_or origins c 0 < most_places
 origins_low moves origins are c = elim (cases_lt c (length origins)) [
   | inl lt ↦
@@ -82,14 +83,14 @@ origins_low moves origins are c = elim (cases_lt c (length origins)) [
 
 -- ---- the bits
 
--- the same bits, said otherwise
+-- the same bits, described by an equivalent test
 pub sent_as : (some same : (r c : ℕ) → Type 0) (origins : List ℕ) (new : Table) → ((r c : ℕ) → same r c → some r c) → ((r c : ℕ) → some r c → same r c) → AreSent some origins new → AreSent same origins new
 sent_as some same origins new to from h = record {
   there = λ r c i. h.there r c (to r c i);
   only = λ r p i. (let o = h.only r p i in (o.0, from r o.0 o.1, o.2));
 }
 
--- one bit more
+-- one more bit
 pub sent_more : (from : (r c : ℕ) → Type 0) (origins : List ℕ) (old new : Table) (r c : ℕ) → AreSent from origins old
     → ((i j : ℕ) → has new i j ≡ ((r == i && get_or origins c 0 == j) || has old i j)) → AreSent (λ i k. from i k ⊎ ((i ≡ r) × (k ≡ c))) origins new
 sent_more from origins old new r c h more = record { there = there; only = only }
@@ -110,7 +111,7 @@ sent_more from origins old new r c h more = record { there = there; only = only 
 abbrev Columns : (old : Table) (r c : ℕ) → (i j : ℕ) → Type 0
 Columns old r c i j = ((i < r) ⊎ ((i ≡ r) × (j < c))) × IsTrue (has old i j)
 
--- one column more, whose bit is set, and whose bit is not
+-- one more column: its bit is set, or its bit is clear
 pub column_sent : (old : Table) (origins : List ℕ) (r c : ℕ) (mid new : Table) → has old r c ≡ true → ((i j : ℕ) → has new i j ≡ ((r == i && get_or origins c 0 == j) || has mid i j))
     → AreSent (Columns old r c) origins mid → AreSent (Columns old r (c + 1)) origins new
 column_sent old origins r c mid new set more h = sent_as (λ i k. Columns old r c i k ⊎ ((i ≡ r) × (k ≡ c))) (Columns old r (c + 1)) origins new to from (sent_more (Columns old r c) origins mid new r c h more)

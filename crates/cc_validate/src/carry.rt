@@ -1,7 +1,7 @@
-// What a node and its block make of the equations that are to hold behind them: all are carried backward through the moves behind, the
-// operation and the moves before; the operands' equations join them in front of the operation.
+// Carries equations backward over a node and its block: through the moves after the operation, the operation, and the moves before it. The
+// operands' equations join them in front of the operation.
 
-ghost use Rattle.std.specs.Prelude.{◌≡◌, ◌≤◌, Some, IfOk};
+ghost use Rattle.std.specs.Prelude.{◌≤◌, Some, IfOk};
 ghost use Rattle.cc_flow.specs.Lattice.{Equivalent};
 ghost use Rattle.cc_bits.specs.Rows.{most_width};
 ghost use Rattle.cc_rtl_language.specs.Code.{node_of};
@@ -16,7 +16,8 @@ use cc_ltl::Block;
 use cc_rtl_language::Node;
 use std::alloc::{AllocError, Global};
 
-/// What is to hold in front of a block, of what is to hold behind it. Rows are made with room for this many words of locations.
+/// What has to hold before a block, from what has to hold after it. Rows are made with room for this many words of locations. Err: memory
+/// ran out.
 pub fn carry(
     alloc: Global,
     node: &Node,
@@ -34,7 +35,7 @@ pub fn carry(
     }
 }
 
-/// The same of some equations.
+/// Does the same for a set without a contradiction.
 fn carry_all(
     alloc: Global,
     node: &Node,

@@ -1,4 +1,4 @@
-// The nodes and blocks of a function as the solver takes them: side by side, by their positions.
+// The nodes and blocks of a function as the solver takes them: side by side, by position.
 
 ghost use Rattle.std.specs.Prelude.{◌≡◌, ◌≤◌};
 ghost use Rattle.cc_bits.specs.Rows.{most_width};
@@ -13,7 +13,7 @@ use cc_rtl_language::Rtl;
 use std::alloc::{AllocError, Global};
 use std::marker::Model;
 
-/// The nodes of a function and, beside them, their blocks. Contracts see the two lists.
+/// The nodes of a function and their blocks, side by side. Contracts see the two lists.
 #[derive(Drop)]
 pub struct Code<'a> {
     rtl: &'a Rtl,
@@ -22,9 +22,7 @@ pub struct Code<'a> {
 }
 
 impl<'a> Model for Code<'a> {
-    ghost use Rattle.std.specs.Prelude.{List};
     ghost use Rattle.cc_rtl_language.specs.Rtl as rtl;
-    ghost use Rattle.cc_ltl.specs.declared.block.Block as ltl;
     ghost use Rattle.cc_validate.specs.internal.Positions.{IsCode, Sides};
 
     ghost Value = { Sides };
@@ -35,7 +33,7 @@ impl<'a> Model for Code<'a> {
 }
 
 impl<'a> Code<'a> {
-    /// Nodes with the blocks beside them, and how many words the locations of one of them take.
+    /// Nodes and their blocks, and the number of words that a row of locations takes.
     pub fn new(rtl: &'a Rtl, blocks: &'a [Block], width: usize) -> Code<'a>
         requires beside { AreBeside rtl.now.nodes blocks.now }
         requires width { width ≤ most_width }

@@ -1,7 +1,7 @@
-// Sets of equations without a contradiction. What lies in this file alone is how a set is kept: as rows of bits, a row for each
-// pseudo-register, and in it a bit for each location. Rows past the last one with an equation take no memory, and rows are no wider than
-// the locations of the function ask. Through moves a set goes one by one, column to column; through more moves than there are locations
-// it goes at once, by a table of where each location's word comes from.
+// Sets of equations without a contradiction. Only this file knows how a set is kept: as rows of bits, one row for each pseudo-register,
+// with one bit for each location. Rows past the last one with an equation take no memory, and rows are no wider than the function's
+// locations need. A set is carried through moves one by one, column to column. Through more moves than there are locations it is carried at
+// once, by a table that says where each location's word comes from.
 
 ghost use Rattle.std.specs.Prelude.{◌≡◌, ◌+◌, ◌<◌, ◌≤◌, ◌^◌, ◌↔◌, ◌≢◌, ◌==◌, ◌&&◌, ◌∷◌, [], ℕ, Some, Contains, get_or, length, if◌then◌else◌, IfOk, IfErr, IsTrue, IsFalse};
 ghost use Rattle.cc_flow.specs.Lattice.{Equivalent};
@@ -11,7 +11,7 @@ ghost use Rattle.cc_validate.specs.Equations.{before_moves, equation};
 ghost use Rattle.cc_validate.specs.Solution.{IsAtEntry};
 ghost use Rattle.cc_validate.specs.internal.Facts.{Below, join as join_of};
 ghost use Rattle.cc_validate.specs.internal.Room.{room as room_of, IsPlace, most_places};
-ghost use Rattle.cc_validate.specs.internal.Table.{number as number_of, listed, AreEquations};
+ghost use Rattle.cc_validate.specs.internal.Table.{listed, AreEquations};
 ghost use Rattle.cc_validate.specs.internal.Carried.{AreCarried, AreLeft, AreWith, IsEntryBit};
 ghost use Rattle.cc_validate.specs.internal.Origins.{AreSent};
 ghost use Rattle.cc_ltl.specs.declared.location.Location.TheVariants.{Register as in_register};
@@ -25,10 +25,10 @@ use cc_ltl::Move;
 use std::alloc::{AllocError, Global};
 use std::marker::Model;
 
-// Parameters stand in x10 and up.
+// Parameters are in x10 and up.
 const FIRST_ARGUMENT: usize = 10;
 
-/// A set of equations. Contracts see a list of them, in no order that counts.
+/// A set of equations. Contracts see a list of them, whose order does not matter.
 #[derive(Drop)]
 pub struct Equations {
     bits: BitRows,
@@ -55,7 +55,7 @@ fn row(e: &Equation) -> usize
 }
 
 impl Equations {
-    /// None. It takes no memory.
+    /// The empty set. It takes no memory.
     pub fn new(alloc: Global) -> Equations
         ensures { result ≡ [] }
     {
@@ -64,7 +64,7 @@ impl Equations {
         }
     }
 
-    /// The same set once more, with room for this many words of locations.
+    /// A copy of the set, with room for this many words of locations. Err: memory ran out.
     pub fn copy(&self, width: usize) -> Result<Equations, AllocError>
         requires { width ≤ most_width }
         ensures { IfOk result (λ made. made ≡ self.now) }
@@ -74,7 +74,7 @@ impl Equations {
         })
     }
 
-    /// Puts an equation in.
+    /// Adds an equation. If memory runs out, the set stays as it was.
     pub fn add(&mut self, e: Equation) -> Result<(), AllocError>
         ensures added { IfOk result (λ _. AreWith (e ∷ []) self.old self.new) }
         ensures leaves { IfErr result (λ _. self.new ≡ self.old) }
@@ -83,7 +83,7 @@ impl Equations {
         Ok(())
     }
 
-    /// Puts in what another set has, and answers whether anything of it was missing. Without memory the set stays as it was.
+    /// Adds all equations of another set, and answers whether any of them was missing. If memory runs out, the set stays as it was.
     pub fn join(&mut self, other: &Equations) -> Result<bool, AllocError>
         ensures both { IfOk result (λ _. Equivalent Below (Some self.new) (join_of (Some self.old) (Some other.now))) }
         ensures unchanged { IfOk result (λ rose. IsFalse rose → self.new ≡ self.old) }
@@ -94,7 +94,7 @@ impl Equations {
         Ok(rose)
     }
 
-    /// Becomes what has to hold in front of moves, so that it holds behind them.
+    /// What has to hold before these moves, so that the set holds after them. Err: memory ran out.
     pub fn carry(self, alloc: Global, moves: &[Move]) -> Result<Equations, AllocError>
         ensures { IfOk result (λ made. AreCarried (before_moves moves.now) self made) }
     {
@@ -107,7 +107,7 @@ impl Equations {
         Ok(Equations { bits })
     }
 
-    /// Puts one pseudo-register for another.
+    /// Replaces one pseudo-register by another in all equations. Err: memory ran out.
     pub fn rename(self, to: u32, from: u32) -> Result<Equations, AllocError>
         ensures { IfOk result (λ made. AreCarried (λ e. equation (if to == e.register then from else e.register) e.location) self made) }
     {
@@ -116,14 +116,14 @@ impl Equations {
         Ok(Equations { bits })
     }
 
-    /// Takes an equation out.
+    /// Removes an equation.
     pub fn remove(&mut self, e: Equation)
         ensures { AreLeft (λ x. e.register == x.register && same_location e.location x.location) self.old self.new }
     {
         self.bits.remove(row(&e), number(e.location));
     }
 
-    /// What the types of their fields say of its equations.
+    /// States the ranges of the equations' fields, for proofs.
     pub fn fit(&self)
         ensures { (e : Equation) → Contains self.now e → (e.register < 2 ^ 32) × IsPlace e.location }
     {
@@ -147,7 +147,7 @@ impl Equations {
         !self.bits.is_column_empty(number as usize)
     }
 
-    /// Whether parameters alone are known, each at its location.
+    /// Whether every equation is one of a parameter and its location at entry.
     pub fn are_at_entry(&self, parameters: u32) -> bool
         ensures { IsTrue result ↔ ((e : Equation) → Contains self.now e → IsAtEntry parameters e) }
     {
@@ -156,7 +156,7 @@ impl Equations {
     }
 }
 
-/// The same of their bits: what each move's target held, its source holds, from the last move on.
+/// Does this on the bits, from the last move back: an equation on a move's target becomes one on its source.
 fn carry_bits(bits: &mut BitRows, moves: &[Move]) -> Result<(), AllocError>
     requires { AreEquations bits.old }
     ensures bits { IfOk result (λ _. AreEquations bits.new) }
@@ -171,7 +171,7 @@ fn carry_bits(bits: &mut BitRows, moves: &[Move]) -> Result<(), AllocError>
     Ok(())
 }
 
-/// The same of bits, each put at once where its word comes from: made anew, by a table.
+/// Does this on the bits at once: a table says where each location's word comes from, and a new set is made by it.
 fn carry_at_once(alloc: Global, bits: &BitRows, moves: &[Move]) -> Result<BitRows, AllocError>
     requires { AreEquations bits.now }
     ensures bits { IfOk result (λ made. AreEquations made) }
@@ -185,7 +185,7 @@ fn carry_at_once(alloc: Global, bits: &BitRows, moves: &[Move]) -> Result<BitRow
     Ok(made)
 }
 
-/// Puts in the bits of one row, behind those of the rows before it.
+/// Adds the bits of row r, after those of the rows before it.
 fn put_row(
     bits: &BitRows,
     r: usize,
@@ -220,7 +220,7 @@ fn are_entry_bits(bits: &BitRows, parameters: u32) -> bool
     true
 }
 
-/// The same of one row.
+/// The same for one row.
 fn is_entry_row(bits: &BitRows, parameters: u32, r: usize) -> bool
     requires { r < most_rows }
     ensures all { IsTrue result → (c : ℕ) → IsTrue (has bits.now r c) → IsEntryBit parameters r c }
@@ -237,7 +237,7 @@ fn is_entry_row(bits: &BitRows, parameters: u32, r: usize) -> bool
     true
 }
 
-/// Parameter i is in x(10 + i), and the last register is x31.
+/// Whether a bit is that of a parameter and its location: parameter i is in x(10 + i), and the last register is x31.
 fn is_entry_bit(parameters: u32, r: usize, c: usize) -> bool
     requires { r < most_rows }
     ensures { IsTrue result ↔ IsEntryBit parameters r c }

@@ -1,4 +1,4 @@
-// Where words come from through many moves: a table of all places, made once, in place of a step for each move.
+// Where words come from through many moves: a table of all locations, made once, in place of a step for each move.
 
 ghost use Rattle.std.specs.Prelude.{[], IfOk};
 ghost use Rattle.cc_validate.specs.internal.Origins.{AreOrigins};
@@ -7,10 +7,10 @@ use crate::moves::{number, source, target};
 use cc_ltl::Move;
 use std::alloc::{AllocError, Global};
 
-/// How many numbers of locations there are: those of 32 registers, then 495 slots.
+/// The number of locations: 32 registers, then 495 slots.
 pub const PLACES: usize = 527;
 
-/// For each location, the number of the one where its word comes from through the moves.
+/// For each location, the number of the location from which its word comes through the moves. Err: memory ran out.
 pub fn origins(alloc: Global, moves: &[Move]) -> Result<Vec<usize>, AllocError>
     ensures { IfOk result (λ made. AreOrigins moves.now made.items) }
 {
@@ -21,7 +21,7 @@ pub fn origins(alloc: Global, moves: &[Move]) -> Result<Vec<usize>, AllocError>
     Ok(origins)
 }
 
-/// The same through no move: each word comes from where it is.
+/// The table for no moves: each word comes from its own location.
 fn places(alloc: Global) -> Result<Vec<usize>, AllocError>
     ensures { IfOk result (λ made. AreOrigins [] made.items) }
 {

@@ -4,7 +4,7 @@ ghost use Rattle.std.specs.Prelude.{◌≡◌, ◌↔◌, ◌≤◌, length, All
 ghost use Rattle.cc_bits.specs.Rows.{most_width};
 ghost use Rattle.cc_rtl_language.specs.Rtl.{node_at};
 ghost use Rattle.cc_ltl.specs.Ltl.{IsLtl};
-ghost use Rattle.cc_validate.specs.Solution.{IsAtEntry, HasSolution};
+ghost use Rattle.cc_validate.specs.Solution.{HasSolution};
 ghost use Rattle.cc_validate.specs.Fault.{IsRefusal};
 ghost use Rattle.cc_validate.specs.Pair.{tree_of, FollowsRtl};
 ghost use Rattle.cc_validate.specs.internal.Facts.{IsClean, HoldsParametersAlone};
@@ -19,18 +19,18 @@ use cc_ltl::Ltl;
 use cc_rtl_language::{Rtl, RtlPair};
 use std::alloc::Global;
 
-/// Why LTL was refused, and the pair that it was to stand for.
+/// Why LTL was refused, and the pair of RTL, handed back.
 #[derive(Drop)]
 pub struct Refused {
     pub pair: RtlPair,
     pub fault: ValidateFault,
 }
 
-/// The LTL in the place of the RTL, where equations show that it does what the RTL does.
+/// The LTL in place of the RTL, if equations show that it does what the RTL does.
 ///
-/// It is Ok exactly where the equations have a solution, whoever made the LTL. Then the LTL's run follows the RTL's, also where the source
-/// goes wrong and the RTL does not. Else it is refused, and the pair comes back as it was:
-/// with 24 there is no solution, and the fault names a label at which none can be; with 40 memory ran out.
+/// The answer is Ok exactly if the equations have a solution, whoever made the LTL; only lack of memory can refuse it then. The LTL's run
+/// then follows the RTL's, even if the source goes wrong and the RTL does not. A refusal hands the pair back as it was: 24 if there is no
+/// solution, with a label at which the proof failed; 40 if memory ran out.
 pub fn validate(alloc: Global, pair: RtlPair, ltl: Ltl) -> Result<LtlPair, Refused>
     ensures answer { IfOk result (λ made. made ≡ record { mode = pair.mode; unit = pair.unit; function = pair.function; ltl = ltl }) }
     ensures solved { IfOk result (λ _. HasSolution pair.rtl ltl) }
@@ -79,7 +79,7 @@ fn decide(alloc: Global, rtl: &Rtl, ltl: &Ltl) -> Result<(), ValidateFault>
     Ok(())
 }
 
-/// How many words the bits of the registers and this many slots take.
+/// How many words the bits of the registers and of this many slots take.
 fn words_for(slots: u16) -> usize
     ensures { result ≤ most_width }
 {
@@ -87,7 +87,7 @@ fn words_for(slots: u16) -> usize
     if words < 16 { words } else { 16 }
 }
 
-/// A label whose facts contradict, where there is one.
+/// A label whose facts are the contradiction, if there is one.
 fn contradicted(rtl: &Rtl, facts: &[EquationSet]) -> Option<u32>
     requires { length facts.now ≡ length rtl.now.nodes }
     ensures clean { IfNone result (All IsClean facts.now) }
@@ -105,7 +105,7 @@ fn contradicted(rtl: &Rtl, facts: &[EquationSet]) -> Option<u32>
     None
 }
 
-/// Whether nothing but parameters is to be known, each at its location.
+/// Whether the facts have only parameters, each at its location.
 fn parameters_alone(parameters: u32, facts: &EquationSet) -> bool
     ensures { IsTrue result ↔ HoldsParametersAlone parameters facts.now }
 {

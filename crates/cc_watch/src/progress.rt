@@ -1,4 +1,4 @@
-// A writer of answers that says on a terminal how many lines of them there are.
+// A writer that says on a terminal how many lines were written to it.
 
 ghost use Rattle.std.specs.Prelude.{◌≡◌};
 
@@ -8,8 +8,8 @@ use std::rt::Clock;
 /// For how many seconds nothing is shown.
 const QUIET: u64 = 2;
 
-/// A writer of answers that says how many lines of them there are: from the third second on, at most once a second, on one line of a terminal,
-/// which is overwritten.
+/// A writer that says how many lines were written: from the third second on, at most once a second, on one line of a terminal, which is
+/// overwritten.
 #[derive(Drop)]
 pub struct AnswerProgress<W: Drop, C: Drop, E: Drop> {
     writer: W,
@@ -19,6 +19,8 @@ pub struct AnswerProgress<W: Drop, C: Drop, E: Drop> {
     // The second from which on something is shown.
     next: u64,
     lines: u64,
+    // What a line is, in words for many.
+    things: &'static str,
     is_shown: bool,
 }
 
@@ -34,8 +36,13 @@ fn second<C: Clock>(clock: &C) -> Option<u64> {
 }
 
 impl<W: Write + Drop, C: Clock + Drop, E: Write + Drop> AnswerProgress<W, C, E> {
-    /// Before this writer. The screen, if there is one, shows how many lines there are.
-    pub fn new(writer: W, clock: C, screen: Option<E>) -> AnswerProgress<W, C, E>
+    /// Before this writer. The screen, if there is one, shows how many of these things, one a line, there are: `lines of answers`.
+    pub fn new(
+        writer: W,
+        clock: C,
+        screen: Option<E>,
+        things: &'static str,
+    ) -> AnswerProgress<W, C, E>
         ensures { result.writer ≡ writer }
     {
         let next = match second(&clock) {
@@ -48,6 +55,7 @@ impl<W: Write + Drop, C: Clock + Drop, E: Write + Drop> AnswerProgress<W, C, E> 
             screen,
             next,
             lines: 0,
+            things,
             is_shown: false,
         }
     }
@@ -77,9 +85,9 @@ impl<W: Write + Drop, C: Clock + Drop, E: Write + Drop> AnswerProgress<W, C, E> 
     fn show(&mut self)
         ensures { self.new.writer ≡ self.old.writer }
     {
-        let lines = self.lines;
+        let (lines, things) = (self.lines, self.things);
         if let Some(screen) = &mut self.screen {
-            let _ = write!(screen, "\r\x1b[Kcclib: {lines} lines of answers so far\r");
+            let _ = write!(screen, "\r\x1b[Kcclib: {lines} {things} so far\r");
             let _ = screen.flush();
             self.is_shown = true;
         }

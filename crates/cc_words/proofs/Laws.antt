@@ -1,6 +1,6 @@
--- The laws of words that the crates above cite: a word and its signed value determine each other; each operation gives
--- a word; what a comparison says; comparisons and the complement by other operations. Each is one call of a tactic, by
--- cases on whether a word is below 2^31 and linear arithmetic, but the last, which compares digit by digit.
+-- The laws of words that the crates above use: a word and its signed value determine each other; each operation gives a word;
+-- what a comparison means; comparisons and the complement expressed by other operations. Each law but the last is one call of a
+-- tactic, by cases on whether a word is below 2^31 and linear arithmetic. The last compares bit by bit.
 use Rattle.std.proofs.Common.{◌≡◌, ℕ, ◌+◌, ◌-◌, ◌%◌, ◌^◌, ◌<◌, ◌≤◌, Bool, true, false, ◌≢◌, ◌⊎◌, ◌↔◌, inl, inr, Some, ℤ, pos, negsuc, ◌<ℤ◌, ◌≤ℤ◌, refl, sym, ap, ◌∙◌, arith, rules, div-le_self, w32, FitsSigned}
 use Rattle.std.specs.Int.{cast_signed}
 use Rattle.std.proofs.lemmas.Int.{ints}
@@ -17,7 +17,7 @@ pub IsWord-word_of : (z : ℤ) → IsWord (word_of z)
 IsWord-word_of (pos n) = omega arith
 IsWord-word_of (negsuc n) = omega arith
 
--- the signed value is what a machine's cast reads
+-- the signed value is that of a machine's cast
 pub signed_value-cast : (w : ℕ) → IsWord w → signed_value w ≡ cast_signed w32 w
 signed_value-cast w h = grind (arith, ints)
 
@@ -33,7 +33,7 @@ signed_value-word_of z h = grind (arith, ints)
 pub signed_value_injective : (a b : ℕ) → IsWord a → IsWord b → signed_value a ≡ signed_value b → a ≡ b
 signed_value_injective a b p q e = sym (word_of-signed_value a p) ∙ ap word_of e ∙ word_of-signed_value b q
 
--- a difference of words by natural numbers alone
+-- a difference of words, by natural numbers alone
 pub sub_is : (a b : ℕ) → IsWord a → IsWord b → sub a b ≡ (a + (2 ^ 32 - b)) % 2 ^ 32
 sub_is a b p q = grind (arith, ints)
 
@@ -109,7 +109,7 @@ IsWord-xor a b p q = xor_of_32 a b p q
 pub IsWord-complement : (w : ℕ) → IsWord (complement w)
 IsWord-complement w = omega arith
 
--- ---- what a comparison says: 1 or 0, and 1 exactly where the relation holds
+-- ---- what a comparison means: it is 1 or 0, and 1 exactly if the relation holds
 
 pub truth_value_cases : (b : Bool) → (truth_value b ≡ 0) ⊎ (truth_value b ≡ 1)
 truth_value_cases true = inr refl
@@ -151,7 +151,7 @@ lt_u-one a b = (λ e. grind (arith, nat_tests), λ e. grind (arith, nat_tests))
 pub le_u-one : (a b : ℕ) → (le_u a b ≡ 1) ↔ (a ≤ b)
 le_u-one a b = (λ e. grind (arith, nat_tests), λ e. grind (arith, nat_tests))
 
--- 0 exactly where it does not hold
+-- a comparison is 0 exactly if its relation does not hold
 
 pub eq-zero : (a b : ℕ) → (eq a b ≡ 0) ↔ (a ≢ b)
 eq-zero a b = (λ e. grind (arith, nat_tests), λ e. grind (arith, nat_tests))
@@ -171,7 +171,7 @@ lt_u-zero a b = (λ e. grind (arith, nat_tests), λ e. grind (arith, nat_tests))
 pub le_u-zero : (a b : ℕ) → (le_u a b ≡ 0) ↔ (b < a)
 le_u-zero a b = (λ e. grind (arith, nat_tests), λ e. grind (arith, nat_tests))
 
--- ---- a comparison by another, as a machine has them
+-- ---- comparisons expressed by others that a machine has
 
 pub le_s-lt_s : (a b : ℕ) → le_s a b ≡ 1 - lt_s b a
 le_s-lt_s a b = grind (arith, ints)
@@ -188,7 +188,7 @@ eq-sub a b p q = grind (arith, nat_tests, sub_is)
 pub ne-sub : (a b : ℕ) → IsWord a → IsWord b → ne a b ≡ lt_u 0 (sub a b)
 ne-sub a b p q = grind (arith, nat_tests, sub_is)
 
--- ---- the complement as an exclusive or, digit by digit
+-- ---- the complement as an exclusive or, bit by bit
 
 pub complement-xor : (w : ℕ) → IsWord w → complement w ≡ xor w 4294967295
 complement-xor w h =

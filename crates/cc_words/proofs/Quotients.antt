@@ -1,7 +1,7 @@
--- Quotient and remainder as C99 6.5.5 has them: where the division has an answer, the quotient times the divisor plus the
--- remainder is the dividend, and the remainder is nearer to 0 than the divisor, with the dividend's sign. The proof first
--- shows that the quotient then is an int, so that its word tells it; the laws over whole numbers do the rest. The signed
--- value of a right shift stands here too.
+-- Quotient and remainder as in C99 6.5.5: if the division has a value, the quotient times the divisor plus the remainder is the
+-- dividend, and the remainder is closer to 0 than the divisor and has the dividend's sign. The proof first shows that such a
+-- quotient fits an int, so that its word determines it; laws of whole numbers give the rest. The signed value of a right shift is
+-- here too.
 use Rattle.std.proofs.Common.{◌≡◌, ℕ, ◌*◌, ◌/◌, ◌%◌, ◌^◌, ◌<◌, ◌≤◌, Bool, true, false, cond, ltb, ◌≢◌, Some, None, ℤ, pos, negsuc, ◌+ℤ◌, ◌*ℤ◌, ◌≤ℤ◌, unsigned_abs, int_div, int_rem, refl, sym, ap, ◌∙◌, arith, div-le_self, zero, suc, neg_ℤ, mul-le-mul_left, le_trans, div-mul-le_self, lt_of_le_of_lt, div-one, w32, FitsSigned}
 use Rattle.std.specs.Int.{int_shr}
 use Rattle.std.specs.Int.Signed.{mag, mag_rem, mag_shr, le_z_yes}
@@ -17,14 +17,14 @@ mag_of-neg : (n m : ℕ) → n ≤ suc m → mag (neg_ℤ (pos n)) ≤ m
 mag_of-neg zero m h = omega arith
 mag_of-neg (suc n) m h = omega arith
 
--- a quotient by -2 or less is at most half
+-- a quotient by -2 or less is at most half the dividend
 half_quotient : (a b : ℕ) → suc a / suc (suc b) * 2 ≤ suc a
 half_quotient a b =
     let n = suc a / suc (suc b) in
     let below : n * 2 ≤ n * suc (suc b) = mul-le-mul_left n (omega arith) in
     le_trans below (div-mul-le_self (suc a) (suc (suc b)))
 
--- only -2147483648 by -1 has a quotient that is no int
+-- only the quotient of -2147483648 by -1 does not fit an int
 quotient_fits : (x y : ℤ) → FitsSigned w32 x → y ≢ pos 0 → (x ≡ negsuc 2147483647 → y ≢ negsuc 0) → FitsSigned w32 (int_div x y)
 quotient_fits (pos a) (pos b) h _ _ = record { sfits = omega (arith, div-le_self a b, h.sfits) }
 quotient_fits (pos a) (negsuc b) h _ _ =
@@ -41,7 +41,7 @@ quotient_fits (negsuc a) (negsuc (suc b)) h _ _ = record { sfits = omega (arith,
 remainder_fits : (x y : ℤ) → FitsSigned w32 x → FitsSigned w32 (int_rem x y)
 remainder_fits x y h = record { sfits = lt_of_le_of_lt (mag_rem x y) h.sfits }
 
--- a signed division that has an answer is by a number that is not 0, and is not -2147483648 by -1
+-- if a signed division has a value, the divisor is not 0, and the operands are not -2147483648 and -1
 has_quotient : (a b : ℕ) → IsWord a → IsWord b → lacks_quotient a b ≡ false
     → (signed_value b ≢ pos 0) × (signed_value a ≡ negsuc 2147483647 → signed_value b ≢ negsuc 0)
 has_quotient a b p q has = (
@@ -67,7 +67,7 @@ int_rem_sign (pos a) y =
     (λ _. omega (arith, ints), λ least. omega (arith, ints))
 int_rem_sign (negsuc a) y = (λ h. absurd h.le, λ _. neg_at_most_zero (suc a % unsigned_abs y))
 
--- what a division that has an answer gives
+-- the value of a division that has one
 answer : (lacks : Bool) (x y : ℕ) → cond lacks None (Some x) ≡ Some y → (lacks ≡ false) × (x ≡ y)
 answer true x y e = cc
 answer false x y e = (refl, cc)
@@ -98,7 +98,7 @@ pub quotient_and_remainder : (a b q r : ℕ) → IsWord a → IsWord b → div_s
 quotient_and_remainder a b q r h k e f =
     rw (signed_value-div_s a b q h k e, signed_value-rem_s a b r h f) (quot-rem (signed_value a) (signed_value b))
 
--- the remainder is nearer to 0 than the divisor
+-- the remainder is closer to 0 than the divisor
 pub remainder_below : (a b r : ℕ) → IsWord a → IsWord b → rem_s a b ≡ Some r → unsigned_abs (signed_value r) < unsigned_abs (signed_value b)
 remainder_below a b r h k e =
     let given = answer (lacks_quotient a b) _ r e in

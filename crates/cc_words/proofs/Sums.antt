@@ -1,5 +1,5 @@
--- A sum, a difference and a product of words are those of their signed values too, modulo 2^32: one operation serves `int`
--- and `unsigned`. A word is its signed value or 2^32 more; so the two results differ by a multiple of 2^32.
+-- A sum, a difference or a product of words is also that of their signed values, modulo 2^32. So one operation serves both `int`
+-- and `unsigned`. A word is its signed value or 2^32 more, so the two results differ by a multiple of 2^32.
 use Rattle.std.proofs.Common.{◌≡◌, ℕ, ◌+◌, ◌-◌, ◌*◌, ◌%◌, ◌^◌, ◌⊎◌, inl, inr, ℤ, pos, negsuc, ◌+ℤ◌, ◌-ℤ◌, ◌*ℤ◌, unsigned_abs, refl, sym, ap, ◌∙◌, arith, suc, neg_ℤ, mul-add, mul_comm}
 use Rattle.std.proofs.lemmas.Int.{ints, int_rem_euclid_is}
 use Rattle.std.proofs.Math.IntN.{*ℤ_comm}
@@ -8,11 +8,11 @@ use Rattle.cc_words.specs.Words.{signed_value, word_of, add, sub, mul}
 use Rattle.cc_words.specs.internal.Word.{IsWord}
 use Rattle.cc_words.proofs.Laws.{sub_is}
 
--- a multiple of 2^32 more leaves the same word
+-- adding a multiple of 2^32 leaves the word the same
 word_of_more : (z : ℤ) (k m : ℕ) → z +ℤ pos (k * 2 ^ 32) ≡ pos m → word_of z ≡ m % 2 ^ 32
 word_of_more z k m e = ap unsigned_abs (int_rem_euclid_is z (pos (2 ^ 32)) (2 ^ 32) k m (omega arith) refl e)
 
--- a word is its signed value, or that and 2^32
+-- a word is its signed value, or its signed value plus 2^32
 word_cases : (w : ℕ) → IsWord w → (signed_value w ≡ pos w) ⊎ (signed_value w +ℤ pos (2 ^ 32) ≡ pos w)
 word_cases w h = grind (arith, ints)
 
@@ -41,12 +41,12 @@ below_zero : (z : ℤ) (w : ℕ) → z +ℤ pos (2 ^ 32) ≡ pos w → IsWord w 
 below_zero (pos n) w e h = absurd (omega (arith, ints))
 below_zero (negsuc m) w e h = (m, refl, omega (arith, ints))
 
--- how a word's signed value is written
+-- a word's signed value, by its sign
 signed_value_form : (w : ℕ) → IsWord w → (signed_value w ≡ pos w) ⊎ ((m : ℕ) × (signed_value w ≡ negsuc m) × (w + suc m ≡ 2 ^ 32))
 signed_value_form w h =
     elim (word_cases w h) [ inl e ↦ inl e | inr e ↦ inr (below_zero (signed_value w) w e h) ]
 
--- with one factor below 0, and with both
+-- products with one factor below 0, and with both
 product_of_one : (n a b x : ℕ) → b + x ≡ n → neg_ℤ (pos (a * x)) +ℤ pos (a * n) ≡ pos (a * b)
 product_of_one n a b x e = let f : a * n ≡ a * b + a * x = ap (λ t. a * t) (sym e) ∙ mul-add a b x in omega (arith, ints)
 

@@ -1,10 +1,10 @@
--- The whole number that a word stands for, and each operation on words as a formula over whole numbers.
+-- The whole number that a word represents, and each operation on words as a formula over whole numbers.
 pub mod Words
--- The operators of the intermediate languages, what each gives, and its name.
+-- The operators of the intermediate languages: their values, and their names.
 pub mod Operators
--- How wide the elements of an object are, what an element keeps of a word, and how many words elements take.
+-- How wide an object's elements are, what an element keeps of a word, and how many words a number of elements fills.
 pub mod Widths
--- Worked values of these, each by computation; no contract rests on them.
+-- Worked values of these definitions, each shown by computation. No contract depends on them.
 pub mod rows
--- What only private contracts and proofs speak of.
+-- Definitions that only private contracts and proofs use.
 pub mod internal

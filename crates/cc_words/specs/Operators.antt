@@ -1,4 +1,4 @@
--- The operators of the intermediate languages, three on one word and nineteen on two: what each gives, and its name in a listing.
+-- The operators of the intermediate languages, three on one word and nineteen on two: their values, and their names in a listing.
 use Rattle.std.specs.Prelude.{ℕ, List, Option, Some, codes}
 use Rattle.cc_words.specs.declared.operators.Unary.{Unary}
 use Rattle.cc_words.specs.declared.operators.Unary.TheVariants.{Neg, Complement, IsZero}
@@ -6,13 +6,13 @@ use Rattle.cc_words.specs.declared.operators.Binary.{Binary}
 use Rattle.cc_words.specs.declared.operators.Binary.TheVariants.{Add, Sub, Mul, DivS, DivU, RemS, RemU, Shl, ShrS, ShrU, And, Or, Xor, Eq, Ne, LtS, LtU, LeS, LeU}
 use Rattle.cc_words.specs.Words.{add, sub, mul, neg, eq, ne, lt_s, le_s, lt_u, le_u, is_zero, div_s, rem_s, div_u, rem_u, shl, shr_s, shr_u, and, or, xor, complement}
 
--- what an operator on one word gives
+-- the value of an operator on one word
 abbrev pub apply_unary : Unary → ℕ → ℕ
 apply_unary Neg w = neg w
 apply_unary Complement w = complement w
 apply_unary IsZero w = is_zero w
 
--- what an operator on two words gives, or none where C has no answer
+-- the value of an operator on two words, or None if C leaves it undefined
 -- ORDER Binary
 abbrev pub apply_binary : Binary → ℕ → ℕ → Option ℕ
 apply_binary Add a b = Some (add a b)

@@ -1,3 +1,3 @@
--- What only private contracts and proofs speak of.
+-- Definitions that only private contracts and proofs use.
 -- what a word is
 pub mod Word

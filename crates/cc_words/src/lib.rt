@@ -1,9 +1,12 @@
-//! The operations of a 32-bit machine word, as C99 and RV32IM have them: sums, comparisons, divisions, shifts.
-//! Free functions on `u32`; a signed operation reads its words in two's complement. `operators` has the operators of the
-//! intermediate languages as values, and how wide the elements of an object are.
-//! Each call answers its formula over whole numbers, `specs/Words.antt`; an operation that C leaves
-//! undefined answers `None`. No call takes memory, and none can fail otherwise.
-//! Hands out the calls, the operators, the definitions (`specs/`) and their laws (`proofs/`).
+//! The operations on a 32-bit machine word that C99 and RV32IM have: sums, comparisons, divisions, shifts.
+//!
+//! They are free functions on `u32`. A signed operation reads its words in two's complement. Each returns the value of its
+//! formula over whole numbers in `specs/Words.antt`, and `None` if C leaves the operation undefined. No call takes memory or
+//! fails in any other way.
+//!
+//! `operators` has the operators of the intermediate languages as values, and the width of an object's elements.
+//!
+//! The crate exports the calls, the operators, their definitions (`specs/`) and the laws that hold of them (`proofs/`).
 #![tactic(auto)]
 
 mod operators;
@@ -34,42 +37,42 @@ pub fn mul(left: u32, right: u32) -> u32
     left.wrapping_mul(right)
 }
 
-/// 1 where the words are equal, else 0 (C99 6.5.9).
+/// 1 if the words are equal, else 0 (C99 6.5.9).
 pub fn eq(left: u32, right: u32) -> u32
     ensures { result ≡ words.eq left right }
 {
     u32::from(left == right)
 }
 
-/// 1 where the words differ, else 0 (C99 6.5.9).
+/// 1 if the words differ, else 0 (C99 6.5.9).
 pub fn ne(left: u32, right: u32) -> u32
     ensures { result ≡ words.ne left right }
 {
     u32::from(left != right)
 }
 
-/// 1 where `left < right` as signed numbers, else 0 (C99 6.5.8).
+/// 1 if `left < right` as signed numbers, else 0 (C99 6.5.8).
 pub fn lt_s(left: u32, right: u32) -> u32
     ensures { result ≡ words.lt_s left right }
 {
     u32::from(left.cast_signed() < right.cast_signed())
 }
 
-/// 1 where `left < right` as unsigned numbers, else 0 (C99 6.5.8).
+/// 1 if `left < right` as unsigned numbers, else 0 (C99 6.5.8).
 pub fn lt_u(left: u32, right: u32) -> u32
     ensures { result ≡ words.lt_u left right }
 {
     u32::from(left < right)
 }
 
-/// 1 where `left <= right` as signed numbers, else 0 (C99 6.5.8).
+/// 1 if `left <= right` as signed numbers, else 0 (C99 6.5.8).
 pub fn le_s(left: u32, right: u32) -> u32
     ensures { result ≡ words.le_s left right }
 {
     u32::from(left.cast_signed() <= right.cast_signed())
 }
 
-/// 1 where `left <= right` as unsigned numbers, else 0 (C99 6.5.8).
+/// 1 if `left <= right` as unsigned numbers, else 0 (C99 6.5.8).
 pub fn le_u(left: u32, right: u32) -> u32
     ensures { result ≡ words.le_u left right }
 {
@@ -78,7 +81,7 @@ pub fn le_u(left: u32, right: u32) -> u32
 
 /// The quotient of the signed numbers, truncated toward zero (C99 6.5.5).
 ///
-/// `None` exactly where `divisor` is 0, and for -2147483648 by -1.
+/// `None` exactly if `divisor` is 0, or -2147483648 is divided by -1.
 pub fn div_s(dividend: u32, divisor: u32) -> Option<u32>
     ensures { result ≡ words.div_s dividend divisor }
 {
@@ -88,7 +91,7 @@ pub fn div_s(dividend: u32, divisor: u32) -> Option<u32>
 
 /// The quotient of the unsigned numbers, rounded down (C99 6.5.5).
 ///
-/// `None` exactly where `divisor` is 0.
+/// `None` exactly if `divisor` is 0.
 pub fn div_u(dividend: u32, divisor: u32) -> Option<u32>
     ensures { result ≡ words.div_u dividend divisor }
 {
@@ -97,7 +100,7 @@ pub fn div_u(dividend: u32, divisor: u32) -> Option<u32>
 
 /// The remainder of the signed numbers, with the sign of `dividend` (C99 6.5.5).
 ///
-/// `None` exactly where `divisor` is 0, and for -2147483648 by -1.
+/// `None` exactly if `divisor` is 0, or -2147483648 is divided by -1.
 pub fn rem_s(dividend: u32, divisor: u32) -> Option<u32>
     ensures { result ≡ words.rem_s dividend divisor }
 {
@@ -107,7 +110,7 @@ pub fn rem_s(dividend: u32, divisor: u32) -> Option<u32>
 
 /// The remainder of the unsigned numbers (C99 6.5.5).
 ///
-/// `None` exactly where `divisor` is 0.
+/// `None` exactly if `divisor` is 0.
 pub fn rem_u(dividend: u32, divisor: u32) -> Option<u32>
     ensures { result ≡ words.rem_u dividend divisor }
 {
@@ -116,16 +119,16 @@ pub fn rem_u(dividend: u32, divisor: u32) -> Option<u32>
 
 /// `value` times 2^`count`, modulo 2^32, signed or not (C99 6.5.7).
 ///
-/// `None` exactly where `count` is 32 or more.
+/// `None` exactly if `count` is 32 or more.
 pub fn shl(value: u32, count: u32) -> Option<u32>
     ensures { result ≡ words.shl value count }
 {
     value.checked_shl(count)
 }
 
-/// The signed number divided by 2^`count`, rounded down: copies of its sign come in (C99 6.5.7).
+/// The signed number divided by 2^`count`, rounded down: copies of its sign bit are shifted in (C99 6.5.7).
 ///
-/// `None` exactly where `count` is 32 or more.
+/// `None` exactly if `count` is 32 or more.
 pub fn shr_s(value: u32, count: u32) -> Option<u32>
     ensures { result ≡ words.shr_s value count }
 {
@@ -133,9 +136,9 @@ pub fn shr_s(value: u32, count: u32) -> Option<u32>
     Some(shifted.cast_unsigned())
 }
 
-/// The unsigned number divided by 2^`count`, rounded down: zeros come in (C99 6.5.7).
+/// The unsigned number divided by 2^`count`, rounded down: zeros are shifted in (C99 6.5.7).
 ///
-/// `None` exactly where `count` is 32 or more.
+/// `None` exactly if `count` is 32 or more.
 pub fn shr_u(value: u32, count: u32) -> Option<u32>
     ensures { result ≡ words.shr_u value count }
 {

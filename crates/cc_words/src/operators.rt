@@ -1,5 +1,5 @@
-// The operators of the intermediate languages: three on one word, nineteen on two; and how wide the elements are that they load
-// and store. Every language that comes after C has these and no others, so they and what they give stand here once.
+// The operators of the intermediate languages (three on one word, nineteen on two), and the width of the elements that these
+// languages load and store. Every language after C has exactly these operators, so they are defined here once, with their values.
 
 ghost use Rattle.std.specs.Prelude.{◌≡◌};
 ghost use Rattle.cc_words.specs.Operators.{apply_unary, apply_binary, unary_text, binary_text};
@@ -13,16 +13,16 @@ use super::{
 /// An operator on one word.
 #[derive(Clone, Copy)]
 pub enum Unary {
-    /// 0 minus the word (C99 6.5.3.3).
+    /// 0 minus the word (C99 6.5.3.3): `-`.
     Neg,
-    /// 1 where the word has a 0, digit by digit (C99 6.5.3.3).
+    /// Each bit flipped (C99 6.5.3.3): `~`.
     Complement,
-    /// 1 for 0, else 0: `!` (C99 6.5.3.3).
+    /// 1 for 0, 0 for any other word (C99 6.5.3.3): `!`.
     IsZero,
 }
 
 impl Unary {
-    /// What it gives.
+    /// The operator's value for this word.
     pub fn apply(self, word: u32) -> u32
         ensures { result ≡ apply_unary self word }
     {
@@ -33,7 +33,7 @@ impl Unary {
         }
     }
 
-    /// Its name in a listing.
+    /// The operator's name in a listing.
     pub fn name(self) -> &'static str
         ensures { result.now ≡ unary_text self }
     {
@@ -46,7 +46,7 @@ impl Unary {
 }
 
 // ORDER Binary
-/// An operator on two words. `S` reads them as signed numbers, `U` as unsigned ones.
+/// An operator on two words. An `S` at the end of a name reads them as signed numbers, a `U` as unsigned ones.
 #[derive(Clone, Copy)]
 pub enum Binary {
     /// `+` (C99 6.5.6).
@@ -90,9 +90,9 @@ pub enum Binary {
 }
 
 impl Binary {
-    /// What it gives.
+    /// The operator's value for these words.
     ///
-    /// `None` exactly where C has no answer: a divisor of 0, -2147483648 by -1 in a signed division, a count of 32 or more.
+    /// `None` exactly if C leaves it undefined: a divisor of 0, a signed division of -2147483648 by -1, or a shift by 32 or more.
     pub fn apply(self, left: u32, right: u32) -> Option<u32>
         ensures { result ≡ apply_binary self left right }
     {
@@ -120,7 +120,7 @@ impl Binary {
         }
     }
 
-    /// Its name in a listing.
+    /// The operator's name in a listing.
     pub fn name(self) -> &'static str
         ensures { result.now ≡ binary_text self }
     {
@@ -159,7 +159,7 @@ pub enum Width {
 }
 
 impl Width {
-    /// How many bytes an element has.
+    /// How many bytes an element takes: 1 or 4.
     pub fn bytes(self) -> u8
         ensures { result ≡ bytes self }
     {
@@ -169,7 +169,7 @@ impl Width {
         }
     }
 
-    /// What an element keeps of a word: a byte its low eight bits (C99 6.3.1.3).
+    /// What an element keeps of a word that is stored in it: a byte keeps the low eight bits (C99 6.3.1.3).
     #[inline(always)]
     pub fn kept(self, word: u32) -> u32
         ensures { result ≡ kept self word }
@@ -180,7 +180,7 @@ impl Width {
         }
     }
 
-    /// How many words this many elements take, the last one filled up.
+    /// How many words this many elements fill, a partly filled last word included.
     pub fn words_of(self, elements: usize) -> usize
         ensures { result ≡ words_of self elements }
     {
@@ -190,7 +190,7 @@ impl Width {
         }
     }
 
-    /// What stands in front of an element in a listing: `byte ` for a byte, nothing for a word.
+    /// What a listing writes before an element: `byte ` for a byte, nothing for a word.
     pub fn mark(self) -> &'static str
         ensures { result.now ≡ width_text self }
     {

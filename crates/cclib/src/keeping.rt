@@ -2,6 +2,7 @@
 
 ghost use Rattle.cc_command_line.specs.Work.{IsBoundedLook};
 
+use cc_answers::Persons;
 use cc_command_line::{Keeping, Wanted};
 use cc_filing::take_out_of_file;
 use cc_keeping::{
@@ -11,6 +12,7 @@ use cc_keeping::{
 use std::alloc::AllocError;
 use std::io::{Input, Print, Write};
 use std::process;
+use std::rt::Clock;
 
 /// Takes a part of a unit out of a library, as it is or as a command stored it; the status. The error is lack of memory before it began.
 pub fn take_out<R: AllocGlobal + Print, E: Write + Drop>(
@@ -26,33 +28,44 @@ pub fn take_out<R: AllocGlobal + Print, E: Write + Drop>(
     }
 }
 
-/// Looks into libraries; the status. The error is lack of memory before it began.
-pub fn look_into<R: AllocGlobal + Input + Print, E: Write + Drop>(
+/// Looks into libraries; the status. Some works write to `answers`, others to standard output. The error is lack of memory before it began.
+pub fn look_into<
+    R: AllocGlobal + Clock + Input + Print + Copy + Drop,
+    A: Write + Drop,
+    E: Write + Drop,
+>(
     rt: &R,
     files: &HostRuntime,
     asked: &Keeping,
-    is_quiet: bool,
+    persons: Persons,
+    answers: A,
     errors: E,
 ) -> Result<u8, AllocError>
     requires { IsBoundedLook asked.now }
 {
+    let is_quiet = persons.is_quiet;
     match asked {
-        Keeping::Call(asked) => call_in_file(rt, files, asked, is_quiet, errors),
-        Keeping::Size(asked) => size_in_file(rt, files, asked, is_quiet, errors),
+        Keeping::Size(asked) => size_in_file(rt, files, asked, is_quiet, answers, errors),
+        Keeping::Call(asked) => call_in_file(rt, files, asked, persons, answers, errors),
         Keeping::Diff(left, right) => {
-            diff_files(rt, files, left.as_str(), right.as_str(), is_quiet, errors)
+            let (left, right) = (left.as_str(), right.as_str());
+            diff_files(rt, files, left, right, is_quiet, answers, errors)
         }
         Keeping::Log(disk, name) => {
             let name = match name {
                 Some(name) => Some(name.as_str()),
                 None => None,
             };
-            log_of_file(rt, files, disk.as_str(), name, is_quiet, errors)
+            log_of_file(rt, files, disk.as_str(), name, is_quiet, answers, errors)
         }
-        Keeping::Restore(asked) => restore_in_file(rt, files, asked, is_quiet, errors),
+        Keeping::Restore(asked) => {
+            drop(answers);
+            restore_in_file(rt, files, asked, is_quiet, errors)
+        }
         Keeping::Copy(asked) => {
+            drop(answers);
             let process = process::id(files.process());
-            copy_file(rt, files, process, asked, is_quiet, errors)
+            copy_file(rt, files, process, asked, persons, errors)
         }
     }
 }

@@ -9,7 +9,7 @@ use cc_session::{Gate, SessionEnd, session_and_explain_in};
 use cc_tasks::mode_of;
 use cc_watch::{AnswerProgress, FaultWatch};
 use std::alloc::AllocError;
-use std::io::{self, BufWriter, Input, IsTerminal, Print, Write};
+use std::io::{BufWriter, Input, IsTerminal, Write};
 use std::rt::Clock;
 use std::sync::Wait;
 use std::thread::Threads;
@@ -45,31 +45,21 @@ fn is_out_of_sight(files: &HostRuntime) -> bool {
 }
 
 /// Does the script on standard input over the library in a file; the status. The error is lack of memory before it began.
-pub fn library_session<R, E: Write + Drop>(
+pub fn library_session<R, A: Write + Drop, E: Write + Drop>(
     rt: &R,
     files: &HostRuntime,
     asked: &Session,
     persons: Persons,
+    answers: A,
     errors: E,
 ) -> Result<u8, AllocError>
 where
-    R: AllocGlobal
-        + Clock
-        + Input
-        + Print
-        + Eprint
-        + Threads
-        + Wait
-        + Copy
-        + Drop
-        + Send
-        + Sync
-        + 'static,
+    R: AllocGlobal + Clock + Input + Eprint + Threads + Wait + Copy + Drop + Send + Sync + 'static,
     requires some { 1 ≤ asked.now.workers }
     requires few { asked.now.workers ≤ 8 }
 {
     let (Ok(buffered), Ok(errors)) = (
-        BufWriter::new(rt.alloc(), io::writer(rt)),
+        BufWriter::new(rt.alloc(), answers),
         BufWriter::new(rt.alloc(), errors),
     ) else {
         return Err(AllocError);
@@ -80,7 +70,12 @@ where
     } else {
         None
     };
-    let mut writer = AnswerProgress::new(FaultWatch::new(buffered), *rt, screen);
+    let mut writer = AnswerProgress::new(
+        FaultWatch::new(buffered),
+        *rt,
+        screen,
+        "lines of answers",
+    );
     let mut told = Telling {
         errors,
         is_quiet: persons.is_quiet,

@@ -1,16 +1,19 @@
 //! The program `cclib`: reads a C program from standard input or from files, and checks, interprets, runs or lists it, or does a script over a library.
 //! How a command line is read is the matter of `cc_command_line`, how a task is done that of `cc_tasks`, a script that of `cc_session`, the
 //! file of a library and what is taken out of one that of `cc_filing`, what looks into libraries that of `cc_keeping`, a server's client that of
-//! `cc_submit`. `keeping` looks into libraries, `library` has a session over a file, `serving` a server, `stack` what the stack needs, `texts`
-//! a program that comes in files, `version` of which sources the program is.
+//! `cc_submit`, what is printed as JSON that of `cc_json`, a run that is watched that of `cc_cover`. `keeping` looks into libraries, `library`
+//! has a session over a file, `serving` a server, `stack` what the stack needs, `texts` a program that comes in files, `in_json` does a work in
+//! JSON, `watching` runs that are watched, `version` names the sources of the program.
 #![tactic(auto)]
 
+mod in_json;
 mod keeping;
 mod library;
 mod serving;
 mod stack;
 mod texts;
 mod version;
+mod watching;
 
 ghost use Rattle.cc_command_line.specs.Work.{IsAllowed};
 
@@ -20,6 +23,7 @@ use cc_descriptors::{System, take_free};
 use cc_submit::submit_script;
 use cc_task::{Kind, Task};
 use cc_tasks::{Fault, carry_out, perform_and_explain, perform_and_explain_stages, perform_stages};
+use in_json::do_work_in_json;
 use keeping::{look_into, take_out};
 use library::library_session;
 use serving::serve_folder;
@@ -33,6 +37,7 @@ use std::sync::Wait;
 use std::thread::Threads;
 use texts::{start_stages_of_texts, start_texts};
 use version::print_sources;
+use watching::{start_cover, start_trace};
 
 /// Does what the command line asks; the status is 0 for an answer, 1 for a fault, 2 for a refused command line.
 ///
@@ -177,6 +182,7 @@ where
     let Invocation {
         work,
         is_quiet,
+        is_json,
         files: names,
     } = match asked {
         Ok(request) => request,
@@ -188,7 +194,21 @@ where
         drop(names);
         return Err(AllocError);
     }
-    do_work(rt, files, errors, persons, work, names.as_slice())
+    if is_json {
+        return do_work_in_json(rt, files, is_quiet, work, names);
+    }
+    let is_seen = files.stdout().is_terminal();
+    let answers = io::writer(rt);
+    do_work(
+        rt,
+        files,
+        answers,
+        errors,
+        is_seen,
+        persons,
+        work,
+        names.as_slice(),
+    )
 }
 
 // Whether a work may need more of the stack than a process begins with: each but a client's, which sends texts as they are.
@@ -196,11 +216,14 @@ fn goes_deep(work: &Work) -> bool {
     !matches!(work, Work::Submit(_))
 }
 
-// Does a work; if its program is in files, these are named.
-fn do_work<R, E: Write + Drop>(
+/// Does a work; if its program is in files, these are named. What can be printed as JSON but a task is written to `answers`, which a person may
+/// see, the rest to standard output.
+pub(crate) fn do_work<R, A: Write + Drop, E: Write + Drop>(
     rt: &R,
     files: &HostRuntime,
+    answers: A,
     errors: E,
+    is_seen: bool,
     persons: Persons,
     work: Work,
     names: &[String],
@@ -222,18 +245,33 @@ where
         + 'static,
     requires allowed { IsAllowed work }
 {
+    let is_quiet = persons.is_quiet;
     match work {
-        Work::One(task) => start(rt, files, task, names, persons.is_quiet, errors),
-        Work::Stages(kind, function) => {
-            start_stages(rt, files, kind, function, names, persons.is_quiet, errors)
+        Work::One(task) => {
+            drop(answers);
+            start(rt, files, task, names, is_quiet, errors)
         }
-        Work::TakeOut(wanted) => take_out(rt, files, &wanted, persons.is_quiet, errors),
-        Work::Keep(asked) => look_into(rt, files, &asked, persons.is_quiet, errors),
-        Work::Library(asked) => library_session(rt, files, &asked, persons, errors),
-        Work::Serve(asked) => serve_folder(rt, files, &asked, persons.is_quiet, errors),
+        Work::Stages(kind, function) => {
+            drop(answers);
+            start_stages(rt, files, kind, function, names, is_quiet, errors)
+        }
+        Work::Trace(asked) => start_trace(rt, files, asked, names, is_quiet, answers, errors),
+        Work::Cover(asked) => start_cover(rt, files, asked, names, persons, answers, errors),
+        Work::TakeOut(wanted) => {
+            drop(answers);
+            take_out(rt, files, &wanted, is_quiet, errors)
+        }
+        Work::Keep(asked) => look_into(rt, files, &asked, persons, answers, errors),
+        Work::Library(asked) => library_session(rt, files, &asked, persons, answers, errors),
+        Work::Serve(asked) => {
+            drop(answers);
+            serve_folder(rt, files, &asked, is_quiet, errors)
+        }
         Work::Submit(asked) => {
             let process = process::id(files.process());
-            submit_script(rt, files, process, &asked, names, persons, errors)
+            submit_script(
+                rt, files, process, &asked, names, persons, is_seen, answers, errors,
+            )
         }
     }
 }

@@ -1,4 +1,4 @@
--- Two builds: one in which each source has one piece or two, and the first holds the unit; and one that makes nothing.
+-- Two builds: one in which each source has one or two pieces and the first holds the unit, and one that makes nothing.
 use Rattle.std.specs.Prelude.{ℕ, ◌≡◌, Bool, true, false, List, [], ◌∷◌, length, Result, Ok, Err, All, if◌then◌else◌, ◌==◌, refl}
 use Rattle.std.proofs.Common.{sym, ap, subst, ◌∙◌, cond, arith}
 use Rattle.cc_unit.specs.declared.unit.StoredUnit.{StoredUnit}
@@ -8,17 +8,17 @@ use Rattle.cc_core.specs.Rules.{Rules, AreWhole}
 abbrev pub Seen : Type 0
 Seen = StoredUnit × ℕ
 
--- a source that begins with `#` is refused with 11; one that begins with `2` has two pieces, each other one
+-- a source that begins with `#` is refused with 11; one that begins with `2` has two pieces, and each other one has one
 abbrev pub plan : List ℕ → Result ℕ ℕ
 plan [] = Ok 1
 plan (first ∷ later) = if first == 35 then Err 11 else (if first == 50 then Ok 2 else Ok 1)
 
--- the unit, but that a source that begins with `!` is refused with 25
+-- the unit, unless the source begins with `!`: that is refused with 25
 abbrev pub linked : List ℕ → StoredUnit → Result StoredUnit ℕ
 linked [] unit = Ok unit
 linked (first ∷ later) unit = if first == 33 then Err 25 else Ok unit
 
--- the unit of the first piece; no pieces are refused with 26
+-- the unit of the first piece; with no pieces, refused with 26
 abbrev pub unit_of : List ℕ → List Seen → Result StoredUnit ℕ
 unit_of source [] = Err 26
 unit_of source (piece ∷ later) = linked source piece.0
@@ -34,7 +34,7 @@ planned source = (plan source, refl)
 abbrev pub is_right : StoredUnit → Type 0
 is_right unit = unit.image.code ≡ length unit.source ∷ []
 
--- the unit of a piece is so
+-- the unit of a piece is right
 abbrev pub keeps : Seen → Type 0
 keeps piece = is_right piece.0
 
@@ -46,7 +46,7 @@ linked_same : (source : List ℕ) (u v : StoredUnit) → linked source u ≡ Ok 
 linked_same [] u v is = cc
 linked_same (first ∷ later) u v is = chosen (first == 33) u v is
 
--- the unit of the first piece is that of the source that the piece names, and right as the piece keeps
+-- the unit of the first piece has the source that the piece names, and is right since the piece is
 pub law : (source : List ℕ) (pieces : List Seen) (unit : StoredUnit) → AreWhole rules source pieces → All keeps pieces → unit_of source pieces ≡ Ok unit → (unit.source ≡ source) × is_right unit
 law source [] unit whole kept is = absurd (cc)
 law source (piece ∷ later) unit whole kept is =

@@ -1,4 +1,4 @@
-// Two builds: one whose units have to be right, and one of which anything is.
+// Two builds: one whose units have to be right, and one by which any unit is right.
 
 ghost use Rattle.tests_core.specs.Builds.{rules, keeps, is_right, planned, law, nothing, is_anything, nothing_planned, nothing_law};
 
@@ -11,9 +11,9 @@ use std::alloc::Global;
 use std::sync::Arc;
 use std::test::Fail;
 
-/// The build in which a source that begins with `2` has two pieces, and each other one. A source that begins with `#` is
-/// refused with 11, its pieces with 25 where it begins with `!`. Its units have one code word, the length of the source, and
-/// where that begins with `c` a certificate of as many bytes as its second byte says.
+/// A build in which a source that begins with `2` has two pieces, and each other source has one. A source that begins with `#` is refused
+/// with 11, and the pieces of one that begins with `!` with 25. The image of a unit has one code word, the length of the source; and if the
+/// source begins with `c`, the unit has a certificate of as many bytes as the source's second byte says.
 #[derive(Drop)]
 pub struct FewPieces {}
 
@@ -64,7 +64,7 @@ impl Scripted for FewPieces {
     }
 }
 
-/// The build that makes nothing: each source is refused with 11. Any unit is right by it, so it opens any library.
+/// A build that makes nothing: each source is refused with 11. By it any unit is right, so it opens any library.
 #[derive(Drop)]
 pub struct Nothing {}
 

@@ -18,7 +18,7 @@ const UNLINKED: &str = "!xx";
 
 const LONG: &str = "2xx";
 
-// The worked table's first line: two clients add `a`, with sources of their own.
+// The first line of the worked table: two clients add `a`, each with a source of its own.
 const TWO_CLIENTS: [Line; 6] = [
     Add(1, b'a', ONE),
     Add(2, b'a', TWO),
@@ -49,8 +49,8 @@ fn two_clients_add_one_name(rt: HostRuntime) -> Result<(), Fail> {
     ))
 }
 
-// Begin's numbers: the source's, the piece's, the build's for the pieces, and then the map's. Then a unit comes, a new one in its
-// place, and then none.
+// The refusals at the beginning of a commit: the source's, a piece's, the build's for the pieces, and then the map's. Then a unit is added,
+// replaced and withdrawn.
 const CHANGED: [(Line, u32); 25] = [
     (Add(7, b'a', BAD), 0),
     (Begin(7), 11),
@@ -84,7 +84,7 @@ fn refused_and_changed(rt: HostRuntime) -> Result<(), Fail> {
     passes(begins(rt.alloc(), 200, &CHANGED, &(None, None, None, 3)))
 }
 
-// Events that are not possible: before a piece is made, while a worker has one, and while another client's commit goes on.
+// Events that are not possible: before a piece is made, while a worker has one, and while another client's commit is under way.
 const NOT_NOW: [(Line, u32); 19] = [
     (Ack(1), 29),
     (Begin(1), 29),
@@ -112,7 +112,8 @@ fn not_now(rt: HostRuntime) -> Result<(), Fail> {
     passes(begins(rt.alloc(), 200, &NOT_NOW, &(None, None, None, 0)))
 }
 
-// Two pieces come out of order, and one of them is refused; then both are, and the number of the least comes; then both are made.
+// Two pieces come out of order: first one of them is refused; then both are, and the number of the first piece is the answer; then both are
+// made.
 const TWO_PIECES: [(Line, u32); 20] = [
     (Add(1, b'a', LONG), 0),
     (Take(1, 1, 1), 0),
@@ -141,8 +142,8 @@ fn two_pieces(rt: HostRuntime) -> Result<(), Fail> {
     passes(begins(rt.alloc(), 200, &TWO_PIECES, &(Some(LONG), None, None, 1)))
 }
 
-// The record of a name of one byte and a source of three takes 28 bytes: gate, length, 4 bytes up to the name, 7 of the source,
-// 8 of the one code word, 4 of no globals. An area of 64 bytes has room for two and their closed gate, and not for three.
+// The record of a name of one byte and a source of three takes 28 bytes: the gate, the length, 4 bytes up to the name, 7 for the source, 8
+// for the one code word, 4 for no globals. An area of 64 bytes has room for two and their closed gate, and not for three.
 const FULL: [(Line, u32); 5] = [
     (Put(3, 1, b'a', ONE), 1),
     (Put(3, 2, b'b', TWO), 1),
@@ -156,8 +157,8 @@ fn full_area(rt: HostRuntime) -> Result<(), Fail> {
     passes(begins(rt.alloc(), 64, &FULL, &(Some(ONE), Some(TWO), None, 2)))
 }
 
-// With a certificate a record takes its length, 4 bytes, and its bytes more: an area of 64 bytes has room for 31, and not for 32.
-// What has room is kept, by a rewrite and by a crash.
+// With a certificate a record takes that much more: 4 bytes for its length, and its bytes. An area of 64 bytes has room for one of 31
+// bytes, and not for one of 32. A rewrite and a crash keep a record with a certificate that has room.
 const ROOM: &str = "c\x1fx";
 
 const NO_ROOM: &str = "c\x20x";
@@ -177,7 +178,7 @@ fn a_certificate_that_has_no_room(rt: HostRuntime) -> Result<(), Fail> {
     passes(begins(rt.alloc(), 64, &CERTIFIED, &(Some(ROOM), None, None, 1)))
 }
 
-// Lists give back what they were made of; numbers are those of the faults.
+// Lists give back what they were made of; the numbers are those of the faults.
 #[test]
 fn lists_and_numbers(rt: HostRuntime) -> Result<(), Fail> {
     let numbers = [

@@ -1,4 +1,4 @@
-// Scripts over the build that compiles: sources are C texts, pieces the code of their functions, and a unit is run on the simulator.
+// Scripts over the build that compiles: sources are C texts, pieces are the code of their functions, and a unit is run on the simulator.
 
 use crate::script::{Line, Scripted, answers, name_of};
 use cc_core::state::State;
@@ -24,7 +24,7 @@ impl Scripted for CcBuild {
     }
 }
 
-// Whether an image writes that word alone, from these words of input, and exits with 0.
+// Whether an image that reads these words writes that word alone, and exits with 0.
 fn writes(alloc: Global, image: &Image, input: &[u32], word: u32) -> Result<bool, Fail> {
     let mut machine = Machine::new(alloc, image, input)?;
     let outcome = machine.run(100_000);
@@ -33,11 +33,11 @@ fn writes(alloc: Global, image: &Image, input: &[u32], word: u32) -> Result<bool
     Ok(same && outcome? == MachineOutcome::Exited(0))
 }
 
-/// What the name `a` is to have: its source, and what its image writes of the input 6.
+/// What the name `a` should have: its source, and what its image writes for the input 6.
 pub type Held = Option<(&'static str, u32)>;
 
-// Whether the library has that source under the name `a`, in a unit whose image turns the input 6 into that word; or no such name, where no
-// source is given.
+// Whether the name `a` has that source in the library, in a unit whose image turns the input 6 into that word; or is absent, if no source
+// is given.
 fn has(alloc: Global, state: &State<CcBuild>, wanted: Held) -> Result<bool, Fail> {
     let name = name_of(b'a')?;
     match (state.library().get(&name), wanted) {
@@ -49,7 +49,7 @@ fn has(alloc: Global, state: &State<CcBuild>, wanted: Held) -> Result<bool, Fail
     }
 }
 
-/// Whether these events from that state on, one after the other, answer so, and the name has that then.
+/// Whether these events, one after the other from that state on, give these answers, and the name then has that.
 pub fn leaves(
     alloc: Global,
     mut state: State<CcBuild>,

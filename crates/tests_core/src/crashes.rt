@@ -24,8 +24,8 @@ const COMMIT: [Line; 8] = [
     SyncGate,
 ];
 
-// A crash after a number of events of the commit and one event more, whether the unit is there after the recovery, and how many
-// commands were acknowledged.
+// A crash after a number of events of the commit and one more event: whether the unit is there after the recovery, and how many commands
+// are acknowledged.
 type Row = (usize, Line, u8, bool, usize);
 
 // Adds the lines of a row.
@@ -37,7 +37,7 @@ fn add_lines(lines: &mut Vec<Line>, done: usize, last: Line, byte: u8) -> Result
     Ok(())
 }
 
-// Whether what is recovered is that.
+// Whether that is recovered.
 fn recovers(alloc: Global, row: Row) -> Result<bool, Fail> {
     let (done, last, byte, there, acknowledged) = row;
     let mut lines = Vec::new(alloc);
@@ -51,14 +51,14 @@ const CRASHES: [Row; 12] = [
     (4, WriteBody, 0x00, false, 0),
     (4, WriteBody, 0xa5, false, 0),
     (4, WriteBody, 0xff, false, 0),
-    // Within the gate's write the unit is there where the gate was left open.
+    // In the middle of writing the gate: the unit is there if the gate was left open.
     (6, WriteGate, 0x00, false, 0),
     (6, WriteGate, 0xa5, true, 0),
     // After the reply it is there.
     (8, Ack(1), 0x00, true, 1),
     (8, Ack(1), 0xa5, true, 1),
     (8, Ack(1), 0xff, true, 1),
-    // Each device event fails in its turn.
+    // Each device event fails, one at a time.
     (4, Fails, 0xa5, false, 0),
     (5, Fails, 0xa5, false, 0),
     (6, Fails, 0xa5, true, 0),
@@ -73,9 +73,9 @@ fn a_crash_at_each_event(rt: HostRuntime) -> Result<(), Fail> {
     Ok(())
 }
 
-// From a crash until the recovery nothing else is possible; a failed step answers 35 and every later commit 36, until a
-// recovery; then commits are possible again, and two records are recovered after two crashes in a row. The first crash leaves
-// the first record's gate open.
+// From a crash until the recovery nothing else is possible; a failed step answers 35 and every later commit 36, until a recovery; then
+// commits are possible again, and two records are recovered after two crashes in a row. The first crash leaves the gate of the first record
+// open.
 const FAILED: [(Line, u32); 22] = [
     (Crash(0xa5), 0),
     (Add(4, b'b', TWO), 29),

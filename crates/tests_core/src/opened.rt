@@ -22,7 +22,7 @@ use std::sync::Arc;
 use std::test::Fail;
 use tests_texts::verdict::passes;
 
-// The library with one unit more, which is right for its source.
+// The library with one more unit, which is right for its source.
 fn with_unit(
     alloc: Global,
     mut library: Library<MemoryDisk>,
@@ -67,7 +67,7 @@ fn opened(alloc: Global) -> Result<State<FewPieces>, Fail> {
     }
 }
 
-// The disk's names are there, and both of its records count as acknowledged; a third unit is made.
+// The names on the disk are there, and both of its records count as acknowledged; a third unit is made.
 const MADE: [(Line, u32); 5] = [
     (Add(1, b'a', TWO), 0),
     (Make(1, 1, TWO), 0),
@@ -79,7 +79,7 @@ const MADE: [(Line, u32); 5] = [
 // It is committed, and a crash comes after it.
 const ACKNOWLEDGED: [(Line, u32); 3] = [(Commit(1), 1), (Crash(0x00), 0), (Recover, 0)];
 
-// A crash within the write of the gate leaves it open, and then it is settled.
+// A crash in the middle of writing the gate leaves it open, and the recovery keeps the unit for good.
 const TORN: [(Line, u32); 6] = [
     (UpToGate(1), 0),
     (Crash(0xa5), 0),
@@ -89,10 +89,10 @@ const TORN: [(Line, u32); 6] = [
     (Recover, 0),
 ];
 
-// A crash leaves it closed.
+// A crash leaves the gate closed.
 const LOST: [(Line, u32); 3] = [(UpToGate(1), 0), (Crash(0x00), 0), (Recover, 0)];
 
-// Whether the unit is made on that state, these events answer so behind that, and leave these.
+// Whether the unit is made on that state, and the events after that give these answers and leave this library.
 fn goes_on(alloc: Global, last: &[(Line, u32)], wanted: &Held) -> Result<bool, Fail> {
     let mut lines = Vec::from_slice(alloc, MADE.as_slice())?;
     lines.extend_from_slice(last)?;
@@ -109,7 +109,7 @@ fn a_third_unit(rt: HostRuntime) -> Result<(), Fail> {
     passes(goes_on(alloc, &LOST, &two))
 }
 
-// A header with areas of 64 bytes, of which the second is in use.
+// A header with areas of 64 bytes, the second of which is in use.
 const SECOND: [u8; 16] = [
     0x03, 0x43, 0x43, 0x4c, 0x49, 0x42, 0x30, 0x31, 0x40, 0x00, 0x00, 0x00, 0x00, 0x00, 0x00, 0x00,
 ];
@@ -121,7 +121,7 @@ const RECORD: [u8; 41] = [
     0x00, 0x00, 0x00, 0x00, 0x00, 0x00, 0x00, 0x00, 0x00,
 ];
 
-// A disk of 150 bytes with these from the offsets 0 and 80 on, which were written and not synced.
+// A disk of 150 bytes with these at the offsets 0 and 80, written and not synced.
 fn raw(alloc: Global, header: &[u8; 16], record: &[u8; 41]) -> Result<MemoryDisk, Fail> {
     let mut disk = MemoryDisk::new(alloc, 150)?;
     disk.write_at(0, header)?;
@@ -139,7 +139,7 @@ const WITHDRAWN: [(Line, u32); 6] = [
     (Begin(1), 32),
 ];
 
-// Whether the state has that unit, and its record counts as acknowledged; these events answer so, and leave none.
+// Whether the state has that unit, its record counts as acknowledged, and these events give these answers and leave no unit.
 fn withdraws(alloc: Global, state: &mut State<Nothing>) -> Result<bool, Fail> {
     let name = name_of(b'a')?;
     if state.library().get(&name).is_none() || state.acked().len() != 1 {
@@ -149,7 +149,7 @@ fn withdraws(alloc: Global, state: &mut State<Nothing>) -> Result<bool, Fail> {
     Ok(right && state.library().get(&name).is_none() && state.acked().len() == 2)
 }
 
-// Whether all that is so of a disk with these bytes.
+// Whether all that is so on a disk with these bytes.
 fn is_withdrawn(alloc: Global, header: &[u8; 16], record: &[u8; 41]) -> Result<bool, Fail> {
     match State::open(alloc, Nothing {}, raw(alloc, header, record)?) {
         Ok(mut state) => {
@@ -166,7 +166,7 @@ fn the_second_area(rt: HostRuntime) -> Result<(), Fail> {
     passes(is_withdrawn(rt.alloc(), &SECOND, &RECORD))
 }
 
-// Whether a disk with these bytes is not opened, with this number; it is handed back with its size.
+// Whether a disk with these bytes is refused with this number, and is handed back with its size.
 fn is_refused(
     alloc: Global,
     header: &[u8; 16],
@@ -185,11 +185,11 @@ fn is_refused(
 #[test]
 fn not_a_library(rt: HostRuntime) -> Result<(), Fail> {
     passes(is_refused(rt.alloc(), &[0; 16], &RECORD, 38))?;
-    // The length of the record is past its area.
+    // The length of the record goes past its area.
     let mut long = RECORD;
     long[1] = 0x3b;
     passes(is_refused(rt.alloc(), &SECOND, &long, 37))?;
-    // Its kind is to replace a unit, and there is none.
+    // The record replaces a unit, and there is none.
     let mut replaces = RECORD;
     replaces[6] = 0x02;
     passes(is_refused(rt.alloc(), &SECOND, &replaces, 37))

@@ -1,4 +1,4 @@
-// The pieces of the test builds: which part of which source each is, and the unit that it has.
+// The pieces of the tests' own builds: which part of which source each is, and its unit.
 
 ghost use Rattle.std.specs.Prelude.{◌≡◌, ◌↔◌, IfOk, IsTrue};
 ghost use Rattle.std.specs.Arc.{arc_value};
@@ -12,7 +12,7 @@ use std::marker::Model;
 use std::sync::Arc;
 use std::test::Fail;
 
-/// A compiled part of a source: its unit, whose image has one code word, the length of the source, and which part it is.
+/// A compiled part of a source: its unit, whose image has one code word, the length of the source; and which part it is.
 #[derive(Drop)]
 pub struct Piece {
     unit: SharedUnit,
@@ -46,8 +46,7 @@ impl Piece {
     }
 }
 
-/// How many bytes the certificate of a source's unit has, where it has one: a source that begins with `c` says it in its second
-/// byte.
+/// How many bytes the certificate of a source's unit has, if it has one: the second byte of a source that begins with `c` says it.
 pub fn certified(source: &[u8]) -> Option<usize> {
     match source {
         [b'c', count, ..] => Some(*count as usize),
@@ -63,7 +62,7 @@ fn certificate(alloc: Global, count: Option<usize>) -> Result<Option<Certificate
     }
 }
 
-/// That part of a source of at most 65,536 bytes.
+/// That part of a source. Fails if the source has more than 65,536 bytes.
 pub fn compiled(alloc: Global, source: &[u8], part: u32) -> Result<Piece, Fail>
     ensures { IfOk result (λ piece. (piece.0.source ≡ source.now) × (piece.1 ≡ part)) }
 {

@@ -15,7 +15,7 @@ pub const ONE: &str = "one";
 
 pub const TWO: &str = "two";
 
-/// What a state is to have: the sources of `a`, `b` and `c`, and how many commands were acknowledged.
+/// What a state should have: the sources of `a`, `b` and `c`, and how many commands are acknowledged.
 pub type Held = (
     Option<&'static str>,
     Option<&'static str>,
@@ -23,7 +23,7 @@ pub type Held = (
     usize,
 );
 
-// Whether the unit is the one of this source.
+// Whether the unit is that of this source.
 fn is_of(unit: &StoredUnit, source: &[u8]) -> bool {
     let certificate = match (&unit.certificate, certified(source)) {
         (None, None) => true,
@@ -33,7 +33,7 @@ fn is_of(unit: &StoredUnit, source: &[u8]) -> bool {
     certificate && unit.source.bytes() == source
 }
 
-// Whether the name has the unit of this source, or none.
+// Whether the name has the unit of this source, or is absent if no source is given.
 fn has(library: &UnitMap, letter: u8, wanted: Option<&str>) -> Result<bool, Fail> {
     let name = name_of(letter)?;
     Ok(match (library.get(&name), wanted) {
@@ -43,7 +43,7 @@ fn has(library: &UnitMap, letter: u8, wanted: Option<&str>) -> Result<bool, Fail
     })
 }
 
-// Whether the state has these.
+// Whether the state has all that.
 fn holds(state: &State<FewPieces>, wanted: &Held) -> Result<bool, Fail> {
     let (a, b, c, acknowledged) = *wanted;
     let library = state.library();
@@ -55,7 +55,7 @@ fn holds(state: &State<FewPieces>, wanted: &Held) -> Result<bool, Fail> {
     )
 }
 
-/// Whether these events from that state on, one after the other, answer so, and leave these.
+/// Whether these events, one after the other from that state on, give these answers, and leave that.
 pub fn leaves(
     alloc: Global,
     mut state: State<FewPieces>,
@@ -67,7 +67,7 @@ pub fn leaves(
     Ok(right)
 }
 
-/// Whether these events from a new state on, with areas of that many bytes, answer so, and leave these.
+/// Whether these events, from a new state with areas of that many bytes on, give these answers, and leave that.
 pub fn begins(alloc: Global, area: u32, lines: &[(Line, u32)], wanted: &Held) -> Result<bool, Fail>
     requires least { 64 ≤ area }
     requires most { area ≤ 2 ^ 30 }
@@ -75,7 +75,7 @@ pub fn begins(alloc: Global, area: u32, lines: &[(Line, u32)], wanted: &Held) ->
     leaves(alloc, fresh(alloc, area)?, lines, wanted)
 }
 
-/// Whether the events of the first lines, whatever they answer, leave a state from which the others answer so, and leave these.
+/// Whether the events of the first lines, whatever they answer, leave a state from which the others give these answers, and leave that.
 pub fn goes_on(
     alloc: Global,
     first: &[Line],

@@ -10,7 +10,7 @@ use std::alloc::Global;
 use std::test::Fail;
 use tests_texts::verdict::passes;
 
-// Two records of one name.
+// Two records of the same name.
 const TWICE: [Line; 4] = [
     Put(3, 1, b'a', ONE),
     Replace(1, b'a', TWO),
@@ -18,9 +18,9 @@ const TWICE: [Line; 4] = [
     Commit(1),
 ];
 
-// They fill an area of 64 bytes, so another name has no room; a rewrite leaves one of them, and then it has. In a rewrite jobs come
-// and workers answer, but nothing begins; each of its steps is possible in its turn alone. After it the other area is in use, and
-// after two more in a row that one again.
+// They fill an area of 64 bytes, so another name has no room; a rewrite leaves one of them, and then it has. During a rewrite jobs come and
+// workers answer, but no commit begins; each step of the rewrite is possible only in its turn. After it the other area is in use, and after
+// two more in a row that one again.
 const MAKES_ROOM: [(Line, u32); 36] = [
     (Add(7, b'b', ONE), 0),
     (Make(3, 7, ONE), 0),
@@ -68,7 +68,7 @@ fn expected(line: Line) -> u32 {
     }
 }
 
-// Adds the two records, and what comes after them.
+// Adds the two records and what comes after them.
 fn add_all(lines: &mut Vec<(Line, u32)>) -> Result<(), Fail> {
     for line in &TWICE {
         lines.push((*line, expected(*line)))?;
@@ -84,8 +84,8 @@ fn a_rewrite_makes_room(rt: HostRuntime) -> Result<(), Fail> {
     passes(begins(rt.alloc(), 64, &lines, &(Some(TWO), Some(ONE), None, 3)))
 }
 
-// A failure in a rewrite answers nothing, and closes the journal: no rewrite and no commit begins until the disk is opened
-// again. Then the name can be withdrawn, and a rewrite of an empty library leaves no record.
+// A failure in a rewrite gives no reply, and closes the journal: no rewrite and no commit begins until the disk is opened again. Then the
+// name can be withdrawn, and a rewrite of an empty library leaves no record.
 const CLOSED: [(Line, u32); 18] = [
     (RewriteAll, 0),
     (SyncAll, 0),
@@ -115,11 +115,10 @@ fn a_failure_closes(rt: HostRuntime) -> Result<(), Fail> {
 // The four device steps of a rewrite.
 const STEPS: [Line; 4] = [RewriteAll, SyncAll, WriteArea, SyncArea];
 
-// One commit more, in whichever area is in use then, and a crash.
+// One more commit, in whichever area is in use by then, and a crash.
 const ANOTHER: [Line; 3] = [Put(3, 7, b'b', ONE), Crash(0xa5), Recover];
 
-// Adds the two records, this many steps of a rewrite, the failure of the next one where it is to fail, and a crash that leaves this
-// byte.
+// Adds the two records, this many steps of a rewrite, the failure of the next one if it should fail, and a crash that leaves this byte.
 fn add_crash(lines: &mut Vec<Line>, steps: usize, fails: bool, byte: u8) -> Result<(), Fail> {
     lines.extend_from_slice(&TWICE)?;
     for line in STEPS.iter().take(steps) {
@@ -132,7 +131,7 @@ fn add_crash(lines: &mut Vec<Line>, steps: usize, fails: bool, byte: u8) -> Resu
     Ok(())
 }
 
-// Whether the map is recovered behind that crash, and whether a commit after it is kept through another.
+// Whether the map is recovered after that crash, and whether a commit after it is kept through another.
 fn survives(alloc: Global, steps: usize, fails: bool, byte: u8) -> Result<bool, Fail> {
     let mut lines = Vec::new(alloc);
     add_crash(&mut lines, steps, fails, byte)?;
@@ -153,7 +152,7 @@ fn a_crash_at_each_step(rt: HostRuntime) -> Result<(), Fail> {
     Ok(())
 }
 
-// Whatever a torn write of the area byte leaves.
+// The map is recovered, whatever byte a torn write of the area byte leaves.
 #[test]
 fn each_area_byte(rt: HostRuntime) -> Result<(), Fail> {
     for byte in 0..=255 {

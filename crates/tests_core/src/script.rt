@@ -1,4 +1,4 @@
-// Scripts: events by plain numbers, played on a state over any build, and what they answer.
+// Scripts: events written with plain numbers, played on a state over any build, and their answers.
 
 use cc_core::build::Build;
 use cc_core::command::{Reply, Request};
@@ -11,7 +11,7 @@ use cc_library::Name;
 use std::alloc::{AllocError, Global};
 use std::test::Fail;
 
-/// What happens, by plain numbers: clients, workers and pieces by theirs, a name by its one letter, a source by its text.
+/// What happens, written with plain numbers: clients, workers and pieces by their numbers, a name by its one letter, a source by its text.
 #[derive(Clone, Copy)]
 pub enum Line {
     Add(u64, u8, &'static str),
@@ -31,7 +31,7 @@ pub enum Line {
     SyncArea,
     Fails,
     Ack(u64),
-    /// A crash with this byte at the offsets 0 to 3,999, and 0 after them.
+    /// A crash that leaves this byte at the offsets 0 to 3,999, and 0 after them.
     Crash(u8),
     Recover,
     /// A worker takes the only piece of a client's source, and makes it.
@@ -40,9 +40,9 @@ pub enum Line {
     Write,
     /// A client's commit begins, is written, and is acknowledged.
     Commit(u64),
-    /// A client's commit begins, and is written up to its gate.
+    /// A client's commit begins and is written, its gate included, but not synced.
     UpToGate(u64),
-    /// A worker, a client: it adds a name with a source of one piece, which the worker makes, and its commit is acknowledged.
+    /// A worker and a client: the client adds a name with a source of one piece, the worker makes it, and the commit is acknowledged.
     Put(u64, u64, u8, &'static str),
     /// The four events of a rewrite.
     Rewrite,
@@ -54,7 +54,7 @@ use Line::{
     WriteBody, WriteGate,
 };
 
-/// A build of whose sources a script makes pieces.
+/// A build from whose sources a script makes pieces.
 pub trait Scripted: Build {
     /// That part of a source.
     fn piece(alloc: Global, source: &str, part: u32) -> Result<Self::Piece, Fail>;
@@ -87,13 +87,13 @@ fn worker(number: u64) -> WorkerId {
     WorkerId { number }
 }
 
-// Puts the events of a commit behind these.
+// Appends the events of a commit.
 fn append_commit(lines: &mut Vec<Line>, of: u64) -> Result<(), AllocError> {
     lines.extend_from_slice(&[Begin(of), WriteBody, SyncBody])?;
     lines.extend_from_slice(&[WriteGate, SyncGate, Ack(of)])
 }
 
-// The lines of the events, one each, that a line stands for.
+// The lines of one event each that a line means.
 fn lines_of(alloc: Global, line: Line) -> Result<Vec<Line>, AllocError> {
     match line {
         Make(by, of, source) => Vec::from_slice(alloc, &[Take(by, of, 0), Done(by, source, 0)]),
@@ -115,7 +115,7 @@ fn lines_of(alloc: Global, line: Line) -> Result<Vec<Line>, AllocError> {
     }
 }
 
-// The event of a line that stands for one.
+// The event of a line that means one.
 fn event<B: Scripted>(alloc: Global, line: Line) -> Result<Event<B::Piece>, Fail> {
     match line {
         Add(of, name, source) => {
@@ -170,7 +170,7 @@ fn number_in(answer: &Result<Option<Reply>, CoreFault>) -> u32 {
     }
 }
 
-// Whether a line that stands for one event answers so.
+// Whether a line that means one event gives this answer.
 fn answers_one<B: Scripted>(
     alloc: Global,
     state: &mut State<B>,
@@ -184,7 +184,7 @@ fn answers_one<B: Scripted>(
     Ok(right)
 }
 
-// Whether the last event of a line answers so, and each before it nothing.
+// Whether the last event of a line gives this answer, and each before it gives no reply.
 fn answers_line<B: Scripted>(
     alloc: Global,
     state: &mut State<B>,
@@ -203,8 +203,8 @@ fn answers_line<B: Scripted>(
     Ok(true)
 }
 
-/// Whether these events, one after the other, answer so: 0 for no reply, 1 for done, else the refusal's or the fault's number. Of a
-/// line that stands for several events the last one answers that, and each before it nothing.
+/// Whether these events, one after the other, give these answers: 0 for no reply, 1 for done, otherwise the number of the refusal or the
+/// fault. If a line means several events, that is the answer of the last one, and each before it gives no reply.
 pub fn answers<B: Scripted>(
     alloc: Global,
     state: &mut State<B>,

@@ -12,10 +12,10 @@ use std::alloc::Global;
 use std::test::Fail;
 use tests_texts::verdict::passes;
 
-/// Its input times 7.
+/// It writes its input times 7.
 const SEVEN: &str = "int main(void){write_word(read_word()*7);return 0;}";
 
-/// The factorial of its input, in two functions.
+/// It writes the factorial of its input, and has two functions.
 const FACTORIAL: &str =
     "int f(int n){if(n<2)return 1;return n*f(n-1);}int main(void){write_word(f(read_word()));return 0;}";
 
@@ -23,7 +23,7 @@ const BROKEN: &str = "int main(void){return 0}";
 
 const UNKNOWN: &str = "int main(void){return totl;}";
 
-// The worked table: two clients add `a`, with sources of their own; the second is first.
+// The worked table: two clients add `a`, each with a source of its own; the second client is first to commit.
 const TWO_CLIENTS: [(Line, u32); 20] = [
     (Add(1, b'a', SEVEN), 0),
     (Add(2, b'a', FACTORIAL), 0),
@@ -55,7 +55,7 @@ fn two_clients_add_one_name(rt: HostRuntime) -> Result<(), Fail> {
     passes(leaves(alloc, state, &TWO_CLIENTS, Some((FACTORIAL, 720))))
 }
 
-// A source's own fault, a function's, and the map's; then one unit in another's place, and none.
+// A fault of a source, one of a function, and one of the map; then one unit in place of another, and then none.
 const REFUSED: [(Line, u32); 17] = [
     (Add(1, b'a', BROKEN), 0),
     (Begin(1), 5),
@@ -83,7 +83,7 @@ fn refused(rt: HostRuntime) -> Result<(), Fail> {
     passes(leaves(alloc, state, &REFUSED, Some((SEVEN, 42))))
 }
 
-// The unit is acknowledged; then another is to take its place.
+// The unit is acknowledged; then another begins to take its place.
 const REPLACED: [Line; 8] = [
     Put(1, 1, b'a', SEVEN),
     Replace(1, b'a', FACTORIAL),
@@ -95,14 +95,14 @@ const REPLACED: [Line; 8] = [
     WriteBody,
 ];
 
-// The state after the first of these events.
+// The state that these events leave of a new one.
 fn played(alloc: Global, lines: &[Line]) -> Result<State<CcBuild>, Fail> {
     let events = events::<CcBuild>(alloc, lines)?;
     let state = State::new(alloc, CcBuild {}, 4000)?;
     Ok(run(alloc, state, events)?)
 }
 
-// The old unit stays where a crash comes before the gate is written, whichever bytes the disk had in flight.
+// The old unit stays if a crash comes before the gate is written, whichever bytes the disk had in flight.
 #[test]
 fn crash_before_the_gate(rt: HostRuntime) -> Result<(), Fail> {
     let alloc = rt.alloc();
@@ -114,7 +114,8 @@ fn crash_before_the_gate(rt: HostRuntime) -> Result<(), Fail> {
     Ok(())
 }
 
-// Within the write of the gate it may leave either: the old unit where the byte is not an open gate's, else the new one.
+// A crash in the middle of writing the gate may leave either: the old unit if the byte left is not that of an open gate, otherwise the new
+// one.
 #[test]
 fn crash_in_the_gate(rt: HostRuntime) -> Result<(), Fail> {
     let alloc = rt.alloc();
@@ -131,7 +132,7 @@ fn crash_in_the_gate(rt: HostRuntime) -> Result<(), Fail> {
     Ok(())
 }
 
-// A unit that was withdrawn, and acknowledged, is gone after a crash.
+// A unit whose withdrawal was acknowledged is gone after a crash.
 #[test]
 fn withdrawn(rt: HostRuntime) -> Result<(), Fail> {
     let alloc = rt.alloc();

@@ -1,4 +1,4 @@
-// Arrays of `unsigned char`: what `check` says of them, and what runs do with them.
+// Arrays of `unsigned char`: how `check` judges them, and how runs use them.
 
 use super::calls::typed_unit;
 use super::texts::Refused;
@@ -17,7 +17,7 @@ fn placed(number: u32, place: Option<Place>) -> (u32, usize, usize) {
     }
 }
 
-/// The number, the line and the column of a text's fault; zeros where it is a typed unit.
+/// The number, line and column of a text's fault, or zeros for a typed unit.
 fn answer(alloc: Global, text: &[u8]) -> (u32, usize, usize) {
     match parse(alloc, text) {
         Ok(unit) => match check(alloc, unit) {
@@ -31,9 +31,9 @@ fn answer(alloc: Global, text: &[u8]) -> (u32, usize, usize) {
     }
 }
 
-/// Texts, and the number, the line and the column of what `check` answers; zeros where it answers a unit.
+/// Texts, and the number, line and column of the fault that `check` finds, or zeros for a typed unit.
 static CHECKED: [Refused; 16] = [
-    // four elements are a word, and the last word of an array is filled up
+    // four elements take one word, and the last word of an array is padded
     (b"unsigned char a[262144];int main(void){}", 0, 0, 0),
     (b"unsigned char a[262145];int main(void){}", 21, 1, 15),
     (b"int a[65535];unsigned char b[4];int main(void){}", 0, 0, 0),
@@ -87,7 +87,7 @@ fn is_answered(alloc: Global, row: &Refused) -> Result<bool, Fail> {
     Ok(answer(alloc, row.0) == (row.1, row.2, row.3))
 }
 
-/// Programs, and what each writes before it ends with 0, within nine steps and on no input.
+/// Programs, and what each writes, without input and within nine steps, before it ends with 0.
 type Written = (&'static [u8], &'static [u32]);
 
 static WRITTEN: [Written; 7] = [
@@ -95,12 +95,12 @@ static WRITTEN: [Written; 7] = [
         b"unsigned char c[2]={300,-1};int main(void){write_word(c[0]);write_word(c[1]);c[0]+=220;write_word(c[0]);write_word(c[1]<<24);write_word(-1<c[1]);}",
         &[44, 255, 8, 0xff00_0000, 1],
     ),
-    // a list's elements keep their low eight bits, and the others are 0
+    // the elements of a list keep their low eight bits, and the other elements are 0
     (
         b"unsigned char c[4]={256,0xabcdef12,-2};int main(void){for(int i=0;i<4;i++)write_word(c[i]);}",
         &[0, 0x12, 254, 0],
     ),
-    // an element is an `int` where it is read, and the sum is one before it is kept
+    // reading an element gives an `int`, and so does a sum before it is stored
     (
         b"unsigned char c[]={255};int main(void){c[0]++;write_word(c[0]);c[0]--;write_word(c[0]);write_word(c[0]+1);write_word(-c[0]);}",
         &[0, 255, 256, 0xffff_ff01],
@@ -109,12 +109,12 @@ static WRITTEN: [Written; 7] = [
         b"unsigned char c[1];int main(void){c[0]=65535/2;write_word(c[0]);c[0]*=2;write_word(c[0]);c[0]>>=1;write_word(c[0]);}",
         &[255, 254, 127],
     ),
-    // elements beside it stay, and so do variables
+    // the elements next to it do not change, and neither do variables
     (
         b"int x=-1;unsigned char c[3]={1,2,3};int y=-1;int main(void){c[1]=511;write_word(x);write_word(c[0]);write_word(c[1]);write_word(c[2]);write_word(y);}",
         &[0xffff_ffff, 1, 255, 3, 0xffff_ffff],
     ),
-    // a variable of one word keeps all of it beside an array of one byte
+    // a variable next to an array of one byte keeps its whole word
     (
         b"unsigned char c[1];int x;int main(void){x=-3;c[0]=x;write_word(x);write_word(c[0]);}",
         &[0xffff_fffd, 253],
@@ -126,7 +126,7 @@ static WRITTEN: [Written; 7] = [
     ),
 ];
 
-/// Whether a run of a program within nine steps writes these words and ends with 0.
+/// Whether a run of a program writes these words and ends with 0 within nine steps.
 fn writes(alloc: Global, row: &Written) -> Result<bool, Fail> {
     let typed = typed_unit(alloc, row.0)?;
     let outcome = interpret(alloc, &typed, &[], 9);

@@ -1,4 +1,4 @@
-// Each public call of the front end's libraries, once on its happy path.
+// Each public function of the front end's libraries, called once without a fault.
 
 use cc_meaning::{
     MeaningFault, Stop, Words, calls_are_effects, calls_go_on, calls_keep_objects,
@@ -24,7 +24,7 @@ pub fn typed_unit(alloc: Global, text: &[u8]) -> Result<TypedUnit, Fail> {
     }
 }
 
-/// A run of this many steps on these input words ends with this value, after these words of output.
+/// Whether a run of this many steps on these input words ends with this value and has written these words.
 fn ends(
     alloc: Global,
     typed: &TypedUnit,
@@ -141,7 +141,7 @@ fn the_tree_of_a_text(rt: HostRuntime) -> Result<(), Fail> {
     Ok(())
 }
 
-/// Whether the functions are `main` with three statements, and `f` with one parameter and none.
+/// Whether the functions are `main` with three statements, and `f` with one parameter and no statements.
 fn are_main_and_f(typed: &TypedUnit) -> bool {
     if typed.functions() != 2 {
         return false;
@@ -196,7 +196,7 @@ fn words_of_a_vector(rt: HostRuntime) {
     assert!(rt; matches!(keeps_words(rt.alloc()), Ok(true)));
 }
 
-// Their contracts are the laws; the calls do nothing.
+// The contracts of these functions are the laws; the calls do nothing.
 #[test]
 fn laws() {
     tokens_are_determined();

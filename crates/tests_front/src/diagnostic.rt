@@ -1,6 +1,6 @@
-// Tests of what a person is told of a text: of faults (`faults` whole lines, `faulty` places and key words, `further` all errors of a
-// text, and where limits are passed `limits`), of runs that go wrong (`runs`), and of how the line of the text is shown (`excerpts`).
-// What is told stands in each row as it is written, worked by hand.
+// Tests of the messages about a text: about faults (`faults` has whole lines, `faulty` places and key words, `further` all the
+// errors of a text, `limits` exceeded limits), about runs that go wrong (`runs`), and how the line of the text is shown
+// (`excerpts`). Each row has the message as it is written, worked out by hand.
 
 #[cfg(test)]
 mod excerpts;

@@ -1,4 +1,4 @@
-// What `parse` says of texts.
+// How `parse` judges texts.
 
 use super::texts::{REFUSED, REPEATED, Refused, Repeated, SPELLED};
 use cc_syntax::{Place, parse};
@@ -6,7 +6,7 @@ use std::alloc::{AllocError, Global};
 use std::test::Fail;
 use tests_texts::verdict::each_passes;
 
-/// The number, the line and the column of a text's fault; zeros where it is a unit.
+/// The number, line and column of a text's fault, or zeros for a unit.
 fn answer(alloc: Global, text: &[u8]) -> (u32, usize, usize) {
     match parse(alloc, text) {
         Ok(_) => (0, 0, 0),
@@ -35,7 +35,7 @@ fn texts_that_are_none(rt: HostRuntime) -> Result<(), Fail> {
     each_passes(rt.alloc(), REFUSED.as_slice(), is_refused)
 }
 
-/// A text of `before`, `middle` this many times, and `behind`.
+/// The text `before`, then `middle` this many times, then `behind`.
 fn repeated(
     alloc: Global,
     before: &str,

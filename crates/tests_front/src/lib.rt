@@ -1,7 +1,7 @@
-//! Tests of the front end's libraries: texts and their tokens, texts that are units and texts that are none, and each public
-//! call once on its happy path. Expected values are worked by hand from the standard and the language's rules.
+//! Tests of the front end's libraries: texts and their tokens, texts that are units and texts that are not, and each public
+//! function called once without a fault. Expected values are worked out by hand from the standard and the rules of the language.
 //!
-//! `words` has the operations on words, `diagnostic` what a person is told of a text. The program's own tests stand in
+//! `words` tests the operations on words, and `diagnostic` the messages about a text. The tests of the program itself are in
 //! `tests_program`.
 #![tactic(auto)]
 

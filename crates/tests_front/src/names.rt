@@ -1,4 +1,4 @@
-// Names to numbers: locals, objects and functions, and operators to operations.
+// From names to numbers (of locals, objects and functions), and from operators to operations.
 
 use super::calls::typed_unit;
 use cc_resolve::{
@@ -21,7 +21,7 @@ fn declare_all<'a>(
     Ok(())
 }
 
-/// Whether the names of the text below have their numbers, in the body of `f`.
+/// Whether the names of the text below have the right numbers, in the body of `f`.
 fn are_numbered(names: &Environment<'_>) -> bool {
     let numbers = [names.local(b"n"), names.local(b"i"), names.local(b"g")];
     let locals = numbers == [Some(0), Some(1), None] && names.len() == 2;
@@ -34,7 +34,7 @@ fn are_numbered(names: &Environment<'_>) -> bool {
     locals && objects && functions && builtins && unsigned
 }
 
-/// The same over the definition of `f`, after which no local is left.
+/// The same over the definition of `f`, and whether no local remains after it.
 fn is_right_in<'a>(names: &mut Environment<'a>, f: Definition<'a>) -> Result<bool, AllocError> {
     declare_all(names, f.body)?;
     let inside = are_numbered(names);

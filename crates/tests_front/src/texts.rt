@@ -1,6 +1,7 @@
-// Texts of the whole grammar, accepted and refused, worked by hand from C99 6.5 to 6.9 and the rules of docs/LANGUAGE.md.
+// Texts that use the whole grammar, accepted and refused, worked out by hand from C99 6.5 to 6.9 and the rules of
+// docs/LANGUAGE.md.
 
-/// A text, and the number, the line and the column of its fault.
+/// A text, and the number, line and column of its fault.
 pub type Refused = (&'static [u8], u32, usize, usize);
 
 /// Texts that are units.
@@ -69,7 +70,7 @@ pub static SPELLED: [&[u8]; 62] = [
     b"unsigned/**/char\na[1+2];",
 ];
 
-/// Texts that are none, each with the number, the line and the column of its fault.
+/// Texts that are not units, each with the number, line and column of its fault.
 pub static REFUSED: [Refused; 84] = [
     (b"", 5, 1, 1),
     (b"int main(void){return 1 2;}", 5, 1, 25),
@@ -135,7 +136,7 @@ pub static REFUSED: [Refused; 84] = [
     (b"int x;;", 5, 1, 7),
     (b"void f(void){f()+g(h(1),2)[0;}", 5, 1, 27),
     (b"void f(void){((int))1;}", 5, 1, 20),
-    // `char` stands behind `unsigned` at file scope alone
+    // `char` may come only after `unsigned`, at file scope
     (b"char a[1];", 5, 1, 1),
     (b"signed char a[1];", 5, 1, 8),
     (b"int char a[1];", 5, 1, 5),
@@ -148,7 +149,7 @@ pub static REFUSED: [Refused; 84] = [
     (b"int main(void){for(unsigned char a;;);}", 5, 1, 29),
     (b"int main(void){return (unsigned char)1;}", 5, 1, 33),
     (b"int main(void){return (char)1;}", 5, 1, 24),
-    // each name in such a declaration is an array's
+    // each name in such a declaration is that of an array
     (b"unsigned char x;int main(void){}", 5, 1, 16),
     (b"unsigned char x=1;", 5, 1, 16),
     (b"unsigned char f(void){}", 5, 1, 16),
@@ -159,8 +160,8 @@ pub static REFUSED: [Refused; 84] = [
     (b"unsigned char", 5, 1, 14),
 ];
 
-/// A text of `before`, `middle` a number of times, and `behind`: the three parts, how often, and the number, the line and the
-/// column of its fault, zeros where it is a unit.
+/// The text `before`, `middle` a number of times, and `behind`: the three parts, how often, and the number, line and column of
+/// the fault, or zeros for a unit.
 pub type Repeated = (
     &'static str,
     &'static str,
@@ -171,7 +172,7 @@ pub type Repeated = (
     usize,
 );
 
-/// Texts at the limits on the tokens of a full expression and on the levels of statements.
+/// Texts at the limits on tokens in a full expression and on levels of statements.
 pub static REPEATED: [Repeated; 23] = [
     // tokens of an action
     ("int main(void){-1", "+1", ";}", 255, 0, 0, 0),

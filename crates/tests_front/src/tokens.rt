@@ -6,7 +6,7 @@ use std::alloc::Global;
 use std::fmt::{self, Write};
 use std::process::Abort;
 
-/// What is still to be written of a line that is wanted. A piece that it does not begin with is refused.
+/// The rest of the line that is expected. Writing a piece that is not next is an error.
 #[derive(Drop)]
 struct Wanted<'a> {
     left: &'a [u8],
@@ -23,7 +23,7 @@ impl Write for Wanted<'_> {
     }
 }
 
-/// The name of a token's kind, where a keyword or a punctuator is the one that these bytes spell.
+/// The name of a token's kind: `another` if these bytes do not spell the keyword or punctuator.
 fn kind_name(kind: TokenKind, bytes: &[u8]) -> &'static str {
     match kind {
         TokenKind::Identifier => "Identifier",
@@ -71,7 +71,7 @@ fn show_fault(wanted: &mut Wanted<'_>, fault: &SyntaxFault) -> fmt::Result {
     }
 }
 
-/// Whether the line says what the text's tokens are.
+/// Whether the line describes the text's tokens, or its fault.
 fn holds(alloc: Global, text: &[u8], line: &str) -> bool {
     let mut wanted = Wanted {
         left: line.as_bytes(),

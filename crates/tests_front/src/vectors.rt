@@ -1,6 +1,6 @@
-// Texts and their tokens, or their fault, worked by hand from C99 6.4 and the rules of docs/LANGUAGE.md.
+// Texts and their tokens, or their fault, worked out by hand from C99 6.4 and the rules of docs/LANGUAGE.md.
 
-/// A text, and what `shown` says of it. A keyword or a punctuator is the one that its bytes spell.
+/// A text, and its tokens or its fault as the tests write them. A keyword or a punctuator is the one that its bytes spell.
 pub type Vector = (&'static [u8], &'static str);
 
 pub static VECTORS_1: [Vector; 45] = [

@@ -1,6 +1,6 @@
-// Tests of `cc_words` on values from outside: what `gcc -fwrapv` gives for the same expression of C at
-// `unsigned` and at `int`, on x86-64. A negative number stands as its word in two's complement.
-// Each public call is made here, those that answer `None` at the ends of their ranges too.
+// Tests of `cc_words` on values from outside: what `gcc -fwrapv` gives on x86-64 for the same expression of C at `unsigned` and
+// at `int`. A negative number is written as its word in two's complement. Each public function is called here, and those that
+// return `None` also at the ends of their ranges.
 
 use cc_words::{
     Binary, Unary, add, div_s, div_u, eq, le_s, le_u, lt_s, lt_u, mul, ne, rem_s, rem_u, shl,
@@ -131,7 +131,7 @@ fn quotients_and_remainders(rt: HostRuntime) -> Result<(), Fail> {
     each_passes(rt.alloc(), QUOTIENTS.as_slice(), is_quotient)
 }
 
-// by zero, and the one quotient of two ints that is no int
+// by zero, and the only quotient of two ints that is not an int
 fn has_none_by_0(_alloc: Global, dividend: &u32) -> Result<bool, Fail> {
     let quotients = [div_s(*dividend, 0), div_u(*dividend, 0)];
     let remainders = [rem_s(*dividend, 0), rem_u(*dividend, 0)];

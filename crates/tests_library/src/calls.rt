@@ -18,7 +18,7 @@ fn library(alloc: Global) -> Result<MemoryDisk, Fail> {
     with_commands(alloc, commands)
 }
 
-// What a call writes, or the number of the refusal in its place.
+// What a call writes, and the number of its refusal or 0.
 fn called(
     alloc: Global,
     name: &[u8],

@@ -1,12 +1,12 @@
 // Where two libraries differ.
 
-use crate::helpers::{SUM, add, unit, with_commands};
-use cc_diff::{diff_disks, write_diff};
+use crate::helpers::{SUM, add, damaged, unit, with_commands};
+use cc_diff::{DiffFault, diff_disks, write_diff};
 use cc_disk::MemoryDisk;
 use std::alloc::Global;
 use std::test::Fail;
 
-// The lines of where the libraries of two disks differ.
+// The lines about what differs between the libraries of two disks.
 fn told(alloc: Global, left: MemoryDisk, right: MemoryDisk) -> Result<Vec<u8>, Fail> {
     let (lines, disks) = diff_disks(alloc, left, right);
     drop(disks);
@@ -54,16 +54,27 @@ fn nothing_where_they_are_the_same(rt: HostRuntime) -> Result<(), Fail> {
     Ok(())
 }
 
-#[test]
-fn a_library_that_is_none(rt: HostRuntime) -> Result<(), Fail> {
-    let alloc = rt.alloc();
-    let (lines, disks) = diff_disks(alloc, left(alloc)?, MemoryDisk::new(alloc, 200)?);
+// Whether the fault is the left one's, and its number; else 0.
+fn refused(alloc: Global, left: MemoryDisk, right: MemoryDisk) -> (bool, u32) {
+    let (lines, disks) = diff_disks(alloc, left, right);
     drop(disks);
-    let number = match &lines {
-        Ok(_) => 0,
-        Err(fault) => fault.number(),
+    let found = match &lines {
+        Ok(_) => (false, 0),
+        Err(fault) => (matches!(fault, DiffFault::Left(_)), fault.number()),
     };
     drop(lines);
-    assert!(rt; number == 38);
+    found
+}
+
+// The left one's fault comes first.
+#[test]
+fn libraries_that_are_none(rt: HostRuntime) -> Result<(), Fail> {
+    let alloc = rt.alloc();
+    let none = MemoryDisk::new(alloc, 200)?;
+    let (is_left, number) = refused(alloc, left(alloc)?, none);
+    assert!(rt; !is_left && number == 38);
+    let none = MemoryDisk::new(alloc, 200)?;
+    let (is_left, number) = refused(alloc, damaged(alloc)?, none);
+    assert!(rt; is_left && number == 37);
     Ok(())
 }

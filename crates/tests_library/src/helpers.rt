@@ -1,6 +1,6 @@
 // Units, disks and libraries.
 
-use cc_disk::MemoryDisk;
+use cc_disk::{Disk, MemoryDisk};
 use cc_journal::format;
 use cc_library::{Library, LibraryCommand, Name, SharedUnit};
 use cc_rv32::image::{Code, Globals, Image};
@@ -23,7 +23,7 @@ pub static SUM: [u32; 10] = [
     0x0000_0073,
 ];
 
-/// A unit of this source and this code, with a certificate if there is one.
+/// A unit with this source and this code, and with a certificate if one is given.
 pub fn unit(
     alloc: Global,
     source: &[u8],
@@ -51,24 +51,32 @@ pub fn unit(
     Ok(Arc::new(alloc, unit)?)
 }
 
-/// A name, and its unit.
+/// The command that adds a unit under a name.
 pub fn add(name: &[u8], unit: Arc<StoredUnit>) -> Result<LibraryCommand, Fail> {
     Ok(LibraryCommand::Add(Name::new(name)?, SharedUnit::new(unit)))
 }
 
-/// A name, and what it has from then on.
+/// The command that gives a name another unit.
 pub fn replace(name: &[u8], unit: Arc<StoredUnit>) -> Result<LibraryCommand, Fail> {
     Ok(LibraryCommand::Replace(Name::new(name)?, SharedUnit::new(unit)))
 }
 
-/// A name that goes.
+/// The command that withdraws a name.
 pub fn withdraw(name: &[u8]) -> Result<LibraryCommand, Fail> {
     Ok(LibraryCommand::Withdraw(Name::new(name)?))
 }
 
-/// A disk with two areas of so many bytes.
+/// A disk with two areas of this many bytes.
 pub fn blank(alloc: Global, area: u16) -> Result<MemoryDisk, Fail> {
     Ok(MemoryDisk::new(alloc, 16 + 2 * usize::from(area))?)
+}
+
+/// A disk with the header of a library, and after it a record that does not fit its area.
+pub fn damaged(alloc: Global) -> Result<MemoryDisk, Fail> {
+    let mut disk = blank(alloc, 64)?;
+    format(&mut disk, 64)?;
+    disk.write_at(16, &[0xa5, 60, 0, 0, 0])?;
+    Ok(disk)
 }
 
 /// A disk with a library in which these commands were done, in areas of 1,024 bytes.

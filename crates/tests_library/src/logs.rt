@@ -1,4 +1,4 @@
-// What was done in a library, what each command stored, and what goes back.
+// What was done in a library, what each command stored, and how an earlier unit is put back.
 
 use crate::helpers::{SUM, add, replace, unit, with_commands, withdraw};
 use cc_disk::MemoryDisk;
@@ -21,7 +21,7 @@ fn changed(alloc: Global) -> Result<MemoryDisk, Fail> {
 
 static LOG: &[u8] = b"1 add a 5 3\n2 add b 0 10\n3 replace a 4 1\n4 withdraw b\n";
 
-// The lines of the commands of a disk.
+// The lines about the commands on a disk.
 fn log_of(alloc: Global, disk: MemoryDisk, name: Option<&[u8]>) -> Result<Vec<u8>, Fail> {
     let (commands, disk) = commands_on(alloc, disk);
     drop(disk);
@@ -55,7 +55,7 @@ fn one_line_a_unit_after_a_compaction(rt: HostRuntime) -> Result<(), Fail> {
     Ok(())
 }
 
-// The source that a command stored, or the number of the refusal in its place.
+// The source that a command stored, and the number of the refusal or 0.
 fn stored(alloc: Global, name: &[u8], number: usize) -> Result<(Vec<u8>, u32), Fail> {
     let (bytes, disk) = part_at(alloc, changed(alloc)?, name, Part::Source, number);
     drop(disk);
@@ -84,7 +84,7 @@ fn what_a_command_stored(rt: HostRuntime) -> Result<(), Fail> {
     Ok(())
 }
 
-// The lines after what a command stored was put back, or the number of the refusal in their place.
+// The lines after the unit of a command was put back, and the number of the refusal or 0.
 fn put_back(alloc: Global, name: &[u8], number: usize) -> Result<(Vec<u8>, u32), Fail> {
     let (answer, disk) = restore(alloc, changed(alloc)?, name, number);
     match answer {
@@ -105,5 +105,25 @@ fn what_goes_back(rt: HostRuntime) -> Result<(), Fail> {
     assert!(rt; b.0.as_slice() == b"2 add b 0 10\n4 withdraw b\n5 add b 0 10\n".as_slice());
     let none = put_back(alloc, b"b", 4)?;
     assert!(rt; none.1 == 32);
+    Ok(())
+}
+
+// A record that does not fit is refused, and nothing is compacted for it.
+#[test]
+fn what_does_not_fit(rt: HostRuntime) -> Result<(), Fail> {
+    let alloc = rt.alloc();
+    let text = [b' '; 400];
+    let mut commands = Vec::new(alloc);
+    commands.push(add(b"a", unit(alloc, &text, &[1], None)?)?)?;
+    commands.push(replace(b"a", unit(alloc, &text, &[2], None)?)?)?;
+    let (answer, disk) = restore(alloc, with_commands(alloc, commands)?, b"a", 1);
+    let number = match &answer {
+        Ok(()) => 0,
+        Err(fault) => fault.number(),
+    };
+    drop(answer);
+    assert!(rt; number == 34);
+    let lines = log_of(alloc, disk, None)?;
+    assert!(rt; lines.as_slice() == b"1 add a 400 1\n2 replace a 400 1\n".as_slice());
     Ok(())
 }

@@ -1,4 +1,4 @@
-// What the images of stored units take.
+// How much memory the images of stored units take.
 
 use crate::helpers::{SUM, add, unit, with_commands};
 use cc_answers::tell_audit;
@@ -29,7 +29,7 @@ fn library(alloc: Global) -> Result<MemoryDisk, Fail> {
     with_commands(alloc, commands)
 }
 
-// What is written of what a unit takes, or the number of the refusal in its place.
+// What is written about what a unit takes, and the number of the refusal or 0.
 fn measured(alloc: Global, name: &[u8], mode: Mode) -> Result<(Vec<u8>, u32), Fail> {
     let mut told = Vec::new(alloc);
     let (size, disk) = size_on(alloc, library(alloc)?, name, mode, &mut told);

@@ -1,4 +1,4 @@
-// Which answers have a fault, and how many lines there are so far.
+// Which answers report a fault, and how many lines there are so far.
 
 use cc_watch::{AnswerProgress, FaultWatch};
 use std::alloc::Global;
@@ -8,7 +8,7 @@ use std::rt::Clock;
 use std::test::Fail;
 use std::time::Duration;
 
-// Whether a fault is seen in what is written piece by piece, each of which has to reach the writer behind.
+// Whether a fault is seen in what is written piece by piece.
 fn sees(alloc: Global, pieces: &[&[u8]]) -> Result<bool, Fail> {
     let mut watch = FaultWatch::new(Vec::new(alloc));
     for piece in pieces {
@@ -33,7 +33,7 @@ fn lines_of_faults(rt: HostRuntime) -> Result<(), Fail> {
     Ok(())
 }
 
-// A clock that goes on by a second each time that it is read.
+// A clock that advances by a second each time that it is read.
 #[derive(Drop)]
 struct Ticks {
     next: Cell<u64>,
@@ -60,6 +60,7 @@ fn lines_so_far(rt: HostRuntime) -> Result<(), Fail> {
         Vec::new(alloc),
         Ticks { next: Cell::new(7) },
         Some(&mut screen),
+        "lines of answers",
     );
     for line in [b"ok 1\n".as_slice(), b"ok 2\n", b"unit a\nok"] {
         writer.write_all(line)?;

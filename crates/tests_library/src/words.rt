@@ -1,10 +1,10 @@
-// The command lines of what looks into libraries, goes back in one, and copies one.
+// The command lines of the commands that look into libraries, put back an earlier unit, and copy libraries.
 
 use cc_command_line::{Keeping, Wanted, Work, line};
 use cc_task::Kind;
 use std::alloc::Global;
 
-// What a command line asks for, as one text.
+// What a command line asks for, as text.
 fn asked(alloc: Global, words: &'static [&'static str]) -> Option<String> {
     let Ok(work) = line(alloc, words) else {
         return None;

@@ -1,16 +1,14 @@
 // What an audit says of units as they were made, and of units that were changed.
 
 use super::orders::add_pieces;
-use super::padded::rtl_of;
-use cc_colour::spill_all;
-use cc_emit::{Piece, emit};
-use cc_linear::linearise;
-use cc_link::{Audit, CompiledUnit, StoredUnit, audit, compile, link, typed_unit};
-use cc_live::{drop_dead, liveness};
+use cc_emit::Piece;
+use cc_link::{
+    Allocation, Audit, CompiledUnit, FailedPart, Mode, StoredUnit, Unwatched, audit, compile,
+    compile_watched_in, failed_part_in, link, typed_unit,
+};
 use cc_ltl::{read_ltl, write_ltl};
 use cc_rv32::image::{Code, Globals, Image};
 use cc_types::TypedUnit;
-use cc_validate::{Refused, validate};
 use std::alloc::Global;
 use std::sync::Arc;
 use std::test::Fail;
@@ -260,20 +258,84 @@ fn other_texts(rt: HostRuntime) -> Result<(), Fail> {
     passes(right)
 }
 
-// The piece of a function whose LTL has a slot for each value, behind the pass that makes nops of dead nodes.
-fn spilled_piece(alloc: Global, unit: &Arc<TypedUnit>, function: usize) -> Result<Piece, Fail> {
-    let mut pair = rtl_of(alloc, unit, function)?;
-    let live = liveness(alloc, pair.code())?;
-    drop_dead(alloc, &mut pair, &live)?;
-    drop(live);
-    let ltl = spill_all(alloc, pair.code())?;
-    match validate(alloc, pair, ltl) {
-        Ok(pair) => Ok(emit(alloc, linearise(alloc, pair)?)?),
-        Err(Refused { pair, fault }) => {
-            drop(pair);
-            Err(Fail::from(fault))
+// Which part of a unit fails, as a word: of the text with its fault's number, of a function with the place of its name.
+fn part(failed: Option<FailedPart>) -> (&'static str, usize, usize) {
+    match failed {
+        None => ("none", 0, 0),
+        Some(FailedPart::Text(fault)) => {
+            let number = fault.number();
+            drop(fault);
+            ("text", number as usize, 0)
         }
+        Some(FailedPart::Function { at, length }) => ("function", at, length),
+        Some(FailedPart::Certificate) => ("certificate", 0, 0),
+        Some(FailedPart::Image) => ("image", 0, 0),
     }
+}
+
+// The part that fails of a text with a unit's image and another certificate.
+fn failed_with(
+    alloc: Global,
+    unit: &StoredUnit,
+    text: &str,
+    certificate: &[u8],
+) -> Result<(&'static str, usize, usize), Fail> {
+    let text = text.as_bytes();
+    let failed = failed_part_in(alloc, Mode::Plain, text, certificate, &unit.image)?;
+    Ok(part(failed))
+}
+
+// Whether the part that fails is named: none, the text, either function, the certificate and the image.
+fn names_parts(alloc: Global, unit: &StoredUnit, other: &StoredUnit) -> Result<bool, Fail> {
+    let own = certificate_of(unit)?;
+    let shorter = &own[..own.len().saturating_sub(1)];
+    let longer = with_byte(alloc, own, 0)?;
+    let third = with_count(alloc, own, 3)?;
+    let found = [
+        failed_with(alloc, unit, OBJECTS, own)?,
+        failed_with(alloc, unit, "int main(void){x=1;}", own)?,
+        failed_with(alloc, unit, OBJECTS, b"")?,
+        failed_with(alloc, unit, OBJECTS, shorter)?,
+        failed_with(alloc, unit, OBJECTS, longer.as_slice())?,
+        failed_with(alloc, unit, OBJECTS, third.as_slice())?,
+        failed_with(alloc, other, OBJECTS, own)?,
+    ];
+    let wanted = [
+        ("none", 0, 0),
+        ("text", 11, 0),
+        ("function", 25, 1),
+        ("function", 55, 4),
+        ("certificate", 0, 0),
+        ("certificate", 0, 0),
+        ("image", 0, 0),
+    ];
+    Ok(found == wanted)
+}
+
+#[test]
+fn parts_that_fail(rt: HostRuntime) -> Result<(), Fail> {
+    let unit = compile(rt.alloc(), OBJECTS.as_bytes())?;
+    let other = compile(rt.alloc(), BYTES.as_bytes())?;
+    let right = names_parts(rt.alloc(), unit.stored(), other.stored());
+    drop(other);
+    drop(unit);
+    passes(right)
+}
+
+// The piece of a function whose LTL has a slot for each value.
+fn spilled_piece(alloc: Global, unit: &Arc<TypedUnit>, function: usize) -> Result<Piece, Fail> {
+    if function >= unit.functions() {
+        return Err(Fail::from("no such function"));
+    }
+    let nobody = &mut Unwatched;
+    Ok(compile_watched_in(
+        alloc,
+        Mode::Plain,
+        unit,
+        function,
+        Allocation::Spilled,
+        nobody,
+    )?)
 }
 
 // A text linked from such pieces.

@@ -9,6 +9,7 @@ use cc_linear::linearise;
 use cc_link::{CompiledUnit, LinkFault, link};
 use cc_ltl::{Block, Ltl, Move, Moves, Register};
 use cc_rtl::{RtlPair, to_rtl};
+use cc_select::select;
 use cc_types::TypedUnit;
 use cc_validate::{LtlPair, Refused, validate};
 use std::alloc::Global;
@@ -67,8 +68,8 @@ fn padded_ltl(alloc: Global, ltl: &Ltl, paddings: &[Padding]) -> Result<Ltl, Fai
     }
 }
 
-/// The RTL of one function.
-pub fn rtl_of(alloc: Global, unit: &Arc<TypedUnit>, function: usize) -> Result<RtlPair, Fail> {
+// The RTL of one function.
+fn rtl_of(alloc: Global, unit: &Arc<TypedUnit>, function: usize) -> Result<RtlPair, Fail> {
     if function >= unit.functions() {
         return Err(Fail::from("no such function"));
     }
@@ -110,8 +111,8 @@ fn padded_piece(
     paddings: &[Padding],
 ) -> Result<Piece, Fail> {
     let pair = allocated(alloc, unit, function, paddings)?;
-    let linear = linearise(alloc, pair)?;
-    Ok(emit(alloc, linear)?)
+    let selected = select(alloc, linearise(alloc, pair)?)?;
+    Ok(emit(alloc, selected)?)
 }
 
 /// A unit whose last function is so padded, linked.

@@ -1,6 +1,6 @@
-// Writes images as Intel HEX and compares the text with what GNU objcopy 2.40 wrote of the same bytes; objcopy of LLVM 14
-// wrote the same. Below 1 MiB both write a record of type 02 (extended segment address) where ours is of type 04 (extended
-// linear address), and one that ends those; the lines are the same otherwise.
+// Writes images as Intel HEX and compares the text with what GNU objcopy 2.40 wrote for the same bytes; objcopy of LLVM 14 wrote
+// the same. Below 1 MiB both write a record of type 02 (extended segment address) in place of our record of type 04 (extended
+// linear address), and another one that returns to segment 0. The lines are otherwise the same.
 
 use crate::listing_tests::image_of;
 use cc_hex::image::write;
@@ -14,7 +14,7 @@ static CODE: [u32; 9] = [
 
 static GLOBALS: [u32; 5] = [0x00000001, 0x00000000, 0xcafef00d, 0xffffffff, 0x80000000];
 
-// Of an ELF file with these words, by objcopy -O ihex.
+// For an ELF file with these words, by objcopy -O ihex.
 const BY_OBJCOPY: &str = ":020000021000EC\r
 :10000000370120009300F0FF33B110021305010007\r
 :1000100093081000730000009308D00573000000DF\r
@@ -26,7 +26,7 @@ const BY_OBJCOPY: &str = ":020000021000EC\r
 :00000001FF\r
 ";
 
-// What stands here for a line of objcopy.
+// Our line in place of a line of objcopy.
 fn as_linear(line: &str) -> &str {
     match line {
         ":020000021000EC" => ":020000040001F9",
@@ -74,7 +74,7 @@ fn writes_code_and_globals(rt: HostRuntime) {
     assert!(rt; writes_as_objcopy(rt.alloc()));
 }
 
-// An image of one word, with no globals.
+// Whether an image of one word, with no globals, is written right.
 fn writes_one_word(alloc: Global) -> bool {
     let Ok(code) = vec![in alloc; 0x00000073u32] else {
         return false;
@@ -91,7 +91,7 @@ fn writes_an_image_with_no_globals(rt: HostRuntime) {
     assert!(rt; writes_one_word(rt.alloc()));
 }
 
-/// Words that differ, this many: multiples of a number, and one more each.
+/// This many words, all different: multiples of `factor`, each plus `more`.
 fn words(alloc: Global, count: usize, factor: u32, more: u32) -> Result<Vec<u32>, AllocError> {
     let mut words = Vec::new(alloc);
     let mut word = more;
@@ -102,7 +102,7 @@ fn words(alloc: Global, count: usize, factor: u32, more: u32) -> Result<Vec<u32>
     Ok(words)
 }
 
-// The checksum FNV-1a of a text.
+// The FNV-1a checksum of a text.
 fn fnv(text: &[u8]) -> u64 {
     let mut hash = 0xcbf2_9ce4_8422_2325u64;
     for byte in text {
@@ -123,7 +123,7 @@ fn largest(alloc: Global) -> Option<(usize, u64)> {
     Some((text.len(), fnv(text.as_slice())))
 }
 
-// As of the text that objcopy wrote of an ELF file with these words, its lines rewritten as above.
+// The length and checksum of the text that objcopy wrote for an ELF file with these words, with its lines rewritten as above.
 #[test]
 fn writes_the_largest_image(rt: HostRuntime) {
     assert!(rt; largest(rt.alloc()) == Some((2_162_892, 0xb1e0_47c4_c09b_c017)));

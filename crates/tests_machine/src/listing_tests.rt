@@ -1,4 +1,4 @@
-// Lists words from outside and compares their lines; decodes and encodes them again.
+// Lists words from outside and compares their lines, and decodes and encodes them again.
 
 use cc_rv32::decode::decode;
 use cc_rv32::encode::encode;
@@ -6,8 +6,8 @@ use cc_rv32::image::{Code, Globals, Image, MOST_CODE};
 use cc_rv32::listing::list;
 use std::alloc::Global;
 
-// Words, and their text: one word of each kind of operand and one that is no instruction, and each instruction at least once,
-// with its operands at the ends of their ranges. The words and their text are as GNU as and LLVM's assembler have them.
+// Words and their text: one word for each kind of operand, one that is not an instruction, and each instruction at least once,
+// with its operands at the ends of their ranges. The words and their text are those of GNU as and LLVM's assembler.
 static LINES: [(u32, &str); 68] = [
     // one of each kind
     (0xfff00093, "addi x1, x0, -1"),
@@ -82,7 +82,7 @@ static LINES: [(u32, &str); 68] = [
     (0x7ff201e7, "jalr x3, 2047(x4)"),
 ];
 
-/// The image of these words, where they are code and globals.
+/// The image of these words, if they can be code and globals.
 pub fn image_of(code: Vec<u32>, globals: Vec<u32>) -> Option<Image> {
     let globals = Globals::new(globals).ok()?;
     match Code::new(code) {
@@ -117,7 +117,7 @@ fn lists(alloc: Global, code: &[u32], text: &[u8]) -> bool {
     }
 }
 
-/// Whether the word's line has this text, and whether it is encoded as it was, where it is an instruction.
+/// Whether the word's line has this text, and whether an instruction is encoded as the same word again.
 fn is_line(alloc: Global, word: u32, text: &str) -> bool {
     let again = decode(word).map(encode);
     let known = if text == ".word" { None } else { Some(word) };
@@ -141,7 +141,7 @@ fn lists_words_in_order_of_address(rt: HostRuntime) {
     assert!(rt; lists(rt.alloc(), code.as_slice(), lines.as_bytes()));
 }
 
-// The last word of the longest code stands at 0x0008fffc.
+// The last word of the longest code is at 0x0008fffc.
 fn lists_the_last(alloc: Global) -> bool {
     let Ok(code) = vec![in alloc; 0x00000073u32; MOST_CODE] else {
         return false;

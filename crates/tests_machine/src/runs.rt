@@ -1,4 +1,4 @@
-// What a machine comes to: each operation on two words, loads and stores, branches, services and traps, and runs cut in two.
+// The outcomes of a machine: each operation on two words, loads and stores, branches, services and traps, and runs in two parts.
 
 use super::listing_tests::image_of;
 use cc_rv32::encode::encode;
@@ -140,7 +140,7 @@ static OPERATIONS: [(RegisterOperation, u32, u32, u32); 92] = [
     (RegisterOperation::Remu, 0x0, 0x0, 0x0),
 ];
 
-// The same with an immediate, as the word that it stands for.
+// The same with an immediate, given as the word that it denotes.
 static IMMEDIATES: [(ImmediateOperation, u32, u32, u32); 9] = [
     (ImmediateOperation::Addi, 0x7fffffff, 0x7ff, 0x800007fe),
     (ImmediateOperation::Addi, 0x80000000, 0xfffff800, 0x7ffff800),
@@ -215,7 +215,7 @@ static BRANCHES: [(BranchOperation, u32, u32, bool); 15] = [
     (BranchOperation::Bgeu, 0, 0, true),
 ];
 
-// What a program shows; its words and its input; the first word that it writes, and what it comes to.
+// What a program shows; its words and its input; the first word that it writes, and its outcome.
 static PROGRAMS: [(&str, &[u32], &[u32], Option<u32>, MachineOutcome); 18] = [
     (
         "the stack's last word: sw x2, -4(x2); lw x10, -4(x2)",
@@ -351,16 +351,16 @@ static PROGRAMS: [(&str, &[u32], &[u32], Option<u32>, MachineOutcome); 18] = [
     ),
 ];
 
-// addi x10, x0, 5; an exit.
+// addi x10, x0, 5, then an exit.
 const EXITS: &[u32] = &[0x00500513, EXIT, ECALL];
 
-// The high word of -1 times -1, unsigned, written; an exit with it.
+// The high word of -1 times -1, unsigned: it is written, and it is the exit value.
 const PRODUCT: &[u32] = &[
     0xfff00093, 0x0210b133, 0x00010513, 0x00100893, ECALL, EXIT, ECALL,
 ];
 
-// A program, a number of instructions and then a number more, what the machine has come to then, and the first word that it wrote. The
-// last two are a word that is no instruction, and lw x1, 0(x0).
+// A program, a number of instructions and then another number of them, the machine's outcome then, and the first word that it has
+// written. The last two programs are a word that is not an instruction, and lw x1, 0(x0).
 static PARTS: [(&[u32], u64, u64, MachineOutcome, Option<u32>); 11] = [
     (EXITS, 0, 2, MachineOutcome::Going, None),
     (EXITS, 2, 1, MachineOutcome::Exited(5), None),
@@ -399,7 +399,7 @@ fn image(alloc: Global, code: &[u32], globals: &[u32]) -> Option<Image> {
     image_of(code, globals)
 }
 
-// A machine with a program in place.
+// A machine with a program loaded.
 fn machine(alloc: Global, code: &[u32], globals: &[u32], input: &[u32]) -> Option<Machine> {
     let image = image(alloc, code, globals)?;
     let made = Machine::new(alloc, &image, input);
@@ -407,7 +407,7 @@ fn machine(alloc: Global, code: &[u32], globals: &[u32], input: &[u32]) -> Optio
     made.ok()
 }
 
-// What a machine comes to after this many instructions more, and the first word that it has written.
+// The machine's outcome after this many more instructions, and the first word that it has written.
 fn shown(machine: &mut Machine, steps: u64) -> Result<(MachineOutcome, Option<u32>), MachineFault> {
     let outcome = machine.run(steps)?;
     Ok((outcome, machine.output().first().copied()))
@@ -423,7 +423,7 @@ fn shown_twice(
     shown(machine, steps)
 }
 
-// Whether a program has come to this, and has written this first, after this many instructions and this many more.
+// Whether a program has this outcome and has written this word first, after this many instructions and then this many more.
 fn comes_to(
     alloc: Global,
     code: &[u32],
@@ -463,7 +463,8 @@ fn runs_programs(rt: HostRuntime) {
     }
 }
 
-// Whether this is the first word that a program writes within a thousand instructions; it traps exactly where it writes none.
+// Whether this is the first word that a program writes within a thousand instructions. The program must trap if the word is
+// `None`, and only then.
 fn writes(alloc: Global, code: &[u32], input: &[u32], word: Option<u32>) -> bool {
     let Some(mut machine) = machine(alloc, code, &GLOBALS, input) else {
         return false;
@@ -478,7 +479,7 @@ fn writes(alloc: Global, code: &[u32], input: &[u32], word: Option<u32>) -> bool
     }
 }
 
-// The operation on two input words, written.
+// Whether the operation on two input words writes this word.
 fn computes(alloc: Global, operation: RegisterOperation, left: u32, right: u32, word: u32) -> bool {
     let tried = encode(Instr::Op {
         operation,
@@ -500,7 +501,7 @@ fn computes_on_two_registers(rt: HostRuntime) {
     }
 }
 
-// The instruction changes x10, which holds the input's word, and it is written.
+// Whether this word is written after the instruction changes x10, which holds the input word.
 fn changes(alloc: Global, instr: Instr, left: u32, word: u32) -> bool {
     let code = [READ, ECALL, encode(instr), WRITE, ECALL, EXIT, ECALL];
     writes(alloc, &code, &[left], Some(word))
@@ -540,7 +541,7 @@ fn shifts_by_a_count(rt: HostRuntime) {
     }
 }
 
-// lui x8, 0x200 comes first: the globals' address.
+// lui x8, 0x200 comes first: it loads the address of the globals.
 #[test]
 fn loads(rt: HostRuntime) {
     for (operation, offset, word) in LOADS.iter() {
@@ -606,13 +607,13 @@ fn branches(rt: HostRuntime) {
     }
 }
 
-// What two steps of a program of one word come to.
+// The outcomes of two steps of a program of one word.
 fn two_steps(machine: &mut Machine) -> Result<(MachineOutcome, MachineOutcome), MachineFault> {
     let first = machine.step()?;
     Ok((first, machine.step()?))
 }
 
-// A jump out of the code is done, and the fetch behind it traps; so does one past the last word.
+// Whether a step that leaves the code, by a jump or past the last word, succeeds and the fetch after it traps.
 fn leaves_the_code(alloc: Global, word: u32) -> bool {
     let Some(mut machine) = machine(alloc, &[word], &[], &[]) else {
         return false;
@@ -629,13 +630,13 @@ fn traps_outside_the_code(rt: HostRuntime) {
     }
 }
 
-// What as many steps as a call can have come to, and one more.
+// The outcomes of as many steps as one call can take, and of one more.
 fn all_steps(machine: &mut Machine) -> Result<(MachineOutcome, MachineOutcome), MachineFault> {
     let whole = machine.run(u64::MAX)?;
     Ok((whole, machine.step()?))
 }
 
-// A jump to itself goes on for ever, which takes no time.
+// Whether a jump to itself runs for ever; running it takes no time.
 fn stays_in_place(alloc: Global, jump: u32) -> bool {
     let Some(mut machine) = machine(alloc, &[0x0000_0013, jump], &[], &[]) else {
         return false;

@@ -1,4 +1,4 @@
-// Words that the table lacks, operands at the ends of their ranges, and the lengths of images.
+// Words that are not in the table, operands at the ends of their ranges, and the lengths of images.
 
 use cc_rv32::decode::decode;
 use cc_rv32::encode::encode;
@@ -7,7 +7,8 @@ use cc_rv32::instr::Instr;
 use cc_rv32::operand::{BranchOffset, Immediate, JumpOffset, Register, UpperImmediate};
 use std::alloc::Global;
 
-// Words that the table lacks: fence, ebreak, a control register, a compressed one, and holes in funct3 and funct7.
+// Words that are not in the table: fence, ebreak, an access to a control register, a compressed instruction, and gaps in funct3
+// and funct7.
 static NONE: [u32; 17] = [
     0, 0xffffffff, 0x0000000f, 0x00100073, 0x30002073, 0x00000001, 0x40001033, 0x02005013,
     0x40001013, 0x00003003, 0x00006003, 0x00003023, 0x00002063, 0x00003063, 0x00001067, 0x000000f3,
@@ -43,7 +44,7 @@ fn ends_of_operands(rt: HostRuntime) {
     );
 }
 
-/// Whether this many words are taken as code, and given back.
+/// Whether this many words are accepted as code, and returned.
 fn are_code(alloc: Global, count: usize) -> bool {
     let Ok(words) = vec![in alloc; 0u32; count] else {
         return false;
@@ -54,7 +55,7 @@ fn are_code(alloc: Global, count: usize) -> bool {
     }
 }
 
-/// Whether this many words are taken as globals, and given back.
+/// Whether this many words are accepted as globals, and returned.
 fn are_globals(alloc: Global, count: usize) -> bool {
     let Ok(words) = vec![in alloc; 0u32; count] else {
         return false;

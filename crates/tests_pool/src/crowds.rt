@@ -1,5 +1,5 @@
-// Many threads share a pool of two workers, of which one is held: two with one text of two functions, and sixteen with so many pieces
-// that the queue of 64 places is full.
+// Many threads share a pool of two workers, one of which is held: two threads with one text of two functions, and sixteen with so many
+// pieces that the queue of 64 places is full.
 
 ghost use Rattle.std.specs.Prelude.{◌≡◌};
 
@@ -47,7 +47,7 @@ fn functions(alloc: Global, count: usize) -> Result<Vec<u8>, AllocError> {
     Ok(text)
 }
 
-// Hands a unit in and collects its pieces: whether they are right, and the pass.
+// Submits a unit and collects its pieces: answers whether they are right, and gives the pass back.
 fn round<N, R>(
     rt: &R,
     alloc: Global,
@@ -73,7 +73,7 @@ where
 }
 
 // How many of this many threads got the right pieces of a text's unit, and how many holds of job 0 ended before their limit: one of its
-// pieces waits for all others of all jobs. The pool ends then, with all passes.
+// pieces waits for all other pieces of all jobs. Then the pool ends, with all passes.
 fn crowd<N, R>(
     rt: &R,
     alloc: Global,

@@ -1,4 +1,4 @@
-// How a pool ends: with all passes it does, though pieces are under way; a pass that is missing is told.
+// How a pool ends: with all passes it does, though pieces are under way; without one of them it is refused.
 
 ghost use Rattle.std.specs.Prelude.{◌≡◌};
 
@@ -21,7 +21,7 @@ fn a_pass_is_missing(rt: HostRuntime) -> Result<(), Fail> {
     Ok(())
 }
 
-// The number that `finish` refuses this many of two passes with, or 0; pieces are under way.
+// The number with which `finish` refuses this many of two passes while pieces are under way, or 0.
 fn missing<N, R>(rt: &R, alloc: Global, fresh: FreshQueue, given: u32) -> Result<u32, Fail>
 where
     N: Queued + Send + Sync + 'static,

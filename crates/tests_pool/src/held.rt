@@ -18,7 +18,7 @@ fn two_pieces_at_once(rt: HostRuntime) -> Result<(), Fail> {
     Ok(())
 }
 
-/// The piece of a job of two that comes first is held until the other one comes: whether the pieces are right.
+/// Whether the pieces of a job of two are right if the one that comes first is held until the other one comes.
 pub fn at_once<N: Own, R: Wait>(rt: &R, alloc: Global, pool: Pool<N>) -> Result<bool, Fail> {
     let mut pass = pool.pass(rt);
     let ticket = pool.submit(rt, alloc, &mut pass, unit(alloc, LONG.as_bytes())?)?;
@@ -34,8 +34,8 @@ fn a_held_job_holds_no_other(rt: HostRuntime) -> Result<(), Fail> {
     succeeds(&rt, rt.alloc(), hold, Trial::HeldJob { signs: &signs })
 }
 
-/// Job 0 is held until both pieces of job 1, and what lets it go behind its collecting, have passed: whether the pieces are right, two others
-/// had passed by then, and one hold ended before its limit.
+/// Job 0 is held until both pieces of job 1 have passed and have been collected: whether the pieces are right, two others had passed by
+/// then, and one hold ended before its limit.
 pub fn held_job<N: Own, R: Wait>(
     rt: &R,
     alloc: Global,

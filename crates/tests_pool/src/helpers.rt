@@ -1,4 +1,4 @@
-// Units to hand in, and a gate that holds a job.
+// Units to submit, and a gate that holds a job.
 
 use cc_emit::Piece;
 use cc_link::typed_unit;
@@ -23,7 +23,7 @@ pub fn unit(alloc: Global, text: &[u8]) -> Result<Arc<TypedUnit>, Fail> {
     Ok(typed_unit(alloc, text)?)
 }
 
-/// A part this many times.
+/// Appends a part this many times.
 pub fn repeat(text: &mut Vec<u8>, part: &[u8], times: usize) -> Result<(), AllocError> {
     for _ in 0..times {
         text.extend_from_slice(part)?;
@@ -31,7 +31,7 @@ pub fn repeat(text: &mut Vec<u8>, part: &[u8], times: usize) -> Result<(), Alloc
     Ok(())
 }
 
-/// Whether these are this many pieces of a text, one of each function in their order.
+/// Whether these are exactly this many pieces of a text, one for each function in their order.
 pub fn are_of(pieces: &[Piece], text: &[u8], count: usize) -> bool {
     let mut right = pieces.len() == count;
     for (at, piece) in pieces.iter().enumerate() {
@@ -40,7 +40,7 @@ pub fn are_of(pieces: &[Piece], text: &[u8], count: usize) -> bool {
     right
 }
 
-/// Holds the first piece of job 0 that comes, until enough other pieces have passed, or the turns are over, and tells whether it was let
+/// Holds the first piece of job 0 that comes, until enough other pieces have passed or the turns are over, and records whether it was let
 /// go before that.
 #[derive(Drop)]
 pub struct Hold {
@@ -59,7 +59,7 @@ pub struct Signs {
 }
 
 impl Hold {
-    /// A gate that holds until this many others have passed, and what it tells.
+    /// A gate that holds a piece until this many others have passed, and the signs that it gives.
     pub fn new(alloc: Global, least: u64) -> Result<(Hold, Signs), AllocError> {
         let others = Arc::new(alloc, AtomicU64::new(0))?;
         let met = Arc::new(alloc, AtomicU64::new(0))?;

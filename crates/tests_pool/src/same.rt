@@ -1,4 +1,4 @@
-// The image of a text is the same, whether one thread compiles it or the pool.
+// A text has the same image whether one thread compiles it or the pool.
 
 ghost use Rattle.std.specs.Prelude.{◌≡◌};
 

@@ -1,4 +1,4 @@
-// What comes back of jobs: in either order, and the least function that is refused.
+// What comes back of jobs, collected in either order; and that the first refused function is reported.
 
 use super::helpers::{ONE, TWO, are_of, repeat, unit};
 use super::trial::{Own, Trial, succeeds};
@@ -14,7 +14,7 @@ fn two_tickets_in_either_order(rt: HostRuntime) -> Result<(), Fail> {
     succeeds(&rt, rt.alloc(), NoGate, Trial::EitherOrder)
 }
 
-/// Whether the pieces of two jobs, the later one collected first, are right, and the jobs' numbers 0 and 1.
+/// Whether the pieces of two jobs are right if the later one is collected first, and the jobs' numbers are 0 and 1.
 pub fn either_order<N: Own, R: Wait>(rt: &R, alloc: Global, pool: Pool<N>) -> Result<bool, Fail> {
     let mut pass = pool.pass(rt);
     let mut other = pool.pass(rt);
@@ -33,7 +33,7 @@ fn the_least_that_is_refused(rt: HostRuntime) -> Result<(), Fail> {
     succeeds(&rt, rt.alloc(), NoGate, Trial::LeastRefused)
 }
 
-/// Of three functions two have too many nodes: whether the first of them is told, where its name begins and how long it is.
+/// Of three functions two have too many nodes: whether the first of the two is reported, with the place and the length of its name.
 pub fn least_refused<N: Own, R: Wait>(rt: &R, alloc: Global, pool: Pool<N>) -> Result<bool, Fail> {
     let mut text = Vec::new(alloc);
     repeat(

@@ -1,4 +1,4 @@
-// What most tests do with a pool of two workers, and whether what comes of it is as it should be.
+// What most tests do with a pool of two workers, and whether the result is as it should be.
 
 ghost use Rattle.std.specs.Prelude.{◌≡◌};
 
@@ -20,9 +20,9 @@ impl Own for Brand {}
 /// What a test does with a pool. Each is a function of the module that has its test.
 #[derive(Clone, Copy)]
 pub enum Trial<'a> {
-    /// Two jobs are collected in the other order.
+    /// Two jobs are collected in the opposite order.
     EitherOrder,
-    /// Two functions of three are refused.
+    /// Two of three functions are refused.
     LeastRefused,
     /// A piece is held until the other one of its job comes.
     AtOnce,
@@ -30,7 +30,7 @@ pub enum Trial<'a> {
     HeldJob { signs: &'a Signs },
 }
 
-// Whether what comes of it is as it should be, on this pool.
+// Whether the result is as it should be on this pool.
 fn is_right_on<N: Own, R: Wait>(
     rt: &R,
     alloc: Global,
@@ -45,7 +45,7 @@ fn is_right_on<N: Own, R: Wait>(
     }
 }
 
-// The same on a pool with this queue.
+// Whether it is so on a pool with this queue.
 fn begins_right<N, R, G>(
     rt: &R,
     alloc: Global,
@@ -63,7 +63,7 @@ where
     is_right_on(rt, alloc, pool, trial)
 }
 
-/// The failure of a test where it is not so on a pool whose workers pass this gate.
+/// The failure of a test if it is not so on a pool whose workers pass this gate.
 pub fn succeeds<R, G>(rt: &R, alloc: Global, gate: G, trial: Trial) -> Result<(), Fail>
 where
     R: Threads + Wait + Copy + Send + 'static,

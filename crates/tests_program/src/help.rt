@@ -15,6 +15,8 @@ Commands:
   check      Say `ok`, or the first fault of the program
   interpret  Print the words that the program writes, and how it ends, by the definition of C
   run        Compile the program and run its image: print the words that it writes, and how it ends
+  trace      Run the program as `interpret` does, and print the newest things that it did
+  cover      Run the program as `interpret` does, and print how often each line was reached
   asm        Compile the program and list its image
   stages     Show what the compiler makes of each function, stage by stage
   size       Say how much an image takes: its code, its globals, and a stack that is enough
@@ -33,6 +35,7 @@ Commands:
 
 Options:
       --quiet    Explain no fault on standard error
+      --json     Print answers and explanations as JSON, an object a line
   -h, --help     Print help
   -V, --version  Print version
 
@@ -42,6 +45,8 @@ Examples:
   cclib interpret 1000 < examples/quotient.c
   cclib run 10000 2 104 105 < examples/checksum.c
   cclib run --checked --count 10000 2 104 105 < examples/checksum.c
+  cclib trace 1000 --last 20 < examples/quotient.c
+  cclib cover 1000 < examples/quotient.c
   cclib asm < examples/quotient.c
   cclib stages main < examples/quotient.c
   cclib size < examples/quotient.c

@@ -44,4 +44,6 @@ mod stages;
 #[cfg(test)]
 mod taking;
 #[cfg(test)]
+mod watched;
+#[cfg(test)]
 mod words;

@@ -258,12 +258,13 @@ fn asks_for_quiet(alloc: Global, words: &'static [&'static str]) -> Option<bool>
             Invocation {
                 work,
                 is_quiet,
+                is_json,
                 files,
             },
         ) => {
             drop(work);
             drop(files);
-            Some(is_quiet)
+            if is_json { None } else { Some(is_quiet) }
         }
         Err(error) => {
             drop(error);
@@ -347,9 +348,10 @@ fn reads_quiet_check(rt: &HostRuntime, words: &'static [&'static str]) -> bool {
             Invocation {
                 work: Work::One(Task::Check),
                 is_quiet,
+                is_json,
                 files,
             },
-        ) => is_quiet && files.is_empty(),
+        ) => is_quiet && !is_json && files.is_empty(),
         other => {
             drop(other);
             false

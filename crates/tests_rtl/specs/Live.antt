@@ -1,4 +1,4 @@
--- Sets of three variables, and what a node makes of such a set.
+-- Sets of three variables, and how a node changes such a set.
 use Rattle.std.proofs.Common.{◌≡◌, ℕ, ◌+◌, List, get_or, Bool, true, false, not, ◌||◌, ◌&&◌, cond, IsTrue, refl}
 use Rattle.cc_flow.specs.Lattice.{IsLattice}
 use Rattle.tests_rtl.specs.declared.flow.live.Live.{Live}
@@ -45,7 +45,7 @@ laws = record {
   within = λ x y z h i. (or_within x.a y.a z.a h.0 i.0, or_within x.b y.b z.b h.1 i.1, or_within x.c y.c z.c h.2 i.2);
 }
 
--- a variable lives in front of a node that reads it, and of one that leaves it where it lives behind
+-- a variable is live before a node that reads it, and before one that does not write it if it is live after that node
 abbrev pub live_before : (reads writes : Bool) → Bool → Bool
 live_before reads writes behind = reads || (behind && not writes)
 

@@ -9,7 +9,7 @@ use std::sync::Arc;
 use std::test::Fail;
 use tests_texts::stages::{Stage, shows_all};
 
-// Whether the function with this number goes through, and the pair names it.
+// Whether the function with this number can be translated, and the pair names it.
 fn goes_through(alloc: Global, unit: &Arc<TypedUnit>, function: usize) -> Result<bool, Fail> {
     if function >= unit.functions() {
         return Ok(false);
@@ -29,7 +29,7 @@ fn written(alloc: Global, pair: &CminorPair) -> Result<String, AllocError> {
     pair.to_string(alloc)
 }
 
-/// The way to Cminor with guards.
+/// The translation to Cminor with guards.
 pub struct GuardedStage;
 
 impl Stage for GuardedStage {
@@ -59,7 +59,7 @@ impl Stage for GuardedStage {
 
 /// A text, the number of a function, and the text of its Cminor with guards.
 static SHOWN: [(&str, usize, &str); 5] = [
-    // nothing that may go wrong: as it was, with no loop at its end
+    // nothing that may go wrong: the code stays as it was, with no loop at its end
     (
         "int a[4];int main(void){int i=read_word();return a[i&3]/2+a[3];}",
         0,
@@ -70,7 +70,7 @@ static SHOWN: [(&str, usize, &str); 5] = [
   return add(div_s(o0[and(v0, 3)], 2), o0[3])
 ",
     ),
-    // an index, which waits in a variable while the word is evaluated
+    // an index, which waits in a variable while the value is computed
     (
         "int a[3];int main(void){int i=read_word();a[i]=7;return 5;}",
         0,
@@ -92,7 +92,8 @@ static SHOWN: [(&str, usize, &str); 5] = [
       skip
 ",
     ),
-    // one test for both accesses of `a[i]`; an index that is no variable waits in one; what the loop compares with is in variables
+    // one test for both accesses of `a[i]`; an index that is not a variable is put into one; the word that the loop compares with
+    // is in a variable
     (
         "int a[3];unsigned char b[8];int main(void){int i;for(i=0;i<9;i=i+1)a[b[i+1]]+=i;}",
         0,
@@ -163,7 +164,7 @@ static SHOWN: [(&str, usize, &str); 5] = [
       skip
 ",
     ),
-    // a value that nobody uses
+    // a value that nothing uses
     (
         "int a[2];int main(void){a[9];}",
         0,

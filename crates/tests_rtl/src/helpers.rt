@@ -17,7 +17,7 @@ pub fn shared_unit(alloc: Global, text: &[u8]) -> Result<Arc<TypedUnit>, Fail> {
     Ok(Arc::new(alloc, typed)?)
 }
 
-// The RTL of the function with this number, or why there is none: 40 where there is not even Cminor.
+// The RTL of the function with this number, or a fault: 40 if the function has no Cminor either.
 fn rtl_of(alloc: Global, unit: &Arc<TypedUnit>, function: usize) -> Result<RtlPair, RtlFault> {
     if function >= unit.functions() {
         return Err(RtlFault::OutOfMemory);
@@ -28,14 +28,14 @@ fn rtl_of(alloc: Global, unit: &Arc<TypedUnit>, function: usize) -> Result<RtlPa
     }
 }
 
-/// How a function comes out: how many nodes it has, or why it is refused.
+/// The outcome for a function: how many nodes it has, or the fault's number.
 #[derive(Clone, Copy, PartialEq)]
 pub enum Answer {
     Nodes(usize),
     Fault(u32),
 }
 
-// How the function with this number comes out; a pair that names another function or unit counts as a fault.
+// The outcome for the function with this number; a pair that names another function or unit counts as a fault.
 fn answer_for(alloc: Global, unit: &Arc<TypedUnit>, function: usize) -> Answer {
     match rtl_of(alloc, unit, function) {
         Ok(pair) => {
@@ -52,7 +52,7 @@ fn answer_for(alloc: Global, unit: &Arc<TypedUnit>, function: usize) -> Answer {
     }
 }
 
-/// How the first function of a text comes out.
+/// The outcome for the first function of a text.
 pub fn first_answer(alloc: Global, text: &[u8]) -> Result<Answer, Fail> {
     let unit = shared_unit(alloc, text)?;
     let answer = answer_for(alloc, &unit, 0);
@@ -60,7 +60,7 @@ pub fn first_answer(alloc: Global, text: &[u8]) -> Result<Answer, Fail> {
     Ok(answer)
 }
 
-/// Whether each function of a text goes through, and there are this many.
+/// Whether each function of a text can be translated, and there are this many.
 pub fn all_go_through(alloc: Global, text: &[u8], functions: usize) -> Result<bool, Fail> {
     let unit = shared_unit(alloc, text)?;
     let mut right = unit.functions() == functions;
@@ -72,7 +72,7 @@ pub fn all_go_through(alloc: Global, text: &[u8], functions: usize) -> Result<bo
     Ok(right)
 }
 
-/// The RTL of one function of a text; nothing where it has none.
+/// The RTL of one function of a text, or `None` if it has none.
 pub fn pair_of(alloc: Global, text: &[u8], function: usize) -> Result<Option<RtlPair>, Fail> {
     let unit = shared_unit(alloc, text)?;
     let pair = rtl_of(alloc, &unit, function);
@@ -101,7 +101,7 @@ fn written(alloc: Global, pair: &RtlPair) -> Result<String, AllocError> {
     pair.code().to_string(alloc)
 }
 
-/// The way to RTL.
+/// The translation to RTL.
 pub struct RtlStage;
 
 impl Stage for RtlStage {

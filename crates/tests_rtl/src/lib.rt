@@ -1,9 +1,9 @@
-//! Tests of the way from C to RTL, from outside: each function of the worked programs goes through, a function is refused
-//! exactly where it has too many nodes, the text of some is what the rules of `docs/INTERMEDIATE.md` give by hand, and
+//! Tests of the translation from C to RTL, from outside: each function of the worked programs can be translated, a function is
+//! refused exactly if it has too many nodes, the text of some is what the rules of `docs/INTERMEDIATE.md` give by hand, and
 //! definitions of 64 KiB at the limits end in time.
 //!
-//! The languages beside it and what is known of its nodes have a module each: `cminor`, `ltl`, the solver in `flow`, live
-//! sets and dead nodes in `live`, and the list of instructions in `list`.
+//! Each language next to RTL and each analysis of its nodes has a module: `cminor`, `ltl`, the solver in `flow`, live sets and
+//! dead nodes in `live`, and the list of instructions in `list`.
 #![tactic(auto)]
 
 #[cfg(test)]

@@ -1,4 +1,5 @@
-// How many nodes a function has, and which one has too many. Definitions of some 64 KiB end in a test's time, whatever their shape.
+// How many nodes a function has, and which function has too many. Whatever their form, definitions of some 64 KiB end within a
+// test's time.
 
 use super::helpers::{Answer, first_answer};
 use std::alloc::Global;
@@ -6,14 +7,14 @@ use std::test::Fail;
 use tests_texts::parts::{Part, main_of, text_of};
 use tests_texts::verdict::each_passes;
 
-// Whether the first function of the text of these parts comes out so.
+// Whether the first function of the text of these parts has this outcome.
 fn comes_out(alloc: Global, parts: &[Part<'_>], answer: Answer) -> Result<bool, Fail> {
     let text = text_of(alloc, parts)?;
     Ok(first_answer(alloc, text.as_slice())? == answer)
 }
 
-/// How often `write_word(0);` and then `read_word();` stand in `main`, and how `main` comes out: a write takes three nodes, a read
-/// one, and each function has three more.
+/// How often `write_word(0);` and then `read_word();` occur in `main`, and the outcome for `main`: a write takes three nodes, a
+/// read one, and each function has three more.
 type Main = (usize, usize, Answer);
 
 static MAINS: [Main; 5] = [
@@ -33,7 +34,7 @@ fn nodes_of_main(rt: HostRuntime) -> Result<(), Fail> {
     each_passes(rt.alloc(), MAINS.as_slice(), main_comes_out)
 }
 
-/// What stands before the function, a part of its body, and how often that stands there: each has too many nodes.
+/// What comes before the statements, one statement, and how often it is repeated: each function has too many nodes.
 type Body = (&'static str, &'static str, usize);
 
 static BODIES: [Body; 7] = [
@@ -59,16 +60,16 @@ fn long_bodies(rt: HostRuntime) -> Result<(), Fail> {
     each_passes(rt.alloc(), BODIES.as_slice(), body_is_too_long)
 }
 
-/// A body of some 64 KiB that takes few nodes or none: what is opened, how often, what stands within, what closes it, and how many
+/// A body of some 64 KiB that takes few nodes or none: what opens it, how often, what is in the middle, how often, and how many
 /// nodes there are.
 type Small = (&'static str, usize, &'static str, usize, usize);
 
 static SMALL: [Small; 4] = [
     // empty statements
     ("", 0, ";", 65_000, 3),
-    // blocks within one another, with empty statements in the innermost
+    // blocks within blocks, with empty statements in the innermost
     ("{", 60, ";", 65_000, 3),
-    // a loop in a loop, each with a head, a constant that is tested and a branch
+    // a loop within a loop, each with a head, a constant that is tested and a branch
     ("for(;;)", 60, ";", 1, 183),
     // `if` within `if`, each with a constant that is tested and a branch
     ("if(1)", 60, ";", 1, 123),
@@ -91,8 +92,8 @@ fn small_bodies(rt: HostRuntime) -> Result<(), Fail> {
     each_passes(rt.alloc(), SMALL.as_slice(), small_comes_out)
 }
 
-/// An expression of about 512 tokens that is returned: what is repeated, how often, what stands within, what is repeated behind that,
-/// and how many nodes the function has. An object of one word takes a constant and a load.
+/// An expression of about 512 tokens that is returned: what is repeated before the middle, how often, the middle, what is
+/// repeated as often after it, and how many nodes the function has. An object of one word takes a constant and a load.
 type Expression = (&'static str, usize, &'static str, &'static str, usize);
 
 static EXPRESSIONS: [Expression; 4] = [

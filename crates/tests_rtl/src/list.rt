@@ -1,12 +1,12 @@
-// Tests of the instruction list, from outside: labels through edits, worked by hand, a list that is emptied and filled again, items
-// that are dropped once, and the most labels.
+// Tests of the instruction list, from outside: labels across edits, worked out by hand; a list that is emptied and filled again;
+// items that are dropped exactly once; and the greatest number of labels.
 
 use cc_instr_list::InstrList;
 use std::rc::Rc;
 use std::string::String;
 use std::test::*;
 
-// The labels and items of a list, from its first on.
+// The labels and items of a list, from its first one on.
 fn forward(rt: &HostRuntime, list: &InstrList<u32>) -> Result<Vec<(u32, u32)>, Fail> {
     let mut seen = Vec::new(rt.alloc());
     let mut next = list.first();
@@ -86,8 +86,8 @@ fn a_list_of_the_most_labels_takes_no_stack(rt: HostRuntime) -> Result<(), Fail>
     Ok(())
 }
 
-// Adds an item at the end: whether it has the next label; where memory ran out, whether it came back and the list stayed, and it goes in when
-// it is added again.
+// Adds an item at the end, and checks that it has the next label. If memory ran out, checks that the item came back, that the
+// list did not change, and that the item can then be added.
 fn pushes(list: &mut InstrList<u32>, item: u32) -> bool {
     let (given, before) = (list.given(), list.len());
     if given >= 65536 {
@@ -102,7 +102,7 @@ fn pushes(list: &mut InstrList<u32>, item: u32) -> bool {
     }
 }
 
-// The same before the first item: whether it is the first then.
+// The same before the first item: checks that the item is then the first.
 fn inserts(list: &mut InstrList<u32>, item: u32) -> bool {
     let (given, before) = (list.given(), list.len());
     let Some(first) = list.first() else {
@@ -120,7 +120,7 @@ fn inserts(list: &mut InstrList<u32>, item: u32) -> bool {
     }
 }
 
-// Each of these growths may be refused (`bench/memory.sh list` refuses each in turn).
+// Any of these growths may be refused (`bench/memory.sh list` refuses each in turn).
 #[test]
 fn a_refused_growth_hands_the_item_back(rt: HostRuntime) {
     let mut list = InstrList::new(rt.alloc());

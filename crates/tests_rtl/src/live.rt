@@ -1,7 +1,8 @@
-// Tests of live sets and of functions without dead nodes, from outside: sets worked by hand, what goes and what stays, and functions of
-// some 4,096 nodes in time.
+// Tests of live sets and of functions without dead nodes, from outside: sets worked out by hand, which nodes are dropped and
+// which remain, and functions of some 4,096 nodes in time.
 //
-// `helpers` takes a text to the RTL of one function, `worked` has the sets and the nodes that go, `large` the long functions.
+// `helpers` makes the RTL of one function of a text, `worked` has the sets and the nodes that are dropped, and `large` the long
+// functions.
 
 #[cfg(test)]
 mod helpers;

@@ -1,4 +1,4 @@
-// The text of the RTL of whole functions, worked by hand from the rules in `docs/INTERMEDIATE.md`.
+// The text of the RTL of whole functions, worked out by hand from the rules in `docs/INTERMEDIATE.md`.
 
 use super::helpers::RtlStage;
 use std::test::Fail;
@@ -6,8 +6,8 @@ use tests_texts::stages::shows_all;
 
 /// A text, the number of a function, and the text of its RTL.
 static SHOWN: [(&str, usize, &str); 8] = [
-    // a value goes straight into the register that is returned; behind the body stand the constant and the return of a function that
-    // runs off its end
+    // a value goes straight into the register that is returned; after the body come the constant and the return of a function
+    // that runs off its end
     (
         "int f(int a,int b){return a-b;}int main(void){}",
         0,
@@ -19,7 +19,7 @@ static SHOWN: [(&str, usize, &str); 8] = [
 4: return r2
 ",
     ),
-    // no statement at all
+    // no statements at all
     (
         "int main(void){}",
         0,
@@ -29,7 +29,7 @@ static SHOWN: [(&str, usize, &str); 8] = [
 2: return r0
 ",
     ),
-    // a variable is its own register, in a condition as in an argument; temporaries stand above all variables
+    // a variable is its own register, in a condition as in an argument; temporaries are above all variables
     (
         "int f(int n){if(n)return f(n-1);return 7;}int main(void){write_word(f(1022));}",
         0,
@@ -46,7 +46,7 @@ static SHOWN: [(&str, usize, &str); 8] = [
 9: return r2
 ",
     ),
-    // a loop's head stands behind its body and leads back; `break` and the end of a condition lead behind the loop
+    // a loop's head comes after its body and leads back; `break` and the end of a condition lead past the loop
     (
         "int main(void){for(;;);write_word(1);}",
         0,
@@ -62,7 +62,7 @@ static SHOWN: [(&str, usize, &str); 8] = [
 8: return r1
 ",
     ),
-    // an `else` goes with the nearest `if`; both ways meet behind
+    // an `else` belongs to the nearest `if`; both ways meet after it
     (
         "int main(void){if(0)if(1)write_word(1);else write_word(2);}",
         0,
@@ -82,7 +82,7 @@ static SHOWN: [(&str, usize, &str); 8] = [
 12: return r1
 ",
     ),
-    // an element: operands from left to right, each in a register of its own
+    // an element: the operands from left to right, each in a register of its own
     (
         "int a[2];int f(void){a[0]=1;return 1;}int main(void){a[f()]+=a[0]+5;write_word(a[1]);}",
         1,
@@ -104,7 +104,7 @@ static SHOWN: [(&str, usize, &str); 8] = [
 14: return r1
 ",
     ),
-    // a local is set to 0 on each turn; a comparison stands straight in front of its branch
+    // a local is set to 0 in each turn; a comparison comes directly before its branch
     (
         "int main(void){int i;for(i=0;i<2;i++){int x=x+1;write_word(x);}}",
         0,

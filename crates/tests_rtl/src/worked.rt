@@ -1,4 +1,4 @@
-// The functions of the worked programs go through.
+// The functions of the worked programs can be translated.
 
 use super::helpers::RtlStage;
 use std::test::Fail;

@@ -1,9 +1,12 @@
 // Audits of all units: of those that the session itself compiled, and of those that were on the disk.
 
-use crate::helpers::{answers_on, first_wrong, with_record};
-use cc_session::SessionEnd;
+use crate::helpers::{answers_on, first_wrong, with_record, with_record_in};
+use cc_link::compile;
+use cc_session::{NoGate, SessionEnd, session_and_explain};
 use std::alloc::Global;
+use std::sync::{Arc, Wait};
 use std::test::Fail;
+use std::thread::Threads;
 
 // Scripts, and the lines of their answers.
 static SCRIPTS: [(&str, &str); 5] = [
@@ -64,5 +67,74 @@ fn audits_of_units_on_the_disk(rt: HostRuntime) -> Result<(), Fail> {
     );
     let script = b"audit\n".as_slice();
     assert!(rt; answers_on(&rt, alloc, script, empty, "audit a unconfirmed\nok\n", end)?);
+    Ok(())
+}
+
+// What a person reads of an audit of the unit of a record with this body.
+fn explained<H>(rt: &H, alloc: Global, body: &[u8]) -> Result<Vec<u8>, Fail>
+where
+    H: Threads + Wait + Copy + Send + 'static,
+{
+    let disk = with_record_in(alloc, 4096, body)?;
+    let mut script = b"audit\n".as_slice();
+    let mut answers = Vec::new(alloc);
+    let mut explanations = Vec::new(alloc);
+    let (disk, end) = session_and_explain(
+        rt,
+        alloc,
+        &mut script,
+        &mut answers,
+        &mut explanations,
+        disk,
+        1,
+        NoGate,
+    );
+    drop(disk);
+    if end != SessionEnd::Finished
+        || answers.as_slice() != b"audit a unconfirmed\nok\n".as_slice()
+    {
+        return Err(Fail::from("another answer"));
+    }
+    Ok(explanations)
+}
+
+#[test]
+fn the_part_that_fails_is_explained(rt: HostRuntime) -> Result<(), Fail> {
+    let alloc = rt.alloc();
+    let Ok(made) = compile(alloc, b"int main(void){}".as_slice()) else {
+        return Err(Fail::from("not compiled"));
+    };
+    let unit = Arc::try_clone(made.stored())?;
+    drop(made);
+    let Some(certificate) = &unit.certificate else {
+        return Err(Fail::from("no certificate"));
+    };
+    // The right certificate, beside another image.
+    let Ok(length) = u32::try_from(certificate.bytes().len()) else {
+        return Err(Fail::from("a long certificate"));
+    };
+    let mut right = Vec::from_slice(alloc, length.to_le_bytes().as_slice())?;
+    right.extend_from_slice(certificate.bytes())?;
+    let image = explained(&rt, alloc, body(alloc, 2, right.as_slice())?.as_slice())?;
+    assert_eq!(rt;
+        image.as_slice(),
+        b"cclib: a: the image is not what this version makes: another version made it, or it is damaged\n".as_slice()
+    );
+    let empty = body(alloc, 2, &[0, 0, 0, 0])?;
+    let function = explained(&rt, alloc, empty.as_slice())?;
+    assert_eq!(rt;
+        function.as_slice(),
+        b"cclib: a: the certificate does not show the code of main: another version made it, or it is damaged\n".as_slice()
+    );
+    // A text whose last byte is `]`.
+    let mut refused = body(alloc, 2, &[0, 0, 0, 0])?;
+    if let Some(last) = refused.get_mut(23) {
+        *last = b']';
+    }
+    let text = explained(&rt, alloc, refused.as_slice())?;
+    assert_eq!(rt;
+        text.as_slice(),
+        b"cclib: a: the source is not a program's: fault 5\n".as_slice()
+    );
     Ok(())
 }

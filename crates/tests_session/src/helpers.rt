@@ -18,15 +18,20 @@ pub fn formatted(alloc: Global, area: u32) -> Result<MemoryDisk, Fail> {
     Ok(disk)
 }
 
-/// A formatted disk with two areas of 64 bytes, and a record with this body.
-pub fn with_record(alloc: Global, body: &[u8]) -> Result<MemoryDisk, Fail> {
-    match Journal::open(alloc, formatted(alloc, 64)?) {
+/// A formatted disk with two areas of this size, and a record with this body.
+pub fn with_record_in(alloc: Global, area: u32, body: &[u8]) -> Result<MemoryDisk, Fail> {
+    match Journal::open(alloc, formatted(alloc, area)?) {
         Ok(mut journal) => {
             journal.append(alloc, body)?;
             Ok(journal.into_disk())
         }
         Err(_) => Err(Fail::from("not opened")),
     }
+}
+
+/// The same with two areas of 64 bytes.
+pub fn with_record(alloc: Global, body: &[u8]) -> Result<MemoryDisk, Fail> {
+    with_record_in(alloc, 64, body)
 }
 
 /// Whether a session over these streams on a disk with this area ends so, and gives the disk back.

@@ -4,7 +4,7 @@
 //! selection, `refusals` what is refused, `failing` readers and writers that fail, `hints` sources that are handed in before their turn,
 //! `files` a library in a file, `spools` scripts of several clients, `serving` many clients at once, `generations` one service behind the
 //! other, `stopping` scripts that end while others wait, `showing` images and sources of units, `updating` the lines that compare, audit or
-//! run one unit.
+//! run one unit, or measure an area.
 #![tactic(auto)]
 
 #[cfg(test)]

@@ -1,4 +1,5 @@
-// The lines of a served script that compare a stored source before they replace it, audit one unit, or run one on input words.
+// The lines of a served script that compare a stored source before they replace it, audit one unit, run one on input words, or measure how
+// much of an area is used.
 
 use crate::helpers::answers;
 use crate::showing::is_served;
@@ -68,6 +69,22 @@ static LOOKS: [(&str, &str); 3] = [
     ),
 ];
 
+// The record of `int main(void){}` under a name of one letter takes 121 bytes, by bench/records.py; that of a withdrawal 9.
+static SPACES: [(&str, &str); 3] = [
+    (
+        "space\nspace a\nspace \nSpace\nlist\n",
+        "space 262144 0 0 0\nok\nfault 50 BadLine\nfault 50 BadLine\nfault 50 BadLine\nok 1\n",
+    ),
+    (
+        "add a 16\nint main(void){}\nadd b 16\nint main(void){}\nspace\nreplace a 16\nint main(void){}\nspace\ncompact\nspace\n",
+        "ok 1\nok 2\nspace 262144 242 242 2\nok\nok 3\nspace 262144 363 242 2\nok\nok\nspace 262144 242 242 2\nok\n",
+    ),
+    (
+        "add a 16\nint main(void){}\nadd b 1\nx\nwithdraw a\nspace\nlist\n",
+        "ok 1\nfault 5 Unexpected at 1:1\nok 2\nspace 262144 130 0 0\nok\nok 3\n",
+    ),
+];
+
 #[test]
 fn updates(rt: HostRuntime) -> Result<(), Fail> {
     let alloc = rt.alloc();
@@ -85,6 +102,19 @@ fn updates(rt: HostRuntime) -> Result<(), Fail> {
 fn audits_and_calls(rt: HostRuntime) -> Result<(), Fail> {
     let alloc = rt.alloc();
     for (script, lines) in LOOKS.iter() {
+        let (bytes, wanted) = (script.as_bytes(), lines.as_bytes());
+        assert!(rt;
+            is_served(&rt, alloc, bytes, ROOM, wanted, None)?,
+            "for {script}"
+        );
+    }
+    Ok(())
+}
+
+#[test]
+fn spaces(rt: HostRuntime) -> Result<(), Fail> {
+    let alloc = rt.alloc();
+    for (script, lines) in SPACES.iter() {
         let (bytes, wanted) = (script.as_bytes(), lines.as_bytes());
         assert!(rt;
             is_served(&rt, alloc, bytes, ROOM, wanted, None)?,
@@ -117,8 +147,8 @@ fn scripts_that_end_early(rt: HostRuntime) -> Result<(), Fail> {
 // A session's script has none of these lines.
 #[test]
 fn no_lines_of_a_session(rt: HostRuntime) -> Result<(), Fail> {
-    let script = b"update a 1 1\naudit a\ncall a 1 1\nlist\n".as_slice();
-    let lines = "fault 50 BadLine\nfault 50 BadLine\nfault 50 BadLine\nok 1\n";
+    let script = b"update a 1 1\naudit a\ncall a 1 1\nspace\nlist\n".as_slice();
+    let lines = "fault 50 BadLine\nfault 50 BadLine\nfault 50 BadLine\nfault 50 BadLine\nok 1\n";
     let wanted = SessionEnd::Finished;
     assert!(rt; answers(&rt, rt.alloc(), script, 4096, lines, wanted)?);
     Ok(())

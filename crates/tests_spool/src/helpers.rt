@@ -4,8 +4,8 @@
 // in many places, would be proved for minutes, since each of its exits lets go of all that it has.
 
 use cc_spool::{
-    AnswerFile, FolderLayout, FolderSpool, Held, Limits, Recovered, Spool, Submission, clear_old,
-    count_entries, recover, submit, take_folder,
+    AnswerFile, FolderLayout, FolderSpool, Held, Limits, Recovered, ScriptFile, Spool, Submission,
+    clear_old, count_entries, recover, submit, take_folder,
 };
 use std::fs::{self, File, OpenOptions, Permissions};
 use std::io::{Read, Write};
@@ -67,6 +67,24 @@ impl Folder {
             Ok(found) => found.as_str() == text,
             Err(_) => false,
         }
+    }
+
+    /// Whether a log has these lines, each after a time and a user.
+    pub fn has_log(self, name: &str, wanted: &str) -> bool {
+        let path = self.path_in(".", name);
+        let Ok(text) = fs::read_to_string(&self.rt, path.as_str()) else {
+            return false;
+        };
+        let mut said = String::new(self.rt.alloc());
+        for line in text.as_str().lines() {
+            let mut words = line.splitn(3, ' ');
+            let (_, _) = (words.next(), words.next());
+            let is_kept = said.push_str(words.next().unwrap_or("")).is_ok();
+            if !is_kept || said.push('\n').is_err() {
+                return false;
+            }
+        }
+        said.as_str() == wanted
     }
 
     /// Takes a file away.
@@ -253,7 +271,7 @@ fn held(mut layout: FolderLayout) -> Option<(FolderLayout, Held)> {
 }
 
 /// The next script, which waits: a change is seen by a look that is made a moment later.
-pub fn begun(spool: &mut FolderSpool) -> Option<(File, AnswerFile)> {
+pub fn begun(spool: &mut FolderSpool) -> Option<(ScriptFile, AnswerFile)> {
     for _ in 0..1000 {
         let next = spool.next();
         if next.is_some() {
@@ -350,6 +368,18 @@ pub fn answer(
     };
     spool.deliver(script, answer, None);
     Some(is_written && is_done)
+}
+
+/// Reads the next script whole, once it comes, and answers it by this text; whether all of that succeeds.
+pub fn answer_read(folder: Folder, spool: &mut FolderSpool, text: &str) -> bool {
+    let Some((mut script, mut answer)) = begun(spool) else {
+        return false;
+    };
+    let mut bytes = Vec::new(folder.rt.alloc());
+    let is_read = script.read_to_end(&mut bytes).is_ok();
+    let is_written = answer.write_all(text.as_bytes()).is_ok();
+    spool.deliver(script, answer, None);
+    is_read && is_written
 }
 
 /// Answers what waits; how many scripts that were, up to 20.

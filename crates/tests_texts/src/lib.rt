@@ -1,6 +1,7 @@
-//! Texts that the tests of several crates share: `programs` has eight programs of `bench/programs`, `worked` the worked programs with the
-//! number of functions of each, `parts` makes texts of parts, `stages` has what the tests of a stage ask of it, `streams` readers and
-//! writers that fail, `lists` lists of one and of two, `verdict` what tests answer.
+//! Texts that the tests of several crates share: `programs` has eight programs of `bench/programs`; `worked` has the worked
+//! programs, with the number of functions of each; `parts` makes texts from parts; `stages` has what the tests of a stage need
+//! from it; `streams` has readers and writers that fail; `lists` makes lists of one and of two; and `verdict` has the results of
+//! tests.
 #![tactic(auto)]
 
 pub mod lists;

@@ -1,11 +1,11 @@
-// Texts made of parts.
+// Texts made from parts.
 
 use std::alloc::{AllocError, Global};
 
-/// A part of a text, and how often it stands there.
+/// A part of a text, and how often it is repeated.
 pub type Part<'a> = (&'a str, usize);
 
-/// Puts a part behind a text, this many times.
+/// Appends a part to a text, this many times.
 pub fn append(text: &mut Vec<u8>, part: &str, times: usize) -> Result<(), AllocError> {
     for _ in 0..times {
         text.extend_from_slice(part.as_bytes())?;
@@ -13,7 +13,7 @@ pub fn append(text: &mut Vec<u8>, part: &str, times: usize) -> Result<(), AllocE
     Ok(())
 }
 
-/// The parts of a text whose `main` writes 0 so often and then reads so often.
+/// The parts of a text whose `main` writes 0 `writes` times and then reads `reads` times.
 pub fn main_of(writes: usize, reads: usize) -> [Part<'static>; 4] {
     [
         ("int main(void){", 1),

@@ -1,19 +1,19 @@
-// What the tests of a stage of the compiler ask of it.
+// What the tests of a stage of the compiler need from it.
 
 use crate::worked::PROGRAMS;
 use std::alloc::Global;
 use std::test::Fail;
 
-/// A stage that makes functions of its language of a text.
+/// A stage that translates a text to functions of its language.
 pub trait Stage {
-    /// Whether each function of a text goes through, and there are this many.
+    /// Whether each function of a text can be translated, and there are this many.
     fn all_go_through(alloc: Global, text: &[u8], functions: usize) -> Result<bool, Fail>;
 
-    /// The text of what one function comes to; nothing where it does not go through.
+    /// The text of one function in the stage's language, or `None` if it cannot be translated.
     fn text_of(alloc: Global, text: &[u8], function: usize) -> Result<Option<String>, Fail>;
 }
 
-/// The first of the worked programs of which a function does not go through.
+/// The first of the worked programs with a function that cannot be translated.
 pub fn first_stopped<S: Stage>(alloc: Global) -> Result<Option<&'static str>, Fail> {
     for (text, functions) in PROGRAMS.iter() {
         if !S::all_go_through(alloc, text.as_bytes(), *functions)? {
@@ -23,7 +23,7 @@ pub fn first_stopped<S: Stage>(alloc: Global) -> Result<Option<&'static str>, Fa
     Ok(None)
 }
 
-// Whether a function of a text comes to these lines.
+// Whether these lines are the text of a function in the stage's language.
 fn shows<S: Stage>(alloc: Global, text: &str, function: usize, lines: &str) -> Result<bool, Fail> {
     match S::text_of(alloc, text.as_bytes(), function)? {
         Some(shown) => Ok(shown.as_str() == lines),
@@ -31,10 +31,10 @@ fn shows<S: Stage>(alloc: Global, text: &str, function: usize, lines: &str) -> R
     }
 }
 
-/// A text, the number of a function, and the lines that it comes to.
+/// A text, the number of a function, and its lines in the stage's language.
 pub type Shown = (&'static str, usize, &'static str);
 
-/// Ok where each function of the worked programs goes through.
+/// Ok if each function of the worked programs can be translated.
 pub fn takes_all<S: Stage>(alloc: Global) -> Result<(), Fail> {
     match first_stopped::<S>(alloc)? {
         None => Ok(()),
@@ -42,7 +42,7 @@ pub fn takes_all<S: Stage>(alloc: Global) -> Result<(), Fail> {
     }
 }
 
-/// Ok where each of these comes to its lines.
+/// Ok if each of these functions has its lines.
 pub fn shows_all<S: Stage>(alloc: Global, wanted: &[Shown]) -> Result<(), Fail> {
     match first_unlike::<S>(alloc, wanted)? {
         None => Ok(()),
@@ -52,7 +52,7 @@ pub fn shows_all<S: Stage>(alloc: Global, wanted: &[Shown]) -> Result<(), Fail> 
     }
 }
 
-/// The first of these that comes to other lines: its text and the function.
+/// The first of these functions that has other lines: its text and its number.
 pub fn first_unlike<S: Stage>(
     alloc: Global,
     wanted: &[Shown],

@@ -2,7 +2,7 @@
 
 use std::io::{self, ErrorKind, Read, Write};
 
-/// Gives these bytes, and fails from then on.
+/// Gives these bytes, and then fails.
 #[derive(Drop)]
 pub struct FailsBehind {
     pub bytes: &'static [u8],

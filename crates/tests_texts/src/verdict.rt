@@ -1,9 +1,10 @@
-// What a test answers. One call ends a test that would be proved for seconds if it handed its errors on by itself and asserted.
+// The result of a test. Tests end with one of these calls, since a test that passed its errors on by itself and asserted would
+// take seconds to prove.
 
 use std::alloc::Global;
 use std::test::Fail;
 
-/// Ok where what a test looks at is as it has to be.
+/// Ok if what a test checks is as it should be.
 pub fn passes(answer: Result<bool, Fail>) -> Result<(), Fail> {
     match answer {
         Ok(true) => Ok(()),
@@ -12,7 +13,7 @@ pub fn passes(answer: Result<bool, Fail>) -> Result<(), Fail> {
     }
 }
 
-/// The same, whose failure has this text too.
+/// The same, but a failure also has this text.
 pub fn passes_for(answer: Result<bool, Fail>, text: &str) -> Result<(), Fail> {
     match answer {
         Ok(true) => Ok(()),
@@ -21,7 +22,7 @@ pub fn passes_for(answer: Result<bool, Fail>, text: &str) -> Result<(), Fail> {
     }
 }
 
-/// Ok where each row of a table is as it has to be; else the failure has the number of the first that is not.
+/// Ok if each row of a table is as it should be; otherwise the failure has the number of the first row that is not.
 pub fn each_passes<T, F: Fn(Global, &T) -> Result<bool, Fail>>(
     alloc: Global,
     rows: &[T],

@@ -1,6 +1,6 @@
 // The worked programs.
 
-/// A function that gives its argument, and a `main` with 24 locals that are alive over its call.
+/// A function that returns its argument, and a `main` with 24 locals that are live across a call of it.
 pub const LONG: &str =
     "int f(int x){return x;}int main(void){int v1=read_word();int v2=read_word();int v3=read_word();int v4=read_word();int v5=read_word();int v6=read_word();int v7=read_word();int v8=read_word();int v9=read_word();int v10=read_word();int v11=read_word();int v12=read_word();int v13=read_word();int v14=read_word();int v15=read_word();int v16=read_word();int v17=read_word();int v18=read_word();int v19=read_word();int v20=read_word();int v21=read_word();int v22=read_word();int v23=read_word();int v24=read_word();write_word(f(0));write_word(v1+v2+v3+v4+v5+v6+v7+v8+v9+v10+v11+v12+v13+v14+v15+v16+v17+v18+v19+v20+v21+v22+v23+v24);}";
 

@@ -1,4 +1,5 @@
-// An allocation with operands exchanged, the bytes of one with one byte changed, and all of their prefixes.
+// Allocations that are wrong or only differently spelled: one with two operands exchanged, one with each of its bytes changed, and each
+// prefix of its bytes.
 
 use super::changes::{Change, changed};
 use super::pairs::{pair_of, unit_of};
@@ -14,7 +15,7 @@ use std::test::Fail;
 use tests_texts::verdict::passes;
 use tests_texts::worked::LONG;
 
-// The operation with two operands, its operands exchanged, and its place.
+// The place of the first operation with two operands, and that operation with them exchanged; `None` if there is none.
 fn exchanged(ltl: &Ltl) -> Option<(usize, Operation)> {
     for (place, block) in ltl.blocks().iter().enumerate() {
         if let Operation::Binary {
@@ -38,7 +39,7 @@ fn exchanged(ltl: &Ltl) -> Option<(usize, Operation)> {
     None
 }
 
-// With the operands exchanged it is refused with 24, and the pair that comes back is right with the allocation as it was.
+// With its operands exchanged the operation is refused with 24, and the pair that comes back is accepted with the unchanged allocation.
 fn difference_is_guarded(alloc: Global) -> Result<bool, Fail> {
     let unit = unit_of(alloc, DIFFERENCE.as_bytes())?;
     let pair = pair_of(alloc, &unit, 0)?;
@@ -63,7 +64,8 @@ fn exchanged_operands_are_refused(rt: HostRuntime) -> Result<(), Fail> {
     passes(difference_is_guarded(rt.alloc()))
 }
 
-// Bytes are no function, or one that is refused, or one that is right: the RTL to ask with again. None where they are answered otherwise.
+// Bytes are not a function, or are one that is refused, or one that is accepted: then the RTL to ask with again. `None` for any other
+// answer.
 fn answered(
     alloc: Global,
     unit: &Arc<TypedUnit>,
@@ -88,7 +90,7 @@ fn answered(
     }
 }
 
-// The bytes with each value at a place.
+// Tries every value of the byte at a place.
 fn place_answered(
     alloc: Global,
     unit: &Arc<TypedUnit>,
@@ -116,7 +118,7 @@ fn place_answered(
     Ok(left)
 }
 
-// Each byte of a function's allocation has each value, of the bytes one in `one_in`, from the first one on.
+// Tries every value of one byte in `one_in` of a function's allocation, beginning at `first`.
 fn are_answered(
     alloc: Global,
     text: &str,
@@ -140,7 +142,7 @@ fn are_answered(
     Ok(left.is_some())
 }
 
-// Each prefix of a function's allocation that is shorter has 37.
+// Each proper prefix of the bytes of a function's allocation is refused with 37.
 fn are_prefixes_refused(alloc: Global, text: &str, function: usize) -> Result<bool, Fail> {
     let unit = unit_of(alloc, text.as_bytes())?;
     let ltl = spill_all(alloc, pair_of(alloc, &unit, function)?.code())?;

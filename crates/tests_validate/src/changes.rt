@@ -1,5 +1,5 @@
-// Single changes of a function of LTL: one register, slot, successor, operator, constant or number of one operation or move is another,
-// or one move is dropped or made twice.
+// Single changes of a function of LTL: one register, slot, successor, operator, constant or number of one operation or move is replaced by
+// another, or one move is dropped or made twice.
 
 use cc_ltl::{Block, Ltl, Move, Moves, Operation, Register, Slot};
 use cc_words::{Binary, Unary, Width};
@@ -54,7 +54,7 @@ fn other_binary(operator: Binary) -> Binary {
     }
 }
 
-/// A change of a move, by its number, where it has that many: two of what it sets, two of what it reads.
+/// A change of a move, by its number, if it has that many: two of what it sets, two of what it reads.
 pub fn changed_move(each: &Move, slots: u16, number: u32) -> Option<Move> {
     if number > 3 {
         return None;
@@ -77,7 +77,7 @@ pub fn changed_move(each: &Move, slots: u16, number: u32) -> Option<Move> {
     }
 }
 
-// A part of an operation: another one in the place that is changed.
+// A part of an operation, which is replaced by another if it is the one that is changed.
 fn register_at(number: u32, place: u32, register: Register) -> Register {
     if number == place {
         other(register, false)
@@ -221,8 +221,8 @@ fn changed_plain(operation: Operation, blocks: u32, number: u32) -> Operation {
     }
 }
 
-/// A change of a list of moves: the change of this number of the move at a place, or the move dropped or made twice. None where there
-/// are not that many.
+/// A list of moves with one change: the change with this number of the move at a place, or that move dropped or made twice. `None` if there
+/// is no change with that number.
 pub fn changed_moves(
     alloc: Global,
     moves: &[Move],
@@ -247,7 +247,7 @@ pub fn changed_moves(
     Ok(Some(changed))
 }
 
-/// Moves of a block, where there are not too many.
+/// These as the moves of a block, if there are not too many.
 pub fn as_moves(moves: Vec<Move>) -> Result<Moves, Fail> {
     match Moves::new(moves) {
         Ok(moves) => Ok(moves),
@@ -258,7 +258,7 @@ pub fn as_moves(moves: Vec<Move>) -> Result<Moves, Fail> {
     }
 }
 
-/// What one block becomes: another operation, or other moves before or behind it.
+/// What one block becomes: another operation, or other moves before or after it.
 #[derive(Drop)]
 pub enum Change {
     Operation(Operation),
@@ -283,7 +283,7 @@ fn changed_block(alloc: Global, block: &Block, change: Change) -> Result<Block, 
     })
 }
 
-/// The function whose block at a place is changed. None where that is no function.
+/// The function with the block at a place changed. `None` if the result is not a function.
 pub fn changed(
     alloc: Global,
     ltl: &Ltl,

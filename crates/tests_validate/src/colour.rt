@@ -1,6 +1,6 @@
-// Tests of the register allocator from outside, with the validator as judge: none of its answers is refused for a table of functions, small
-// ones have the moves and the places that one would choose by hand, what is used in loops stays in registers, and whatever live sets it is
-// given, it answers.
+// Tests of the register allocator from outside, with the validator as judge: none of its answers for a table of functions is refused; small
+// functions get the moves and places that one would choose by hand; what loops use stays in registers; and it answers whatever live sets it
+// is given.
 
 #[cfg(test)]
 mod accepted;

@@ -1,10 +1,10 @@
 // A small interpreter of RTL.
 
 use super::world::{Next, Stop, World};
-use cc_rtl::{Node, Rtl, RtlPair};
+use cc_rtl::{Node, RtlPair};
 use std::alloc::{AllocError, Global};
 
-/// The words of registers, 0 where none was put.
+/// The words of registers, 0 for each that was never written.
 #[derive(Drop)]
 struct Registers {
     words: Vec<u32>,
@@ -29,7 +29,7 @@ impl Registers {
     }
 }
 
-/// The run of a function for at most this many nodes, with at most this many calls open.
+/// Runs a function for at most this many nodes, with at most this many open calls.
 #[cycle(graphs)]
 pub fn run_graph(
     alloc: Global,
@@ -59,7 +59,7 @@ pub fn run_graph(
     Ok(Stop::Going)
 }
 
-// One node.
+// Executes one node.
 #[cycle(graphs)]
 fn step(
     alloc: Global,
@@ -162,7 +162,7 @@ fn step(
     }
 }
 
-// A word goes to a register, where there is one.
+// Writes a word to a register, if there is a word.
 fn put(
     registers: &mut Registers,
     to: u32,

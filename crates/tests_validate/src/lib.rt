@@ -1,8 +1,8 @@
-//! Tests of the validator from outside: every single change of an allocation is refused, or is harmless by what small interpreters of RTL
-//! and LTL see. `texts` has the functions, `world` what an interpreter shares, `graph` and `located` the two interpreters, `changes` what is
-//! changed. `calls` has which registers keep a value over a call, and `turns` words that few and many moves turn round.
+//! Tests of the validator from outside: every single change of an allocation is refused, or makes no difference that small interpreters of
+//! RTL and LTL see. `texts` has the functions, `graph` and `located` the two interpreters, `world` what they share, `changes` the changes.
+//! `calls` tests which registers keep a value across a call, and `turns` few and many moves that turn words round.
 //!
-//! `colour` has the tests of the allocator, whose judge the validator is, and `linear` those of what validated code becomes.
+//! `colour` tests the allocator, with the validator as its judge, and `linear` tests what becomes of validated code.
 #![tactic(auto)]
 
 #[cfg(test)]

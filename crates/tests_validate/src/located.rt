@@ -1,5 +1,5 @@
-// A small interpreter of LTL. What a call, a read or a write destroys, and what stands anywhere at entry, are words of a list that the
-// caller chooses by a seed.
+// A small interpreter of LTL. The words that a call, a read or a write leaves in what it destroys, and those that are anywhere at the
+// entry, come from a list that the caller chooses by a seed.
 
 use super::graph::run_graph;
 use super::world::{Next, Stop, World};
@@ -7,7 +7,7 @@ use cc_ltl::{Block, Ltl, Move, Operation, Register, Slot};
 use cc_rtl::RtlPair;
 use std::alloc::{AllocError, Global};
 
-/// The words of registers and slots, and the list of words that unknown ones have.
+/// The words of registers and slots, and the list of words for what is unknown.
 #[derive(Drop)]
 struct Places {
     registers: Vec<u32>,
@@ -127,7 +127,7 @@ fn block_at(ltl: &Ltl, label: u32) -> Option<&Block> {
     }
 }
 
-/// The run of LTL for at most this many blocks; a function that it calls runs as RTL.
+/// Runs LTL for at most this many blocks; a function that it calls runs as RTL.
 pub fn run_located(
     alloc: Global,
     program: &[RtlPair],
@@ -154,7 +154,7 @@ pub fn run_located(
     Ok(Stop::Going)
 }
 
-// One operation.
+// Executes one operation.
 fn step(
     alloc: Global,
     program: &[RtlPair],
@@ -237,7 +237,7 @@ fn step(
     }
 }
 
-// A word goes to a register, where there is one.
+// Writes a word to a register, if there is a word.
 fn put(places: &mut Places, to: Register, word: Option<u32>, next: u32) -> Next {
     match word {
         Some(word) => {

@@ -2,7 +2,7 @@
 
 use tests_texts::worked::LONG;
 
-/// A text, the number of the function, how many words the object has.
+/// A text, the number of the function, and how many words its object has.
 pub type Function = (&'static str, u32, u32);
 
 pub static FUNCTIONS: [Function; 17] = [

@@ -1,4 +1,4 @@
--- The tree of a list of arguments that is being made, or walked.
+-- The tree of a list of arguments that is being built or read.
 use Rattle.std.specs.Prelude.{List, [], ◌∷◌}
 use Rattle.cc_ast.specs.Tree.{Exprs, none, more}
 use Rattle.cc_ast.specs.Erase.{expression_tree}

@@ -1,4 +1,4 @@
--- What a row holds: nothing where there is no word, nothing past its end.
+-- What a row holds: nothing if it has no word, and nothing past its end.
 use Rattle.std.proofs.Common.{◌≡◌, ℕ, ◌*◌, ◌/◌, ◌%◌, ◌<◌, ◌≤◌, List, [], length, ap, ◌∙◌, Bool, ◌==◌, ◌||◌, ◌&&◌, nat_lt, false, refl, IsTrue, arith, inl, inr, max, zero, suc}
 use Rattle.std.specs.Int.{bit_at}
 use Rattle.std.specs.Int.RustNames.{bit_or}

@@ -1,4 +1,4 @@
--- The code of a function that is resolved.
+-- The code of a resolved function.
 use Rattle.std.specs.Prelude.{◌≡◌, ℕ, List}
 use Rattle.cc_ast.specs.Tree.{External}
 use Rattle.cc_resolve.specs.Layout.{layout_of}

@@ -1,6 +1,6 @@
--- How the body of a function becomes Cminor. A local's number is how many locals are older than it (`Rattle.cc_resolve.specs.Environment`), and
--- values that have to wait are kept in variables above all locals in scope. Nobody has to believe this page: what a pair keeps is said
--- without it.
+-- How the body of a function becomes Cminor. A local's number is how many locals are older than it
+-- (`Rattle.cc_resolve.specs.Environment`), and values that have to wait are kept in variables above all locals in scope. A reader
+-- need not check this file: what a pair guarantees does not mention it.
 use Rattle.std.specs.Prelude.{ℕ, zero, suc, Bool, true, false, not, ◌&&◌, ◌==◌, List, [], ◌∷◌, ◌++◌, length, if◌then◌else◌, Option, Some, None, unwrap_or}
 use Rattle.cc_tokens.specs.declared.scalar.Scalar.{Scalar}
 use Rattle.cc_tokens.specs.declared.scalar.Scalar.TheVariants.{Int}
@@ -33,7 +33,7 @@ use Rattle.cc_cminor.specs.Code.{in_sequence}
 abbrev pub free : Environment → ℕ
 free v = length v.locals
 
--- the number of the object of a name; of another name any
+-- the number of the object with this name; any number if no object has it
 abbrev pub object_of : Layout → List ℕ → ℕ
 object_of g x = unwrap_or (object_number g.objects x) 0
 
@@ -70,7 +70,7 @@ single_or (Some op) e = single_of op e
 abbrev pub unary_of : UnaryOperator → Expression → Expression
 unary_of op e = single_or (unary_operation op) e
 
--- an operation on two words; `>` is `<` of the operands exchanged
+-- an operation on two words; `>` is `<` with the operands exchanged
 abbrev pub operation_of : BinaryOperation → Expression → Expression → Expression
 operation_of word.Multiply a b = Binary two.Mul a b
 operation_of word.DivideSigned a b = Binary two.DivS a b
@@ -99,7 +99,7 @@ operation_of word.Or a b = Binary two.Or a b
 abbrev pub binary_of : BinaryOperator → Scalar → Expression → Expression → Expression
 binary_of op t a b = operation_of (operation op t) a b
 
--- the operators that give 0 or 1
+-- the operators whose value is always 0 or 1
 abbrev pub is_comparison : binary.Binary → Bool
 is_comparison two.Eq = true
 is_comparison two.Ne = true
@@ -113,13 +113,13 @@ abbrev pub is_zero_test : unary.Unary → Bool
 is_zero_test one.IsZero = true
 is_zero_test op = false
 
--- an expression whose value is 0 or 1, by its form
+-- an expression whose value is always 0 or 1, by its form
 abbrev pub is_truth : Expression → Bool
 is_truth (Unary op e) = is_zero_test op
 is_truth (Binary op a b) = is_comparison op
 is_truth e = false
 
--- 1 where the value is not 0, else 0
+-- 1 if the value is not 0, else 0
 abbrev pub truth_of : Expression → Expression
 truth_of e = if is_truth e then e else Unary one.IsZero (Unary one.IsZero e)
 
@@ -130,7 +130,7 @@ abbrev pub is_nothing : Expression → Bool
 is_nothing (Constant w) = w == 0
 is_nothing e = false
 
--- a word that is 0 where two words are equal: the first of them where the second is 0
+-- a word that is 0 exactly if two words are equal: the first of them if the second is 0
 abbrev pub different : Expression → Expression → Expression
 different a b = if is_nothing b then a else Binary two.Xor a b
 
@@ -138,8 +138,8 @@ abbrev pub is_constant : Expression → Bool
 is_constant (Constant w) = true
 is_constant e = false
 
--- what a branch on a comparison tests: a word that is 0 exactly where the comparison is, or exactly where it is not. `<=` is the
--- opposite of `<` of the operands exchanged; with a constant at the right it takes one instruction as it is
+-- what a branch on a comparison tests: a word that is 0 exactly if the comparison is, or exactly if it is not. `<=` is the
+-- opposite of `<` with the operands exchanged; with a constant on the right it takes one instruction as it is.
 abbrev pub compared : binary.Binary → Expression → Expression → Expression
 compared two.LeS a b = if is_constant b then Binary two.LeS a b else Binary two.LtS b a
 compared two.LeU a b = if is_constant b then Binary two.LeU a b else Binary two.LtU b a
@@ -147,14 +147,14 @@ compared two.Eq a b = different a b
 compared two.Ne a b = different a b
 compared op a b = Binary op a b
 
--- whether it is the latter
+-- whether it is the second of these
 abbrev pub is_opposite : binary.Binary → (right : Expression) → Bool
 is_opposite two.LeS b = not (is_constant b)
 is_opposite two.LeU b = not (is_constant b)
 is_opposite two.Eq b = true
 is_opposite op b = false
 
--- the same of any expression
+-- the same for any expression
 abbrev pub condition : Expression → Expression
 condition (Unary op a) = if is_zero_test op then condition a else Unary op a
 condition (Binary op a b) = compared op a b
@@ -165,11 +165,11 @@ is_reversed (Unary op a) = is_zero_test op && not (is_reversed a)
 is_reversed (Binary op a b) = is_opposite op b
 is_reversed e = false
 
--- the first where the value of an expression is not 0, else the second
+-- the first if the value of an expression is not 0, else the second
 abbrev pub branch : Expression → (nonzero otherwise : Statement) → Statement
 branch e a b = if is_reversed e then If (condition e) b a else If (condition e) a b
 
--- `&&`, `||`, and the operators that take both operands
+-- `&&`, `||`, and the operators that need both operands
 pub data Kind : Type 0 where
   Conjunction : Kind
   Disjunction : Kind
@@ -186,7 +186,7 @@ is_strict k = false
 
 -- ---- expressions
 
--- no call, no && and ||, no conditional: one expression of Cminor
+-- no call, no && and ||, no conditional: it becomes one expression of Cminor
 abbrev pub is_plain : Expr → Bool
 is_plain (Number t n) = true
 is_plain (Variable x) = true
@@ -202,7 +202,7 @@ abbrev pub are_plain : Exprs → Bool
 are_plain none = true
 are_plain (more e rest) = is_plain e && are_plain rest
 
--- it; of another expression anything
+-- that expression; any expression if the tree is not plain
 abbrev pub plain : Layout → Environment → Expr → Expression
 plain g v (Number t n) = Constant n
 plain g v (Variable x) = variable_of g v x.text
@@ -218,7 +218,7 @@ abbrev pub all_plain : Layout → Environment → Exprs → List Expression
 all_plain g v none = []
 all_plain g v (more e rest) = plain g v e ∷ all_plain g v rest
 
--- code that takes the value of an expression: the expression itself where it is plain, else variable k behind its code
+-- code that takes the value of an expression: the expression itself if it is plain, else variable k after its code
 abbrev pub used : Bool → Expression → Statement → ℕ → (Expression → Statement) → Statement
 used true e code k f = f e
 used false e code k f = Sequence code (f (Local k))
@@ -232,19 +232,19 @@ abbrev pub locals_from : ℕ → ℕ → List Expression
 locals_from k zero = []
 locals_from k (suc n) = Local k ∷ locals_from (suc k) n
 
--- the argument of a call that has one
+-- the argument of a call with one argument
 abbrev pub last_value : List Expression → Expression
 last_value [] = Constant 0
 last_value (e ∷ []) = e
 last_value (e ∷ f ∷ rest) = last_value (f ∷ rest)
 
--- a call, its result in variable k
+-- a call; its result goes into variable k
 abbrev pub invoked : Callee → ℕ → List Expression → Statement
 invoked WriteWord k es = Sequence (Write (last_value es)) (Set k (Constant 0))
 invoked ReadWord k es = Read (Some k)
 invoked (Defined f) k es = Call (Some k) f es
 
--- a call on arguments: themselves where all are plain, else n variables from k on behind their code
+-- a call with arguments: the arguments themselves if all are plain, else n variables from k on after their code
 abbrev pub called_on : Bool → List Expression → Statement → ℕ → ℕ → (List Expression → Statement) → Statement
 called_on true es code k n f = f es
 called_on false es code k n f = Sequence code (f (locals_from k n))
@@ -255,7 +255,7 @@ connected Disjunction op t p q a b left right here k = used p a left k (λ x. br
 connected Strict op t p q a b left right here k =
     if p && q then Set k (binary_of op t a b) else Sequence left (used q b right (suc k) (λ y. Set k (binary_of op t (Local k) y)))
 
--- the statements that put the value of an expression into variable k, and use those above it alone
+-- the statements that put the value of an expression into variable k; they set only k and variables above it
 abbrev mutual
   pub put_expr : Layout → Environment → ℕ → Expr → Statement
   put_expr g v k (Number t n) = Set k (Constant n)
@@ -271,7 +271,7 @@ abbrev mutual
       (put_expr g v k a) (put_expr g v (suc k) b) (put_expr g v k b) k
   put_expr g v k (Conditional c a b) = used (is_plain c) (plain g v c) (put_expr g v k c) k (λ x. branch x (put_expr g v k a) (put_expr g v k b))
 
-  -- some values into the variables from k on
+  -- puts some values into the variables from k on
   pub put_all : Layout → Environment → ℕ → Exprs → List Statement
   put_all g v k none = []
   put_all g v k (more e rest) = put_expr g v k e ∷ put_all g v (suc k) rest
@@ -280,14 +280,14 @@ abbrev mutual
 abbrev pub using : Layout → Environment → ℕ → Expr → (Expression → Statement) → Statement
 using g v k e f = used (is_plain e) (plain g v e) (put_expr g v k e) k f
 
--- the same of an expression that may be left out, and the word without it
+-- the same for an expression that may be absent, with the word to use without it
 abbrev pub using_or : Layout → Environment → ℕ → ℕ → Option Expr → (Expression → Statement) → Statement
 using_or g v k w None f = f (Constant w)
 using_or g v k w (Some e) f = using g v k e f
 
 -- ---- actions
 
--- what is written, of an old value and that of the right side
+-- the word to write, given an old value and the right side's
 abbrev pub combined : Option BinaryOperator → Scalar → Scalar → Expression → Expression → Expression
 combined None t u old e = e
 combined (Some op) t u old e = binary_of op (working_type op t u) old e
@@ -309,12 +309,12 @@ performed_optional g v (Some a) = performed g v a
 
 -- ---- declarations
 
--- the initialiser of a local with the number i
+-- the initialiser of the local with number i
 abbrev pub initialised : Layout → Environment → ℕ → Option Expr → List Statement
 initialised g v i None = []
 initialised g v i (Some e) = using g v (suc i) e (λ x. Set i x) ∷ []
 
--- each local is set to 0, then to its initialiser, in whose scope it is
+-- each local is set to 0, then to its initialiser, in which it is in scope
 abbrev pub declarator_code : Layout → Scalar → Declarator → Environment → List Statement
 declarator_code g t d v = Set (free v) (Constant 0) ∷ initialised g (with_local t d.name.text v) (free v) d.initial
 
@@ -328,21 +328,21 @@ started g (Performs a) v = performed_optional g v a
 
 -- ---- statements
 
--- break and continue in a loop; outside of one the function is done
+-- break and continue in a loop; outside a loop the function is done
 abbrev pub leaving : Bool → ℕ → Statement
 leaving true i = Exit i
 leaving false i = Return (Constant 0)
 
--- a turn of a loop with its condition first: `continue` leaves the inner block, `break` that around the loop too
+-- a turn of a loop that tests its condition first: `continue` leaves the inner block, `break` also the one around the loop
 abbrev pub looped : (test : (Expression → Statement) → Statement) → Statement → Statement → Statement
 looped test body step = test (λ x. branch x (Sequence (Block body) step) (Exit 0))
 
--- what stands behind the body of a loop with its condition last
+-- what follows the body of a loop that tests its condition last
 abbrev pub tested : ((Expression → Statement) → Statement) → Statement
 tested test = test (λ x. branch x Skip (Exit 0))
 
 abbrev mutual
-  -- a statement, in a loop or not
+  -- a statement, inside a loop or not
   pub lowered : Layout → Bool → Environment → Stmt → Statement
   lowered g b v (tree.Block all) = in_sequence (all_lowered g b (inner v) all)
   lowered g b v (tree.Local t ds) = in_sequence (declared_code g t ds v)
@@ -363,7 +363,7 @@ abbrev mutual
   all_lowered g b v end = []
   all_lowered g b v (next first rest) = lowered g b v first ∷ all_lowered g b (behind first v) rest
 
--- where a statement stands behind a list
+-- the environment after a list
 abbrev pub behind_all : Stmts → Environment → Environment
 behind_all end v = v
 behind_all (next first rest) v = behind_all rest (behind first v)

@@ -1,4 +1,4 @@
--- A value that code takes: an expression, and the code in front of it where there is some.
+-- A value that code takes: an expression, and the code before it if there is some.
 use Rattle.std.specs.Prelude.{ℕ, suc, Bool, true, false, List, Option, None, Some, option_map}
 use Rattle.std.specs.Global.{Box}
 use Rattle.cc_tokens.specs.declared.scalar.Scalar.{Scalar}
@@ -19,12 +19,12 @@ pub record Taken : Type 0 where
   pub before : Option Statement
   pub value : Expression
 
--- an operator on two operands, or on them exchanged
+-- an operator with two operands, which may be exchanged
 abbrev pub in_order : (exchanged : Bool) → two.Binary → Expression → Expression → Expression
 in_order true op a b = Binary op b a
 in_order false op a b = Binary op a b
 
--- ---- what the code keeps
+-- ---- the code's values
 
 abbrev pub code_before : Option (Box written.Statement) → Option Statement
 code_before c = option_map (λ b. statement_of b.value) c
@@ -34,15 +34,15 @@ taken_of c e = record { before = code_before c; value = expression_of e.value }
 
 -- ---- the value of an expression
 
--- an expression with no code in front
+-- an expression without code before it
 abbrev pub at_once : Expression → Taken
 at_once e = record { before = None; value = e }
 
--- a value that waits in variable k, behind the code that puts it there
+-- a value that waits in variable k, after the code that puts it there
 abbrev pub waiting : ℕ → Statement → Taken
 waiting k code = record { before = Some code; value = Local k }
 
--- a plain expression as itself, another one in variable k
+-- a plain expression as it is, any other in variable k
 abbrev pub taken_as : (plain : Bool) → Expression → Statement → ℕ → Taken
 taken_as true e code k = at_once e
 taken_as false e code k = waiting k code
@@ -50,35 +50,35 @@ taken_as false e code k = waiting k code
 abbrev pub taken : Layout → Environment → ℕ → Expr → Taken
 taken g v k e = taken_as (is_plain e) (plain g v e) (put_expr g v k e) k
 
--- the same of an expression that may be left out, and the word without it
+-- the same for an expression that may be absent, with the word to use without it
 abbrev pub taken_or : Layout → Environment → ℕ → ℕ → Option Expr → Taken
 taken_or g v k w None = at_once (Constant w)
 taken_or g v k w (Some e) = taken g v k e
 
 -- ---- what is made of values
 
--- a statement behind the code in front of the value that it takes
+-- a statement after the code that precedes the value it takes
 abbrev pub behind_code : Option Statement → Statement → Statement
 behind_code None s = s
 behind_code (Some c) s = Sequence c s
 
--- an operation's value: it waits in variable k where there is code in front of its operand
+-- an operation's value: it waits in variable k if there is code before its operand
 abbrev pub kept : ℕ → Option Statement → Expression → Taken
 kept k None e = at_once e
 kept k (Some c) e = waiting k (Sequence c (Set k e))
 
--- the value in variable k, where it waits if it waits
+-- puts the value into variable k, which has it already if the value waits
 abbrev pub put_in : ℕ → Option Statement → Expression → Statement
 put_in k None e = Set k e
 put_in k (Some c) e = c
 
--- an operator that takes both operands: the left one waits in variable k where one of them has code in front
+-- an operator that needs both operands: the left one waits in variable k if one of them has code before it
 abbrev pub strictly : BinaryOperator → Scalar → ℕ → Option Statement → Expression → Option Statement → Expression → Taken
 strictly op t k None a None b = at_once (binary_of op t a b)
 strictly op t k None a (Some d) b = waiting k (Sequence (Set k a) (Sequence d (Set k (binary_of op t (Local k) b))))
 strictly op t k (Some c) a d b = waiting k (Sequence c (behind_code d (Set k (binary_of op t (Local k) b))))
 
--- `&&` and `||`: what is done where the left operand is not 0, and where it is
+-- `&&` and `||`: what is done if the left operand is not 0, and if it is
 abbrev pub decided : Kind → ℕ → Expression → (second : Statement) → Statement
 decided Conjunction k a second = branch a second (Set k (Constant 0))
 decided Disjunction k a second = branch a (Set k (Constant 1)) second
@@ -96,7 +96,7 @@ abbrev pub joined : Kind → BinaryOperator → Scalar → ℕ → Option Statem
 joined Strict op t k c a d b = strictly op t k c a d b
 joined p op t k c a d b = logically p k c a d b
 
--- `?:`, of what is done where the test is not 0 and where it is
+-- `?:`, given what is done if the test is not 0 and if it is
 abbrev pub conditionally : ℕ → Option Statement → Expression → (nonzero otherwise : Statement) → Taken
 conditionally k c e a b = waiting k (behind_code c (branch e a b))
 
@@ -112,7 +112,7 @@ abbrev pub element_set : Layout → Environment → ℕ → Option BinaryOperato
 element_set g v k op x t e =
     Store (width_of g x) (object_of g x) (Local k) (combined op (element_type (found (types_in v) x)) t (Load (width_of g x) (object_of g x) (Local k)) e)
 
--- a target is set, with an operator on its old value or without, to a right side of a type
+-- a target is set, with or without an operator on its old value, to a right side of a type
 abbrev pub assigned_to : Layout → Environment → Option BinaryOperator → Target → Scalar → Option Statement → Expression → Statement
 assigned_to g v op (AtVariable x) t c e = behind_code c (variable_set g v x.text (combined op (variable_type (found (types_in v) x.text)) t (variable_of g v x.text) e))
 assigned_to g v op (AtElement x i) t c e = Sequence (put_expr g v (free v) i) (behind_code c (element_set g v (free v) op x.text t e))

@@ -1,4 +1,4 @@
--- What a step needs of the state, which every state that is reached has.
+-- What a step needs of the state; every state that is reached has it.
 use Rattle.std.specs.Prelude.{◌≡◌, ◌⊎◌, ℕ, ◌≤◌, ◌+◌, ◌^◌, List, [], ◌∷◌, ◌++◌, length, Some, None}
 use Rattle.std.specs.FinMap.{get, empty}
 use Rattle.cc_disk.specs.Model.{bytes_of, IsImage}
@@ -25,7 +25,7 @@ use Rattle.cc_core.specs.Store.{room_taken}
 abbrev pub IsFitting : StoreState → LibraryCommand → Type 0
 IsFitting store command = (room_taken store (body_of command) ≤ store.area) × (store.area ≤ 2 ^ 30)
 
--- until its record is one of the journal's, a command in commit has room in the area
+-- until its record belongs to the journal, a command in commit has room in the area
 abbrev pub HasRoom : Due → StoreState → LibraryCommand → Type 0
 HasRoom WriteBody store command = IsFitting store command
 HasRoom SyncBody store command = IsFitting store command
@@ -39,7 +39,7 @@ IsOfOrder library order =
     (library ≡ library_of (commands order))
     ⊎ ((prefix : List Numbered) × (last : Numbered) × (order ≡ prefix ++ last ∷ []) × (library ≡ library_of (commands prefix)))
 
--- the disk holds records that stand for a library of the order, and every byte is settled
+-- the disk holds records that represent a library of the order, and every byte is settled
 pub record IsRecoverable (store : StoreState) (order : List Numbered) : Type 0 where
   pub alone : LeavesAlone (bytes_of store.cells) (IsImage store.cells)
   pub bodies : List (List ℕ)
@@ -49,18 +49,18 @@ pub record IsRecoverable (store : StoreState) (order : List Numbered) : Type 0 w
   pub accepted : AreAccepted empty (commands order)
   pub known : IsOfOrder library order
 
--- both writes of a commit lie on the disk
+-- both writes of a commit lie within the disk
 pub record IsWithin (commit : Commit) (store : StoreState) : Type 0 where
   pub first : commit.offset + length commit.bytes ≤ length store.cells
   pub second : commit.deciding_offset + 1 ≤ length store.cells
 
--- a rewrite's do, it writes a closed gate at least, and all fits an area
+-- both writes of a rewrite do, it writes at least a closed gate, and everything fits an area
 pub record IsRewrite (commit : Commit) (store : StoreState) : Type 0 where
   pub within : IsWithin commit store
   pub some : 1 ≤ length commit.bytes
   pub room : length commit.bytes ≤ store.area
 
--- what the phase needs of the rest
+-- what the phase needs of the other parts
 abbrev pub IsReadyIn : Phase → Units → StoreState → List Numbered → Type 0
 IsReadyIn Idle library store order = room_of (compacted library) ≤ store.area
 IsReadyIn (Committing client numbered due) library store order = HasRoom due store numbered.command
@@ -78,7 +78,7 @@ IsInEffect library (Add name unit) = get library name ≡ Some unit
 IsInEffect library (Replace name unit) = get library name ≡ Some unit
 IsInEffect library (Withdraw name) = get library name ≡ None
 
--- the order is kept where its last command is in effect, or there is none; else all but that one are kept
+-- the order is kept if its last command is in effect, or if it is empty; else all but the last command are kept
 abbrev pub IsPrefixKept : Units → List Numbered → List Numbered → Type 0
 IsPrefixKept library old new =
     ((new ≡ old) × ((prefix : List Numbered) (last : Numbered) → old ≡ prefix ++ last ∷ [] → IsInEffect library last.command))

@@ -1,5 +1,5 @@
--- One commit on a new disk, computed: each state is the one that its step names. Then what a crash leaves of the disk in the
--- middle of the gate's write: behind the gate the record, and before it none.
+-- One commit on a new disk, computed: each state is the one that its step names. Then what a crash in the middle of the gate's write leaves
+-- of the disk: the record if the gate was opened, and no record before that.
 use Rattle.std.specs.Prelude.{◌≡◌, [], ◌∷◌, ◌++◌, drop, map, replicate, Some, None, Ok, refl}
 use Rattle.std.specs.FinMap.{empty}
 use Rattle.cc_disk.specs.Model.{bytes_of, settled}
@@ -56,7 +56,7 @@ gate_settled = record gate_written { store = stepped due.SyncGate adds gate_writ
 abbrev pub done : Core
 done = record gate_settled { library = after gate_settled.library adds; acknowledged = first ∷ []; phase = Idle }
 
--- the beginning, the four device steps, and the reply
+-- the Begin, the four device steps, and the reply
 pub one_commit : Begun start client (Ok adds) None begun × Advances due.WriteBody begun None body_written × Advances due.SyncBody body_written None body_settled
     × Advances due.WriteGate body_settled None gate_written × Advances due.SyncGate gate_written None gate_settled × Acknowledges client gate_settled (Some replies.Done) done
 one_commit = (
@@ -68,7 +68,7 @@ one_commit = (
   record { numbered = first; committing = refl; done = refl; new_is = refl },
 )
 
--- the record takes 28 bytes, and a closed gate stands behind it
+-- the record takes 28 bytes, and a closed gate is after it
 pub on_disk : (bytes_of done.store.cells ≡ header 0 64 ++ (records (body_of adds ∷ []) ++ (0 ∷ replicate 99 0))) × (done.store.used ≡ 28)
 on_disk = (refl, refl)
 

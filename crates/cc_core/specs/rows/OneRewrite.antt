@@ -1,5 +1,5 @@
--- The device steps of a rewrite behind one commit, computed: which bytes the disk has then, and what a crash within the write of
--- the area byte leaves.
+-- The device steps of a rewrite after one commit, computed: the bytes that the disk has then, and what a crash within the write of the area
+-- byte leaves.
 use Rattle.std.specs.Prelude.{◌≡◌, List, ℕ, [], ◌∷◌, ◌++◌, replicate, refl}
 use Rattle.cc_disk.specs.Model.{bytes_of}
 use Rattle.cc_journal.specs.Commit.{Commit, rewrite_commit}
@@ -10,7 +10,7 @@ use Rattle.cc_core.specs.declared.contents.RewriteDue.TheVariants.{SyncAll, Writ
 use Rattle.cc_core.specs.Store.{crashed_store, first_written, rewrite_stepped}
 use Rattle.cc_core.specs.rows.OneCommit.{adds, done}
 
--- the one record once more, in the second area
+-- the one record again, in the second area
 abbrev anew : Commit
 anew = rewrite_commit 0 64 (body_of adds ∷ [])
 
@@ -26,15 +26,15 @@ byte_written = rewrite_stepped WriteArea anew area_settled
 abbrev ended : StoreState
 ended = rewrite_stepped SyncArea anew byte_written
 
--- the record and the closed gate behind it, in an area of 64 bytes
+-- the record and the closed gate after it, in an area of 64 bytes
 abbrev area_of_one : List ℕ
 area_of_one = records (body_of adds ∷ []) ++ replicate 36 0
 
--- the second area is in use, and the first one has its bytes still
+-- the second area is in use, and the first one still has its bytes
 pub on_disk : (bytes_of ended.cells ≡ header 1 64 ++ (area_of_one ++ area_of_one)) × (ended.area_byte ≡ 1) × (ended.used ≡ 28)
 on_disk = (refl, refl, refl)
 
--- a crash within the write of the area byte leaves any, and so the one area in use or the other; both have the record
+-- a crash within the write of the area byte leaves any byte there, so either area may be in use; both have the record
 pub the_second_area : bytes_of (crashed_store (0xa5 ∷ []) byte_written).cells ≡ header 0xa5 64 ++ (area_of_one ++ area_of_one)
 the_second_area = refl
 

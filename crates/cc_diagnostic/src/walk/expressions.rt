@@ -13,7 +13,7 @@ use cc_types::{
 };
 use cc_words::Width;
 
-/// What is written: a variable of the function, a word of the objects, an array's element whose index is pushed, or nothing.
+/// What is written to: a variable of the function, a word of the objects, an array's element whose index is pushed, or nothing.
 #[derive(Clone, Copy)]
 enum Slot<'a> {
     Local(usize),
@@ -22,7 +22,7 @@ enum Slot<'a> {
     Nothing,
 }
 
-/// What is written, and the type of its value.
+/// What is written to, and the type of its value.
 #[derive(Clone, Copy)]
 struct Goal<'a> {
     slot: Slot<'a>,
@@ -36,7 +36,7 @@ struct Applied {
     at: usize,
 }
 
-// The type of the value of what a name stands for; `int` where it has none.
+// The type of the value of what a name denotes; `int` if it has none.
 fn scalar_of(standing: Option<Standing<'_>>) -> Scalar {
     match standing {
         None => Scalar::Int,
@@ -48,7 +48,7 @@ fn scalar_of(standing: Option<Standing<'_>>) -> Scalar {
     }
 }
 
-// Where the words are to which a name leads; nowhere where it leads to none.
+// The extent of the words that a name refers to, empty if it refers to none.
 fn extent_of(standing: Option<Standing<'_>>) -> Extent {
     let nowhere = Extent {
         offset: 0,
@@ -64,7 +64,7 @@ fn extent_of(standing: Option<Standing<'_>>) -> Extent {
     }
 }
 
-// What a name stands for, as what is written.
+// What a name denotes, as something to write to.
 fn slot_of<'a>(standing: Option<Standing<'_>>) -> Slot<'a> {
     match standing {
         None => Slot::Nothing,
@@ -76,7 +76,7 @@ fn slot_of<'a>(standing: Option<Standing<'_>>) -> Slot<'a> {
     }
 }
 
-// What pushes the value of what a name stands for.
+// The instruction that pushes the value of what a name denotes.
 fn load(standing: Option<Standing<'_>>) -> Instruction<'_> {
     match slot_of(standing) {
         Slot::Local(number) => Instruction::Local(number),
@@ -85,7 +85,7 @@ fn load(standing: Option<Standing<'_>>) -> Instruction<'_> {
     }
 }
 
-// What calls a name, of which the arguments are pushed.
+// The instruction that calls a name whose arguments are pushed.
 fn call_of<'a>(standing: Option<Standing<'_>>, name: &'a Identifier) -> Instruction<'a> {
     match standing {
         None => Instruction::Constant(0),
@@ -113,7 +113,7 @@ impl<'a> Walk<'a> {
         }
     }
 
-    /// Writes what pushes the value of an expression, and answers its type.
+    /// Writes the instructions that push the value of an expression, and returns its type.
     #[cycle(expressions)]
     pub fn expression(&mut self, tree: &'a Expression) -> Scalar {
         match tree {
@@ -171,7 +171,7 @@ impl<'a> Walk<'a> {
         }
     }
 
-    // Writes what pushes the index of an element, and answers the element and its type.
+    // Writes the instructions that push the index of an element, and returns the element and its type.
     #[cycle(expressions)]
     fn element(&mut self, name: &'a Identifier, index: &'a Expression) -> (Element<'a>, Scalar) {
         let standing = self.look_up(name, Use::Indexed);
@@ -193,7 +193,7 @@ impl<'a> Walk<'a> {
         }
     }
 
-    // Between the operands of a binary operator: where `&&` and `||` have to jump, or the offset of the operator.
+    // Between the operands of a binary operator: the jump of `&&` or `||`, or the offset of the operator.
     fn begin_binary(&mut self, operator: BinaryOperator) -> usize {
         match operator {
             BinaryOperator::LogicalAnd | BinaryOperator::LogicalOr => self.open_jump(),
@@ -201,7 +201,7 @@ impl<'a> Walk<'a> {
         }
     }
 
-    // Behind the operands of a binary operator, of these types: its type.
+    // After the operands of a binary operator, which have these types. Returns the operator's type.
     fn end_binary(
         &mut self,
         operator: BinaryOperator,
@@ -229,7 +229,7 @@ impl<'a> Walk<'a> {
         binary_type(operator, first, second)
     }
 
-    /// Writes what does an action.
+    /// Writes the instructions of an action.
     pub fn action(&mut self, tree: &'a Action) {
         match tree {
             Action::Assign(operator, target, right) => self.assignment(*operator, target, right),
@@ -262,7 +262,7 @@ impl<'a> Walk<'a> {
         self.store(goal, applied, scalar)
     }
 
-    // An increment or a decrement.
+    // Writes an increment or a decrement.
     fn step(&mut self, operator: StepOperator, target: &'a Target) {
         let goal = self.goal(target);
         self.emit(Instruction::Constant(1));
@@ -273,7 +273,7 @@ impl<'a> Walk<'a> {
         self.store(goal, applied, Scalar::Int)
     }
 
-    // What a target is, where the index of an element is pushed.
+    // What a target is. The index of an element is pushed.
     fn goal(&mut self, target: &'a Target) -> Goal<'a> {
         match target {
             Target::Variable(name) => {
@@ -293,7 +293,7 @@ impl<'a> Walk<'a> {
         }
     }
 
-    // Takes a word of a type into what is written, or what an operator makes of the old value there and the word.
+    // Stores a word of a type in the goal, or an operator's value for the old value there and the word.
     fn store(&mut self, goal: Goal<'a>, applied: Option<Applied>, right: Scalar) {
         if let Some(Applied { operator, at }) = applied {
             self.old_value(goal.slot);

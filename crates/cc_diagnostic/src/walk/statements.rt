@@ -22,7 +22,7 @@ impl<'a> Walk<'a> {
         }
     }
 
-    // Ends a loop: its own jumps get their goals.
+    // Ends a loop: its own jumps get their targets.
     fn end_loop(&mut self, mark: Mark, breaks: usize, continues: usize) {
         for i in mark.breaks..self.breaks.len() {
             if let Some(number) = self.breaks.get(i).copied() {
@@ -72,7 +72,7 @@ impl<'a> Walk<'a> {
         }
     }
 
-    // Pushes a condition, 1 where there is none.
+    // Writes the instructions that push a condition, or 1 if it is absent.
     fn condition(&mut self, tree: &'a Option<Box<Expression>>) {
         match tree {
             Some(tree) => {
@@ -82,7 +82,7 @@ impl<'a> Walk<'a> {
         }
     }
 
-    // Pushes a condition; the number of the instruction that has to jump where it does not hold.
+    // Writes the instructions that push a condition, and returns the number of the instruction that jumps if it does not hold.
     fn condition_of(&mut self, test: &'a Expression) -> usize {
         self.expression(test);
         self.open_jump()
@@ -142,7 +142,7 @@ impl<'a> Walk<'a> {
         }
     }
 
-    // A statement that is a scope of its own.
+    // Writes a statement that is a scope of its own.
     #[cycle(statements)]
     fn inner_statement(&mut self, tree: &'a Statement) {
         let around = self.names.open();
@@ -178,7 +178,7 @@ impl<'a> Walk<'a> {
         self.end_loop(mark, end, check);
     }
 
-    // A `for`, whose header is a scope around its body. What follows each turn stands before the body, as in the text.
+    // Writes a `for`, whose header is a scope around its body. The last part of the header precedes the body, as in the text.
     #[cycle(statements)]
     fn for_loop(
         &mut self,

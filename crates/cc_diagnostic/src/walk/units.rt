@@ -19,7 +19,7 @@ fn is_main(name: &Identifier) -> bool {
 }
 
 impl<'a> Walk<'a> {
-    // Declares a function where its name is new, and answers its number, where it is a function.
+    // Declares a function if its name is new, and returns its number if the name denotes a function.
     fn declare_function(&mut self, signature: &'a Signature) -> Option<usize> {
         let name = &signature.name;
         let standing = self.names.find_inner(name.bytes.as_slice());
@@ -180,7 +180,7 @@ impl<'a> Walk<'a> {
         }
     }
 
-    /// Goes over all external declarations of a unit. `AllocError` where memory was refused on the way.
+    /// Visits all external declarations of a unit. `AllocError` if memory was refused on the way.
     pub fn externals(&mut self, trees: &'a [External]) -> Result<(), AllocError> {
         for tree in trees {
             self.external(tree);

@@ -1,4 +1,4 @@
--- The cells that two lists stand for.
+-- The cells that a list of bytes and a list of marks represent.
 use Rattle.std.specs.Prelude.{ℕ, Bool, List, [], ◌∷◌}
 use Rattle.cc_disk.specs.Model.{Cell}
 

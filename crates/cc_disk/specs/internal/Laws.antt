@@ -1,4 +1,4 @@
--- Two of the laws that the disk in memory has to keep as a disk, proved.
+-- Two of the laws of a disk, proved for the disk in memory.
 use Rattle.std.specs.Prelude.{ℕ, List, [], ◌∷◌, length}
 use Rattle.std.proofs.Common.{inl, inr, refl}
 use Rattle.cc_disk.specs.Model.{Cell, bytes_of, IsImage}
@@ -10,7 +10,7 @@ only_now_left now past image (inl here) = here
 only_now_left now [] image (inr none) = absurd none
 only_now_left now (state ∷ past) image (inr earlier) = only_now_left now past image (inr earlier)
 
--- what a read gives is an image
+-- the bytes that a read gives are an image
 pub bytes_are_image : (cells : List Cell) → IsImage cells (bytes_of cells)
 bytes_are_image [] = tt
 bytes_are_image (cell ∷ cells) = (λ _. refl, bytes_are_image cells)

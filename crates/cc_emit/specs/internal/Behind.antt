@@ -1,5 +1,5 @@
--- The same places counted from the end: the tables are filled from the back, since how far a place is from the end is known as soon as
--- all behind it is.
+-- The same places counted from the end: the tables are filled from the back, since the distance of a place from the end is known as soon as
+-- everything after it is.
 use Rattle.std.specs.Prelude.{◌≡◌, ℕ, ◌+◌, ◌-◌, ◌<◌, Bool, false, ◌&&◌, if◌then◌else◌, nat_le, nat_lt, Option, Some, None, List, [], ◌∷◌, length, get_or}
 use Rattle.cc_linear_language.specs.declared.item.LinearItem.TheVariants.{Jump, IfNonzero, IfZero}
 use Rattle.cc_select.specs.declared.step.Step.{Step}
@@ -12,26 +12,26 @@ use Rattle.cc_emit.specs.Emission.{size, long_size, is_close, is_label, label_of
 abbrev pub reaches : (from to : ℕ) → Bool
 reaches from to = nat_le from (to + 1024) && nat_lt to (from + 1024)
 
--- how many items stand for these with each branch in its long form
+-- the number of items of these steps with each branch in its long form
 abbrev pub long_behind : Frame → List Addressed → ℕ
 long_behind f [] = 0
 long_behind f (s ∷ steps) = long_size f s + long_behind f steps
 
--- whether a branch is near that has `here` items from it on; `first` says how many each label has, where it knows the label
+-- whether a branch is near that has `here` items from it on; `first` says how many items each label has from it on, if it knows the label
 abbrev pub near_behind : (first : List ℕ) → (here label : ℕ) → Bool
 near_behind first here label = if nat_lt label (length first) then is_close (get_or first label 0) here else false
 
--- how many items stand for these
+-- the number of items of these steps
 abbrev pub behind : Frame → (first : List ℕ) → List Addressed → ℕ
 behind f first [] = 0
 behind f first (s ∷ steps) = size f (near_behind first (long_behind f (s ∷ steps))) s + behind f first steps
 
--- how many of them a label has from it on
+-- the number of items from a label on
 abbrev pub label_behind : Frame → (first : List ℕ) → List Addressed → (label : ℕ) → ℕ
 label_behind f first [] label = 0
 label_behind f first (s ∷ steps) label = if is_label label s then behind f first (s ∷ steps) else label_behind f first steps label
 
--- the label that a step is
+-- the label, if the step is one
 abbrev pub label_of : Addressed → Option ℕ
 label_of s = label_of_step s.step
 
@@ -46,12 +46,12 @@ branched_to_step step = None
 abbrev pub branched_to : Addressed → Option ℕ
 branched_to s = branched_to_step s.step
 
--- a table of these, of the labels below its length
+-- a table of these numbers, for the labels below its length
 pub record IsTable (f : Frame) (first : List ℕ) (steps : List Addressed) (count : ℕ) (table : List ℕ) : Type 0 where
   pub long : length table ≡ count
   pub each : (label : ℕ) → label < count → get_or table label 0 ≡ label_behind f first steps label
 
--- both tables, and how many items the code has
+-- both tables, and the number of items of the code
 pub record ArePlaces (f : Frame) (steps : List Addressed) (first second : List ℕ) (end : ℕ) : Type 0 where
   pub of_first : IsTable f [] steps (length first) first
   pub of_second : IsTable f first steps (length first) second
@@ -61,7 +61,7 @@ pub record ArePlaces (f : Frame) (steps : List Addressed) (first second : List �
 abbrev pub place_from : (second : List ℕ) → (end label : ℕ) → ℕ
 place_from second end label = end - get_or second label 0
 
--- a label that a step leads to is below a number
+-- the label to which a step leads is below a number
 abbrev pub StepLeadsBelow : (count : ℕ) → Step → Type 0
 StepLeadsBelow count (One (Jump to)) = to < count
 StepLeadsBelow count (One (IfNonzero from to)) = to < count

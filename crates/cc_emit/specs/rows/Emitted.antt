@@ -1,5 +1,5 @@
--- Worked emission, by computation: the code of a function item for item, its run on the machine, operators and comparisons with a word,
--- elements whose numbers are known, branches on comparisons, and where a branch is near.
+-- Worked examples of emission, by computation: the code of a function item for item, its run on the machine, operators and comparisons with
+-- a word, elements whose numbers are known, branches on comparisons, and when a branch is near.
 use Rattle.std.specs.Prelude.{ℕ, zero, suc, ◌+◌, ◌-◌, ◌*◌, ◌/◌, ◌≡◌, refl, true, false, if◌then◌else◌, ◌==◌, nat_le, List, [], ◌∷◌, map, Option, None, slice_get}
 use Rattle.cc_words.specs.declared.operators.Width.TheVariants.{Byte, Word}
 use Rattle.cc_words.specs.declared.operators.Binary.TheVariants.{Add, Sub, LtS, LeS, LeU, Ne}
@@ -80,37 +80,38 @@ ran : seen (steps 24 called) ≡ 0x20004 ∷ 1018 ∷ 1019 ∷ 0x700000 ∷ 1 �
 unfolding seen
 ran = refl
 
--- a function that saves nothing has its return alone
+-- a function that saves nothing has only its return
 bare_words : words_of 0x10000 (function_items (λ g. 0) 0 (One Return ∷ [])) ≡ 0x00008067 ∷ []
 unfolding encoding_of
 bare_words = refl
 
--- one that calls saves x1: addi x2, x2, -4; sw x1, 0(x2); the call; lw x1, 0(x2); addi x2, x2, 4; jalr x0, 0(x1)
+-- a function that calls another saves x1: addi x2, x2, -4; sw x1, 0(x2); the call; lw x1, 0(x2); addi x2, x2, 4; jalr x0, 0(x1)
 calling : function_items (λ g. 0) 0 (One (Call 3) ∷ One Return ∷ [])
     ≡ addi 2 2 0xfffffffc ∷ store_word 2 1 0 ∷ item.Call 3 ∷ load_word 1 2 0 ∷ addi 2 2 4 ∷ Plain (Jalr 0 1 0) ∷ []
 calling = refl
 
--- a leaf that changes no register but those that a call destroys has no frame: add x10, x10, x11; jalr x0, 0(x1)
+-- a leaf that changes only registers that calls destroy has no frame: add x10, x10, x11; jalr x0, 0(x1)
 leaf : function_items (λ g. 0) 0 (One (Binary Add 10 10 11) ∷ One Return ∷ []) ≡ Plain (Op operation.Add 10 10 11) ∷ Plain (Jalr 0 1 0) ∷ []
 leaf = refl
 
--- ---- what stands before a frame
+-- ---- what comes before a frame
 
--- a test and the return to which it leads: slti x5, x10, 2; beq x5, x0, 8; jalr x0, 0(x1); then the frame, in which a label's return is as before
+-- a test and the return to which it leads: slti x5, x10, 2; beq x5, x0, 8; jalr x0, 0(x1); then the frame, in which a label's return is as
+-- before
 returns_early : function_items (λ g. 0) 0 (BranchImmediate immediate.LtS true 10 2 7 ∷ One (Call 3) ∷ One (Label 7) ∷ One Return ∷ [])
     ≡ Plain (OpImm Slti 5 10 2) ∷ Plain (instr.Branch Beq 5 0 8) ∷ Plain (Jalr 0 1 0) ∷ addi 2 2 0xfffffffc ∷ store_word 2 1 0 ∷ item.Call 3 ∷ load_word 1 2 0 ∷ addi 2 2 4 ∷ Plain (Jalr 0 1 0) ∷ []
 returns_early = refl
 
--- an operation before the test, and one behind the label: addi x7, x10, 1; bne x7, x0, 12; addi x10, x0, 5; jalr x0, 0(x1); what goes to an item of
--- the rest goes four further on
+-- an operation before the test, and one after the label: addi x7, x10, 1; bne x7, x0, 12; addi x10, x0, 5; jalr x0, 0(x1); a jump to an
+-- item of the rest goes four items further on
 one_more_step :
     function_items (λ g. 0) 1 (Immediate immediate.Add 7 10 1 ∷ One (IfZero 7 9) ∷ One (Copy (Spill 0 10)) ∷ One (Call 3) ∷ One (Jump 8) ∷ One (Label 9) ∷ One (Const 10 5) ∷ One Return ∷ One (Label 8) ∷ One Return ∷ [])
     ≡ addi 7 10 1 ∷ Plain (instr.Branch Bne 7 0 12) ∷ addi 10 0 5 ∷ Plain (Jalr 0 1 0) ∷ addi 2 2 0xfffffff8 ∷ store_word 2 1 4 ∷ store_word 2 10 0 ∷ item.Call 3 ∷ item.Go 13 ∷ addi 10 0 5 ∷ load_word 1 2 4 ∷ addi 2 2 8 ∷ Plain (Jalr 0 1 0)
     ∷ load_word 1 2 4 ∷ addi 2 2 8 ∷ Plain (Jalr 0 1 0) ∷ []
 one_more_step = refl
 
--- what changes a register that the function gives back stays in the frame, with the test behind it; and so does a test that leads to more than a
--- return, and all of a function without a frame
+-- an operation that changes a register which the function must leave as it found it stays in the frame, and so does the test after it; so
+-- do a test that leads to more than a return, and all of a function without a frame
 saved_before : function_items (λ g. 0) 0 (One (Copy (Between 8 10)) ∷ One (IfZero 10 7) ∷ One (Call 3) ∷ One (Label 7) ∷ One Return ∷ [])
     ≡ whole_items (λ g. 0) 0 (One (Copy (Between 8 10)) ∷ One (IfZero 10 7) ∷ One (Call 3) ∷ One (Label 7) ∷ One Return ∷ [])
 saved_before = refl
@@ -123,7 +124,7 @@ no_frame = refl
 
 -- ---- words and numbers within an operation
 
--- the word as an immediate, its negative, and as a number of bits; into the register that is read too
+-- the word as an immediate, its negative, and as a number of bits; also into the register that is read
 words : function_items (λ g. 0) 0 (Immediate immediate.Add 7 10 5 ∷ Immediate immediate.Sub 7 10 5 ∷ Immediate immediate.ShrS 7 10 31 ∷ Immediate immediate.Sub 10 10 2048 ∷ Immediate immediate.And 7 10 0xfffff800 ∷ [])
     ≡ addi 7 10 5 ∷ addi 7 10 0xfffffffb ∷ Plain (Shift Srai 7 10 31) ∷ addi 10 10 0xfffff800 ∷ Plain (OpImm Andi 7 10 0xfffff800) ∷ []
 words = refl
@@ -137,7 +138,7 @@ bytes : function_items (object_address (record { width = Byte; elements = 5 } �
     ≡ Plain (Lui 6 0x200) ∷ Plain (Op operation.Add 5 7 6) ∷ store_element Byte 5 10 8 ∷ load_element Byte 10 5 8 ∷ load_element Byte 7 6 10 ∷ store_element Byte 6 10 10 ∷ []
 bytes = refl
 
--- 300 goes to byte 1 of the second object, which keeps 44 of it, between bytes that stay: 0xaabbccdd becomes 0xaabb2cdd; what is loaded is 44
+-- 300 goes to byte 1 of the second object, which keeps 44 of it, between bytes that stay: 0xaabbccdd becomes 0xaabb2cdd; 44 is loaded
 abbrev byte_instructions : List Instr
 byte_instructions =
     instructions 0x10000 (function_items (object_address (record { width = Byte; elements = 5 } ∷ record { width = Byte; elements = 3 } ∷ [])) 0 (map One (Const 7 1 ∷ Const 10 300 ∷ Store Byte 1 7 10 ∷ Load Byte 1 10 7 ∷ Write ∷ Return ∷ [])))
@@ -165,19 +166,19 @@ near_by g = 0x200000 + 16 * g
 abbrev whole : (access : PieceItem) → List PieceItem → List PieceItem
 whole access items = Plain (Shift Slli 5 7 2) ∷ Plain (Lui 6 0x200) ∷ Plain (Op operation.Add 5 5 6) ∷ access ∷ items
 
--- where x6 has the upper part: slli x5, x7, 2; add x5, x5, x6; then the access
+-- if x6 has the upper part: slli x5, x7, 2; add x5, x5, x6; then the access
 abbrev with_upper : (access : PieceItem) → List PieceItem → List PieceItem
 with_upper access items = Plain (Shift Slli 5 7 2) ∷ Plain (Op operation.Add 5 5 6) ∷ access ∷ items
 
--- the same element again, and that of another object with that upper part: the accesses alone
+-- the same element again, and that of another object with the same upper part: only the accesses
 again : function_items near_by 0 (One (Load Word 0 10 7) ∷ One (Load Word 0 11 7) ∷ One (Store Word 1 7 10) ∷ []) ≡ whole (load_word 10 5 0) (load_word 11 5 0 ∷ store_word 5 10 16 ∷ [])
 again = refl
 
--- elements near by: the next one, and the one before the first of all globals
+-- nearby elements: the next one, and the one before the first of all globals
 near_elements : function_items near_by 0 (One (Load Word 0 10 7) ∷ LoadNear Word 0 11 7 1 ∷ StoreNear Word 0 7 0xffffffff 11 ∷ []) ≡ whole (load_word 10 5 0) (load_word 11 5 4 ∷ store_word 5 11 0xfffffffc ∷ [])
 near_elements = refl
 
--- one beyond the reach of that upper part; by x3 it is within reach
+-- an element beyond the reach of that upper part; it is within the reach of x3
 far_element : items_with near_by false 0 (One (Load Word 0 10 7) ∷ LoadNear Word 0 11 7 512 ∷ [])
     ≡ whole (load_word 10 5 0) (Plain (Shift Slli 5 7 2) ∷ Plain (Lui 6 0x201) ∷ Plain (Op operation.Add 5 5 6) ∷ load_word 11 5 0xfffff800 ∷ [])
 far_element = refl
@@ -186,15 +187,15 @@ far_by_x3 : function_items near_by 0 (One (Load Word 0 10 7) ∷ LoadNear Word 0
     ≡ Plain (Lui 3 0x201) ∷ addi 3 3 0xfffff800 ∷ Plain (Shift Slli 5 7 2) ∷ Plain (Op operation.Add 5 5 3) ∷ load_word 10 5 0xfffff800 ∷ load_word 11 5 0 ∷ []
 far_by_x3 = refl
 
--- its number is another then; x6 holds the upper part still
+-- its number has changed then; x6 still holds the upper part
 number_written : function_items near_by 0 (One (Load Word 0 10 7) ∷ Immediate immediate.Add 7 7 1 ∷ One (Load Word 0 11 7) ∷ []) ≡ whole (load_word 10 5 0) (addi 7 7 1 ∷ with_upper (load_word 11 5 0) [])
 number_written = refl
 
--- so where the load itself writes its number's register
+-- it is the same if the load itself writes its number's register
 own_number : function_items near_by 0 (One (Load Word 0 7 7) ∷ One (Load Word 0 7 7) ∷ []) ≡ whole (load_word 7 5 0) (with_upper (load_word 7 5 0) [])
 own_number = refl
 
--- and where x5 is used, to ask whether a register's word is another than 7
+-- and if x5 is used, to ask whether a register's word is not 7
 between : function_items near_by 0 (One (Load Word 0 10 7) ∷ Immediate immediate.Ne 11 10 7 ∷ One (Load Word 0 12 7) ∷ []) ≡ whole (load_word 10 5 0) (addi 5 10 0xfffffff9 ∷ Plain (Op operation.Sltu 11 0 5) ∷ with_upper (load_word 12 5 0) [])
 between = refl
 
@@ -212,12 +213,12 @@ call_between = refl
 branch_between : function_items near_by 0 (One (Load Word 0 10 7) ∷ One (IfZero 10 1) ∷ One (Load Word 0 11 7) ∷ One (Label 1) ∷ []) ≡ whole (load_word 10 5 0) (Plain (instr.Branch Beq 10 0 8) ∷ load_word 11 5 0 ∷ [])
 branch_between = refl
 
--- object 256 lies at 0x201000: its upper part takes the place of the other in x6, also behind the element whose address is in x5
+-- object 256 lies at 0x201000: its upper part replaces the other one in x6, also after the element whose address is in x5
 far_between : function_items near_by 0 (One (Load Word 0 10 7) ∷ LoadAt Word 256 11 0 ∷ One (Load Word 0 12 7) ∷ LoadAt Word 256 13 1 ∷ One (Load Word 256 14 7) ∷ [])
     ≡ whole (load_word 10 5 0) (Plain (Lui 6 0x201) ∷ load_word 11 6 0 ∷ load_word 12 5 0 ∷ load_word 13 6 4 ∷ with_upper (load_word 14 5 0) [])
 far_between = refl
 
--- a byte of the same number lies elsewhere: add x5, x7, x6
+-- a byte with the same number lies elsewhere: add x5, x7, x6
 byte_of_that_number : function_items near_by 0 (One (Load Word 0 10 7) ∷ One (Load Byte 1 11 7) ∷ []) ≡ whole (load_word 10 5 0) (Plain (Op operation.Add 5 7 6) ∷ load_element Byte 11 5 16 ∷ [])
 byte_of_that_number = refl
 
@@ -227,33 +228,34 @@ byte_of_that_number = refl
 abbrev with_pointer : List PieceItem → List PieceItem
 with_pointer items = Plain (Lui 3 0x201) ∷ addi 3 3 0xfffff800 ∷ items
 
--- three accesses of one instruction each, where each would make an upper part: object 1 lies at 0x200010, 2032 bytes before what x3 holds
+-- three accesses of one instruction each, where each would make an upper part: object 1 lies at 0x200010, 2032 bytes before the word in x3
 known_by_x3 : function_items near_by 0 (LoadAt Word 1 10 0 ∷ One (Label 1) ∷ LoadAt Word 1 11 0 ∷ One (Label 2) ∷ StoreAt Word 1 2 11 ∷ One Return ∷ [])
     ≡ with_pointer (load_word 10 3 0xfffff810 ∷ load_word 11 3 0xfffff810 ∷ store_word 3 11 0xfffff818 ∷ Plain (Jalr 0 1 0) ∷ [])
 known_by_x3 = refl
 
--- two save no more than setting x3 takes; nor do three of which one finds the upper part in x6
+-- two accesses save no more than setting x3 takes; nor do three if one of them finds the upper part in x6
 two_alone : function_items near_by 0 (LoadAt Word 1 10 0 ∷ One (Label 1) ∷ LoadAt Word 1 11 0 ∷ LoadAt Word 2 12 0 ∷ []) ≡ Plain (Lui 6 0x200) ∷ load_word 10 6 16 ∷ Plain (Lui 6 0x200) ∷ load_word 11 6 16 ∷ load_word 12 6 32 ∷ []
 two_alone = refl
 
--- one in a loop counts as eight; one between a branch and the label to which it goes on does not
+-- one access in a loop counts as eight; one between a branch and the label to which it goes on does not
 in_loop : function_items near_by 0 (One (Label 1) ∷ LoadAt Word 1 10 0 ∷ One (IfZero 10 1) ∷ []) ≡ with_pointer (load_word 10 3 0xfffff810 ∷ Plain (instr.Branch Beq 10 0 0xfffffffc) ∷ [])
 in_loop = refl
 
 passed_over : function_items near_by 0 (One (IfZero 10 1) ∷ LoadAt Word 1 10 0 ∷ One (Label 1) ∷ []) ≡ Plain (instr.Branch Beq 10 0 12) ∷ Plain (Lui 6 0x200) ∷ load_word 10 6 16 ∷ []
 passed_over = refl
 
--- elements: slli x5, x7, 2; add x5, x5, x3; the access; one of another object of the same number; of a byte add x5, x7, x3
+-- elements: slli x5, x7, 2; add x5, x5, x3; the access; one with the same number in another object; for a byte add x5, x7, x3
 elements_by_x3 : items_with near_by true 0 (One (Load Word 0 10 7) ∷ One (Store Word 1 7 10) ∷ One (Load Byte 1 11 7) ∷ [])
     ≡ with_pointer (Plain (Shift Slli 5 7 2) ∷ Plain (Op operation.Add 5 5 3) ∷ load_word 10 5 0xfffff800 ∷ store_word 5 10 0xfffff810 ∷ Plain (Op operation.Add 5 7 3) ∷ load_element Byte 11 5 0xfffff810 ∷ [])
 elements_by_x3 = refl
 
--- two elements of the same number, whose objects lie at 0x200000 and 0x200c00 and have other upper parts: the second is one instruction from x3
+-- two elements with the same number, whose objects lie at 0x200000 and 0x200c00 and have different upper parts: the second takes one
+-- instruction by x3
 other_uppers : function_items near_by 0 (One (Load Word 0 10 7) ∷ One (Load Word 192 11 7) ∷ []) ≡ with_pointer (Plain (Shift Slli 5 7 2) ∷ Plain (Op operation.Add 5 5 3) ∷ load_word 10 5 0xfffff800 ∷ load_word 11 5 1024 ∷ [])
 other_uppers = refl
 
--- objects 240 and 256 lie at 0x200f00, where x3 reaches, and at 0x201000, and have one upper part: without x3 the second access is one
--- instruction, with it four, so the function does not gain
+-- objects 240 and 256 lie at 0x200f00, within the reach of x3, and at 0x201000, and have the same upper part: without x3 the second access
+-- is one instruction, with it four, so the function does not gain
 abbrev from_one_upper : List PieceItem → List PieceItem
 from_one_upper items = Plain (Shift Slli 5 7 2) ∷ Plain (Lui 6 0x201) ∷ Plain (Op operation.Add 5 5 6) ∷ load_word 10 5 0xffffff00 ∷ load_word 11 5 0 ∷ items
 
@@ -262,25 +264,25 @@ one_upper : function_items near_by 0
     ≡ from_one_upper (from_one_upper (from_one_upper []))
 one_upper = refl
 
--- and where x5 holds that element's address by the upper part, x3 is not asked for
+-- and if x5 holds that element's address by the upper part, x3 is not used
 by_upper_first : items_with near_by true 0 (One (Load Word 256 10 7) ∷ One (Load Word 240 11 7) ∷ [])
     ≡ with_pointer (Plain (Shift Slli 5 7 2) ∷ Plain (Lui 6 0x201) ∷ Plain (Op operation.Add 5 5 6) ∷ load_word 10 5 0 ∷ load_word 11 5 0xffffff00 ∷ [])
 by_upper_first = refl
 
--- the last byte that it reaches, at 0x200fff, and the word behind it, at 0x201000
+-- the last byte within its reach, at 0x200fff, and the word after it, at 0x201000
 last_byte : items_with near_by true 0 (LoadAt Byte 255 10 15 ∷ LoadAt Word 255 10 4 ∷ []) ≡ with_pointer (load_element Byte 10 3 2047 ∷ Plain (Lui 6 0x201) ∷ load_word 10 6 0 ∷ [])
 last_byte = refl
 
--- an object at 0x200ff0 begins where x3 reaches, and goes on beyond: its elements by a register all take its distance from x3
+-- an object at 0x200ff0 begins within the reach of x3 and goes on beyond it: its elements by a register all use its distance from x3
 beyond : items_with near_by true 0 (One (Load Word 255 10 7) ∷ []) ≡ with_pointer (Plain (Shift Slli 5 7 2) ∷ Plain (Op operation.Add 5 5 3) ∷ load_word 10 5 2032 ∷ [])
 beyond = refl
 
--- the last word that it reaches, at 0x200ffc; object 256 lies at 0x201000, and its upper part stays in x6
+-- the last word within its reach, at 0x200ffc; object 256 lies at 0x201000, and its upper part stays in x6
 farthest : items_with near_by true 0 (LoadAt Word 255 10 3 ∷ LoadAt Word 256 11 0 ∷ LoadAt Word 255 12 0 ∷ LoadAt Word 256 13 1 ∷ [])
     ≡ with_pointer (load_word 10 3 2044 ∷ Plain (Lui 6 0x201) ∷ load_word 11 6 0 ∷ load_word 12 3 2032 ∷ load_word 13 6 4 ∷ [])
 farthest = refl
 
--- x3 is set before the frame, and stands behind a call
+-- x3 is set before the frame, and still there after a call
 behind_call : items_with near_by true 0 (One (Call 3) ∷ LoadAt Word 0 10 0 ∷ One Return ∷ [])
     ≡ with_pointer (addi 2 2 0xfffffffc ∷ store_word 2 1 0 ∷ item.Call 3 ∷ load_word 10 3 0xfffff800 ∷ load_word 1 2 0 ∷ addi 2 2 4 ∷ Plain (Jalr 0 1 0) ∷ [])
 behind_call = refl
@@ -299,13 +301,13 @@ compared = refl
 abbrev branch : BranchOperation → (left right offset : ℕ) → PieceItem
 branch o a b n = Plain (instr.Branch o a b n)
 
--- two registers: less; not at most, unsigned, and so the right one is less; not equal
+-- two registers: less; not at most, unsigned, so the right one is less; not equal
 on_registers : function_items (λ g. 0) 0 (One (Label 1) ∷ Branch LtS true 10 11 1 ∷ Branch LeU false 10 11 1 ∷ Branch LeS true 10 11 1 ∷ Branch Ne true 10 11 1 ∷ [])
     ≡ branch Blt 10 11 0 ∷ branch Bltu 11 10 0xfffffffc ∷ branch Bge 11 10 0xfffffff8 ∷ branch Bne 10 11 0xfffffff4 ∷ []
 on_registers = refl
 
--- a comparison with a word that one with 0 says: equal to 0, at least it, more than it, the same unsigned, less; less than 1, at most 0, at most
--- -1; less than 1 and at most 0, unsigned; not at least 1, unsigned
+-- comparisons with a word that a comparison with 0 replaces: equal to 0, at least 0, more than 0, the same unsigned, less than 0; less than
+-- 1, at most 0, at most -1; less than 1 and at most 0, unsigned; not at least 1, unsigned
 against_zero : function_items (λ g. 0) 0
     (One (Label 1) ∷ BranchImmediate immediate.Eq true 10 0 1 ∷ BranchImmediate immediate.GeS true 10 0 1 ∷ BranchImmediate immediate.GtS true 10 0 1 ∷ BranchImmediate immediate.GtU true 10 0 1 ∷ BranchImmediate immediate.LtS true 10 0 1
     ∷ BranchImmediate immediate.LtS true 10 1 1 ∷ BranchImmediate immediate.LeS true 10 0 1 ∷ BranchImmediate immediate.LeS true 10 0xffffffff 1 ∷ BranchImmediate immediate.LtU true 10 1 1 ∷ BranchImmediate immediate.LeU true 10 0 1 ∷ BranchImmediate immediate.GeU false 10 1 1 ∷ [])
@@ -318,16 +320,16 @@ on_words : function_items (λ g. 0) 0 (One (Label 1) ∷ BranchImmediate immedia
     ≡ addi 5 10 0xfffffffb ∷ branch Beq 5 0 0xfffffffc ∷ Plain (OpImm Slti 5 10 5) ∷ branch Bne 5 0 0xfffffff4 ∷ Plain (OpImm Slti 5 10 5) ∷ branch Beq 5 0 0xffffffec ∷ addi 5 10 0xfffffffb ∷ branch Beq 5 0 0xffffffe4 ∷ []
 on_words = refl
 
--- a far one goes over a jump where it is not taken
+-- a far branch that is not taken goes over a jump
 far : branch_items false (turned true (comparison LtS 10 11)) 0 5000 ≡ branch Bge 10 11 8 ∷ item.Go 5000 ∷ []
 far = refl
 
--- ---- how many items a constant takes: 2047, 2048, 4096, -2048, -2049, 0x12345678
+-- ---- the number of items of a constant: 2047, 2048, 4096, -2048, -2049, 0x12345678
 
 const_sizes : map const_size (2047 ∷ 2048 ∷ 4096 ∷ 0xfffff800 ∷ 0xfffff7ff ∷ 0x12345678 ∷ []) ≡ 1 ∷ 2 ∷ 1 ∷ 1 ∷ 2 ∷ 2 ∷ []
 const_sizes = refl
 
--- ---- how far a near branch's step is from its label at most, in items
+-- ---- the greatest distance of a near branch's step from its label, in items
 
 farthest_near : map (λ (to : ℕ). is_close 2000 to) (976 ∷ 977 ∷ 3023 ∷ 3024 ∷ []) ≡ false ∷ true ∷ true ∷ false ∷ []
 farthest_near = refl

@@ -1,11 +1,11 @@
--- Code into which guards can be put: it reads and computes variables below a number alone, and each exit leaves blocks that there are. Which
--- variables get the results of calls and reads is not asked: of these nothing is known.
+-- Code into which guards can be put: it reads and sets only variables below a number, and each exit leaves blocks that exist. The
+-- variables that get the results of calls and reads are not limited, since nothing is known of them.
 use Rattle.std.specs.Prelude.{◌≡◌, ℕ, suc, ◌<◌, List, [], ◌∷◌, map}
 use Rattle.cc_simulation.specs.World.{World, Answer, Gives, size_of}
 use Rattle.cc_simulation.specs.Meaning.{Meaning}
 use Rattle.cc_cminor.specs.Cminor.{Expression, Constant, Local, Unary, Binary, Load, Statement, Skip, Set, Store, Call, Read, Write, Sequence, If, Loop, Block, Exit, Return}
 
--- the variables that an expression reads are below n
+-- an expression reads only variables below n
 abbrev pub Under : ℕ → Expression → Type 0
 Under n (Constant w) = Unit {0}
 Under n (Local x) = x < n
@@ -17,7 +17,7 @@ abbrev pub AllUnder : ℕ → List Expression → Type 0
 AllUnder n [] = Unit {0}
 AllUnder n (e ∷ es) = Under n e × AllUnder n es
 
--- a statement in this many blocks
+-- a statement in so many blocks
 abbrev pub Fits : (n blocks : ℕ) → Statement → Type 0
 Fits n b Skip = Unit {0}
 Fits n b (Set x e) = (x < n) × Under n e
@@ -32,7 +32,7 @@ Fits n b (Block s) = Fits n (suc b) s
 Fits n b (Exit k) = k < b
 Fits n b (Return e) = Under n e
 
--- a call's answer leaves each object its size
+-- the answer to a call leaves each object its size
 abbrev pub KeepsSizes : Meaning → Type 0
 KeepsSizes meaning =
     (n opened f : ℕ) (ws : List ℕ) (h : World) (a : Answer) (left : ℕ) → meaning.call n opened f ws h ≡ Gives a left

@@ -7,8 +7,8 @@ use Rattle.cc_cminor.specs.Breaks.{TracksOrBreaks}
 use Rattle.cc_guard.specs.Guard.{guarded_function}
 use Rattle.cc_guard.specs.internal.Fits.{Fits, KeepsSizes}
 
--- Code that keeps up with a meaning, or breaks while that is not finished, keeps up with it when it is guarded, at the same rate. It reads
--- variables below n alone, and the guards set those from n on.
+-- Code that keeps up with a meaning, or breaks while the meaning is not finished, keeps up with it, at the same rate, once it is
+-- guarded. The code reads only variables below n, and the guards set those from n on.
 abbrev pub GuardedKeepsUp : Type 0
 GuardedKeepsUp =
     (meaning : Meaning) → KeepsSizes meaning → (f rate n : ℕ) (s : Statement) → Fits n 0 s

@@ -18,7 +18,7 @@ use Rattle.cc_guard.specs.Guard.{Guard, Guarded, guard_code, guards_after, varia
 abbrev pub sizes_of : List ObjectSize → List Size
 sizes_of sizes = map (λ (s : ObjectSize). record { width = s.width; elements = s.elements }) sizes
 
--- what the declarations say
+-- the sizes that the declarations give
 abbrev pub declared_sizes : List Object → List Size
 declared_sizes os = map (λ (o : Object). record { width = object_width o; elements = object_elements o }) os
 
@@ -31,13 +31,13 @@ is_byte Word = false
 abbrev pub codes : (blocks : ℕ) → List Guard → List Statement
 codes b gs = map (guard_code b) gs
 
--- after guards that were written already come these, which set variables below `upto`, and leave these facts known
+-- these guards, which set variables below `upto` and leave these bounds known, follow the guards written before
 pub record Adds (blocks : ℕ) (gs : List Guard) (upto : ℕ) (facts : List Limit) (old new : Guards) : Type 0 where
   pub before : statements_of new.before.items ≡ statements_of old.before.items ++ codes blocks gs
   pub next : new.next ≡ upto
   pub known : new.known.items ≡ facts
 
--- those of an expression, of some
+-- the guards of an expression, and of a list of expressions
 abbrev pub AddsAll : (blocks : ℕ) → Guarded → Guards → Guards → Type 0
 AddsAll b g old new = Adds b g.before g.next g.known old new
 

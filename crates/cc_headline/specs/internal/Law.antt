@@ -13,13 +13,13 @@ use Rattle.cc_typing.proofs.Determined.{texts_have_verdicts}
 use Rattle.cc_headline.specs.Plan.{pieces_of, IsPlan}
 use Rattle.cc_headline.specs.Compiling.{numbered, unit_of, text_of, compiling, is_right, Keeps}
 
--- a text has a verdict, and that is its plan
+-- a text has a verdict, and the plan follows from it
 pub sources_are_planned : (text : List ℕ) → (plan : Result ℕ ℕ) × IsPlan text plan
 sources_are_planned text =
     let v = texts_have_verdicts texts_have_answers text in
     (pieces_of v.0, ∣ record { verdict = v.0; is = v.1; plan_is = refl } ∣₁)
 
--- a unit with a number in place of its fault is that unit
+-- if the numbered result is this unit, the result is this unit
 is_unit : (r : Result StoredUnit LinkFault) (u : StoredUnit) → numbered r ≡ Ok u → r ≡ Ok u
 is_unit (Ok v) u is = cc
 is_unit (Err fault) u is = absurd (cc)
@@ -28,7 +28,7 @@ chosen : (b : Bool) (r : Result StoredUnit ℕ) (u : StoredUnit) → cond {A = R
 chosen true r u is = is
 chosen false r u is = absurd (cc)
 
--- it is of its first piece's unit, which is of the source
+-- the unit is linked for its first piece's unit, which is of the source
 pub whole_units_agree : (text : List ℕ) (pieces : List Piece) (unit : StoredUnit) → AreWhole compiling text pieces → All Keeps pieces → unit_of text pieces ≡ Ok unit → (unit.source ≡ text) × is_right unit
 whole_units_agree text [] unit whole kept is = absurd (cc)
 whole_units_agree text (piece ∷ pieces) unit whole kept is =

@@ -1,4 +1,4 @@
--- Reading one part and then the next; where one says nothing, the whole does.
+-- Reading one part and then the next. If one says nothing, neither does the whole.
 use Rattle.std.specs.Prelude.{Option, Some, None}
 
 infixl 10 ◌>>=◌

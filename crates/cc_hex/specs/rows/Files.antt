@@ -5,7 +5,7 @@ use Rattle.cc_hex.specs.Layout.{image_text, unsummed, record_line, base_line, ro
 
 -- ---- texts that say something
 
--- an end of file alone: no byte
+-- only an end of file: no byte
 nothing : read (codes ":00000001FF\n") ≡ Some []
 unfolding read
 nothing = refl
@@ -24,13 +24,13 @@ in_lower_case : read (codes ":020000040001f9\n:02001000fa0bE9\n:00000001ff\n") �
 unfolding read
 in_lower_case = refl
 
--- the base address is 0 at first, and moves as often as it is told
+-- the base address is 0 at first, and moves at each record that sets it
 bases : read (codes ":01000700FFF9\n:020000040001F9\n:0100070001F7\n:020000040000FA\n:0100070002F6\n:00000001FF\n")
     ≡ Some (cells_from 7 (255 ∷ []) ++ cells_from 0x00010007 (1 ∷ []) ++ cells_from 7 (2 ∷ []))
 unfolding read
 bases = refl
 
--- behind an offset's end the next 65,536 bytes begin, and behind the highest address comes 0
+-- past an offset's end the next 65,536 bytes begin, and the highest address is followed by 0
 past_ends : read (codes ":02FFFF000102FD\n:02000004FFFFFC\n:02FFFF000304F9\n:00000001FF\n")
     ≡ Some (cells_from 65535 (1 ∷ 2 ∷ []) ++ cells_from 0xFFFFFFFF (3 ∷ []) ++ cells_from 0 (4 ∷ []))
 unfolding read
@@ -74,7 +74,7 @@ no_colon : read (codes "00000001FF\n") ≡ None
 unfolding read
 no_colon = refl
 
--- one byte less than the record says, and one more, each with the checksum that fits
+-- one byte less than the record says, and one more, each with the right checksum
 too_short : read (codes ":0200070001F6\n:00000001FF\n") ≡ None
 unfolding read
 too_short = refl

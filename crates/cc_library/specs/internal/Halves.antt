@@ -1,24 +1,24 @@
--- A change in two halves, as the code of a library makes it: what needs memory before the journal is asked, the rest after
--- its answer. `proofs/Changing` shows that the halves together are the change or nothing.
+-- A change in two halves, as the code of a library makes it: what needs memory before the journal is asked, and the rest after its answer.
+-- `proofs/Changing` shows that the halves together are the whole change, or nothing.
 use Rattle.std.specs.Prelude.{if◌then◌else◌}
 use Rattle.std.specs.FinMap.{contains_key, insert, remove}
 use Rattle.cc_library.specs.declared.command.LibraryCommand.{LibraryCommand}
 use Rattle.cc_library.specs.declared.command.LibraryCommand.TheVariants.{Add, Replace, Withdraw}
 use Rattle.cc_library.specs.Apply.{Units}
 
--- the map with the room that a command needs already taken: Add has set its name
+-- the map with the memory that a command needs already taken: Add has set its name
 abbrev pub begun : Units → LibraryCommand → Units
 begun units (Add name unit) = insert units name unit
 begun units (Replace name unit) = units
 begun units (Withdraw name) = units
 
--- the command done, where it had begun
+-- the command finished, after it had begun
 abbrev pub finished : Units → LibraryCommand → Units
 finished units (Add name unit) = units
 finished units (Replace name unit) = if contains_key units name then insert units name unit else units
 finished units (Withdraw name) = remove units name
 
--- the command undone, where it had begun
+-- the command undone, after it had begun
 abbrev pub undone : Units → LibraryCommand → Units
 undone units (Add name unit) = remove units name
 undone units (Replace name unit) = units

@@ -1,4 +1,4 @@
--- Reading a body from left to right: each field is a value and the bytes after it, or there is none.
+-- Reading a body from left to right: each field gives a value and the bytes after it, or nothing.
 use Rattle.std.specs.Prelude.{ℕ, zero, suc, ◌&&◌, ◌||◌, List, [], ◌∷◌, length, take, drop, Option, Some, None, nat_lt, nat_le, ◌==◌, if◌then◌else◌}
 use Rattle.std.specs.Int.{w32, from_le_bytes}
 use Rattle.cc_unit.specs.declared.unit.StoredUnit.{StoredUnit}
@@ -51,7 +51,7 @@ name_in bytes = do
   name ← taken n.0 n.1
   if is_name name.0 then Some name else None
 
--- a certificate, or none: there is one in version 2 alone
+-- a certificate, or none: only version 2 has one
 unfoldable pub certificate_in : (version : ℕ) → List ℕ → Option (Option (List ℕ) × List ℕ)
 certificate_in version bytes =
     if version == 2 then (number_in bytes >>= λ n. taken n.0 n.1 >>= λ found. Some (Some found.0, found.1))
@@ -66,14 +66,14 @@ unit_in version bytes = do
   certificate ← certificate_in version globals.1
   Some (record { source = source.0; image = record { code = code.0; globals = globals.0 }; certificate = certificate.0 }, certificate.1)
 
--- the command of this kind and name
+-- the command with this kind and name
 unfoldable pub kind_in : (version : ℕ) → ℕ → List ℕ → List ℕ → Option (LibraryCommand × List ℕ)
 kind_in version kind name bytes =
     if kind == 1 then (unit_in version bytes >>= λ unit. Some (Add name unit.0, unit.1))
     else (if kind == 2 then (unit_in version bytes >>= λ unit. Some (Replace name unit.0, unit.1))
     else (if kind == 3 then Some (Withdraw name, bytes) else None))
 
--- the command of all of these bytes
+-- the command that all these bytes spell
 unfoldable pub command_in : List ℕ → Option LibraryCommand
 command_in bytes = do
   version ← byte_in bytes

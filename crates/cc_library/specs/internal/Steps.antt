@@ -1,4 +1,4 @@
--- What the steps of replaying and of a change come to.
+-- The results of the steps of a replay and of a change.
 use Rattle.std.specs.Prelude.{◌≡◌, ◌⊎◌, ℕ, IsOk, List, Result, Ok, Err}
 use Rattle.cc_journal.specs.Format.{HoldsAlone}
 use Rattle.cc_library.specs.declared.command.LibraryCommand.{LibraryCommand}
@@ -10,7 +10,7 @@ use Rattle.cc_library.specs.Recovered.{RecoversAlone}
 use Rattle.cc_library.specs.declared.command.Edit.{Edit}
 use Rattle.cc_library.specs.Runs.{after_edit}
 
--- one record more: 37 exactly where its body is that of no command that the map accepts
+-- one more record: 37 exactly if its body is not that of a command that the map accepts
 abbrev pub ReplaysBody : Units → List ℕ → Result Units LibraryFault → Type 0
 ReplaysBody old body (Ok new) = (command : LibraryCommand) × Spells body command × IsOk (apply old command) × (new ≡ after old command)
 ReplaysBody old body (Err Damaged) = (command : LibraryCommand) → Spells body command → IsOk (apply old command) → ⊥
@@ -22,11 +22,11 @@ ReplaysBody old body (Err Absent) = ⊥
 ReplaysBody old body (Err Full) = ⊥
 ReplaysBody old body (Err Closed) = ⊥
 
--- it has the one records and recovers to the one map alone, or has the others and recovers to the other map
+-- the image has the old records and recovers to the old map alone, or has the new records and recovers to the new map alone
 abbrev pub IsOldOrNew : ℕ → List (List ℕ) → Units → List (List ℕ) → Units → List ℕ → Type 0
 IsOldOrNew area bodies old made new image =
     (HoldsAlone image area bodies × RecoversAlone image old) ⊎ (HoldsAlone image area made × RecoversAlone image new)
 
--- in the middle of an edit of this number: the map before it, or where it was done the one after it
+-- in the middle of an edit with this number: the map before it, or, if it was done, the map after it
 abbrev pub IsMidEdit : Units → Edit → ℕ → List ℕ → Type 0
 IsMidEdit units edit number image = RecoversAlone image units ⊎ (((number ≡ 0) ⊎ (number ≡ 35)) × RecoversAlone image (after_edit units edit))

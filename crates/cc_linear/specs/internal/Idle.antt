@@ -1,9 +1,9 @@
--- Labels that nothing leads to, and the list without them.
+-- Labels to which nothing leads, and the list without them.
 use Rattle.std.specs.Prelude.{ℕ, ◌<◌, ◌≤◌, List, [], ◌∷◌, length, get_or, Bool, true, false, if◌then◌else◌, ◌==◌}
 use Rattle.cc_linear_language.specs.declared.item.LinearItem.{LinearItem}
 use Rattle.cc_linear_language.specs.declared.item.LinearItem.TheVariants.{Label}
 
--- numbers that rise
+-- numbers that do not fall
 abbrev pub IsRising : List ℕ → Type 0
 IsRising xs = (i j : ℕ) → i ≤ j → j < length xs → get_or xs i 0 ≤ get_or xs j 0
 

@@ -15,7 +15,7 @@ abbrev pub is_next : ℕ → List ℕ → Bool
 is_next e [] = false
 is_next e (x ∷ xs) = x == e
 
--- on to the label: it falls through where that comes next
+-- on to the label: it falls through if that comes next
 abbrev pub leads : ℕ → List ℕ → List LinearItem → List LinearItem
 leads e order items = if is_next e order then items else Jump e ∷ items
 
@@ -30,11 +30,11 @@ is_nop _ = false
 abbrev pub is_empty : Block → Bool
 is_empty block = is_nop block.operation && (has_none block.before && has_none block.after)
 
--- an empty block that stands is an endless cycle, so its jump is never left out
+-- an empty block that was not passed over is an endless cycle, so its jump is never left out
 abbrev pub tail_of : (ℕ → ℕ) → Block → List ℕ → List LinearItem → List LinearItem
 tail_of end block order items = if is_empty block then Jump (end (next block.operation)) ∷ items else leads (end (next block.operation)) order items
 
--- falls through to whichever way comes next
+-- a branch falls through to whichever way comes next
 abbrev pub branch_then : (ℕ → ℕ) → (from taken other : ℕ) → List ℕ → List LinearItem → List LinearItem
 branch_then end from taken other order items = if is_next (end taken) order then IfZero from (end other) ∷ items else IfNonzero from (end taken) ∷ leads (end other) order items
 
@@ -54,13 +54,13 @@ laid blocks end (l ∷ ls) = Label l ∷ laid_at end (block_at blocks l) ls (lai
 abbrev pub linear_code : Ltl → (ℕ → ℕ) → List ℕ → List LinearItem
 linear_code ltl end order = leads (end ltl.entry) order (laid ltl.blocks end order)
 
--- the ends of a block's successors stand in the order
+-- the ends of a block's successors are in the order
 abbrev pub HasSuccessors : (ℕ → ℕ) → List ℕ → Operation → Type 0
 HasSuccessors end order (Branch from taken other) = Contains order (end taken) × Contains order (end other)
 HasSuccessors end order Return = Unit {0}
 HasSuccessors end order op = Contains order (end (next op))
 
--- an order of labels, each once, with all that is reached from the entry
+-- an order of labels, each once, with all labels that the entry reaches
 pub record IsOrder (ltl : Ltl) (end : ℕ → ℕ) (order : List ℕ) : Type 0 where
   pub distinct : AllPairs (λ a b. a ≡ b → ⊥) order
   pub entry : Contains order (end ltl.entry)
@@ -71,7 +71,7 @@ pub record AreEnds (ltl : Ltl) (end far : ℕ → ℕ) (most : ℕ) : Type 0 whe
   pub low : (l : ℕ) → far l ≤ most
   pub each : (l : ℕ) (block : Block) → block_at ltl.blocks l ≡ Some block → IsPassed end far l block ⊎ (end l ≡ l)
 
--- what LTL's type keeps: no moves behind a branch
+-- what LTL's type keeps: no moves after a branch
 abbrev pub NoneBehind : Block → Operation → Type 0
 NoneBehind block (Branch from taken other) = block.after ≡ []
 NoneBehind block op = Unit {0}

@@ -14,7 +14,7 @@ abbrev pub moves_then : List Move → List LinearItem → List LinearItem
 moves_then [] items = items
 moves_then (m ∷ ms) items = Copy m ∷ moves_then ms items
 
--- an operation with one successor, without it
+-- an operation with one successor, without the successor
 abbrev pub operation_then : Operation → List LinearItem → List LinearItem
 operation_then (Nop n) items = items
 operation_then (Const to word n) items = item.Const to word ∷ items
@@ -28,11 +28,11 @@ operation_then (Write n) items = item.Write ∷ items
 operation_then (Branch from taken other) items = items
 operation_then Return items = item.Return ∷ items
 
--- the list goes on at this label: it stands next, or a jump leads there
+-- the list goes on at this label: the label comes next, or a jump to it does
 abbrev pub GoesOnAt : List LinearItem → List LinearItem → ℕ → Type 0
 GoesOnAt code items l = (place code l ≡ items) ⊎ ((behind : List LinearItem) × (items ≡ Jump l ∷ behind))
 
--- the label stands in the list
+-- the label is in the list
 abbrev pub StandsIn : List LinearItem → ℕ → Type 0
 StandsIn code l = (behind : List LinearItem) × (place code l ≡ Label l ∷ behind)
 
@@ -53,8 +53,8 @@ abbrev pub IsNop : Operation → Type 0
 IsNop (Nop n) = Unit {0}
 IsNop _ = ⊥
 
--- A block with one successor stands at its label: its moves and operation, then the list goes on where its successor ends.
--- An empty nop stands there only as a jump, so that an endless cycle of such is not lost.
+-- A block with one successor is at its label: its moves and operation come first, and then the list goes on at its successor's end. An
+-- empty nop is in the list only as a jump, so that an endless cycle of nops is not lost.
 pub record Straight (code : List LinearItem) (end : ℕ → ℕ) (l : ℕ) (block : Block) : Type 0 where
   pub tail : List LinearItem
   pub items : place code l ≡ Label l ∷ moves_then block.before (operation_then block.operation (moves_then block.after tail))
@@ -62,7 +62,7 @@ pub record Straight (code : List LinearItem) (end : ℕ → ℕ) (l : ℕ) (bloc
   pub stands : StandsIn code (end (next block.operation))
   pub jumps : IsNop block.operation → block.before ≡ [] → block.after ≡ [] → (behind : List LinearItem) × (tail ≡ Jump (end (next block.operation)) ∷ behind)
 
--- a branch on the register being nonzero or zero, and the other way follows
+-- a branch that jumps if the register is nonzero, or if it is zero; the other way follows
 abbrev pub BranchesTo : List LinearItem → (ℕ → ℕ) → ℕ → List Move → (from taken other : ℕ) → List LinearItem → Type 0
 BranchesTo code end l before from taken other tail =
     ((place code l ≡ Label l ∷ moves_then before (IfNonzero from (end taken) ∷ tail)) × GoesOnAt code tail (end other))
@@ -84,11 +84,11 @@ Stands code end l block (Branch from taken other) = Branches code end l block fr
 Stands code end l block Return = Leaves code l block
 Stands code end l block _ = Straight code end l block
 
--- what leads from l on to n: they end alike, and n is nearer to the end
+-- n is nearer to the common end of l and n than l is
 abbrev pub Nearer : (end far : ℕ → ℕ) → ℕ → ℕ → Type 0
 Nearer end far l n = (end n ≡ end l) × (far n < far l)
 
--- an empty block may be passed over; a branch too, where both its ways end alike
+-- an empty block may be passed over; so may a branch, if both its ways end at the same label
 abbrev pub Passes : (end far : ℕ → ℕ) → ℕ → Operation → Type 0
 Passes end far l (Nop n) = Nearer end far l n
 Passes end far l (Branch from taken other) = Nearer end far l taken × Nearer end far l other
@@ -99,7 +99,7 @@ pub record IsPassed (end far : ℕ → ℕ) (l : ℕ) (block : Block) : Type 0 w
   pub after : block.after ≡ []
   pub passes : Passes end far l block.operation
 
--- end: where each label's chain of empty blocks leads; far: how far that is
+-- `end` is where each label's chain of empty blocks leads, `far` how far away that is
 pub record Lays (ltl : Ltl) (code : List LinearItem) (end far : ℕ → ℕ) (most : ℕ) : Type 0 where
   pub low : (l : ℕ) → far l ≤ most
   pub entry : GoesOnAt code code (end ltl.entry)

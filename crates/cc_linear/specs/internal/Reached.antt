@@ -17,7 +17,7 @@ HasWays found (Two a b) = Contains found a × Contains found b
 abbrev pub InGraph : List Ways → Type 0
 InGraph graph = All (WaysBelow (length graph)) graph
 
--- where the first i lead was found too
+-- the targets of the first i labels were found too
 abbrev pub ClosedTo : List Ways → List ℕ → ℕ → Type 0
 ClosedTo graph found i = (k : ℕ) → k < i → HasWays found (get_or graph (get_or found k 0) Leaves)
 
@@ -34,6 +34,6 @@ pub record Grew (old new : List ℕ) : Type 0 where
   pub rest : List ℕ
   pub is : new ≡ old ++ rest
 
--- where those in the order lead is in the order
+-- the order has all labels to which its labels lead
 abbrev pub IsClosed : List Ways → List ℕ → Type 0
 IsClosed graph order = (l : ℕ) → Contains order l → HasWays order (get_or graph l Leaves)

@@ -1,4 +1,4 @@
--- What is made of a function: its blocks in some order, without the labels that nothing leads to.
+-- What is made from a function: its blocks in some order, without the labels to which nothing leads.
 use Rattle.std.specs.Prelude.{◌≡◌, ℕ, List}
 use Rattle.cc_ltl.specs.Ltl.{Ltl}
 use Rattle.cc_linear_language.specs.declared.item.LinearItem.{LinearItem}

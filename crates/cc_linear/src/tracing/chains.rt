@@ -1,21 +1,21 @@
-// An order in which code falls through the likely way, and a loop's test stands at its bottom. Nothing rests on it.
+// An order in which code falls through the likely way, and a loop's test is at its bottom. No proof depends on it.
 //
-// Blocks are joined into chains, of which each falls through to the next. Places are in the order of labels, and labels in the order of
-// the source: so a way to a place that does not come later is the way back of a loop, to the loop's head. Joined are, in this order:
-// 1. the blocks that only lead back, of one loop the last first (others come of `continue`): so the head, with the loop's test, stands
-//    behind the loop's body, and a turn needs no jump;
+// Blocks are joined into chains, in which each block falls through to the next. Places are in the order of labels, and labels in the order
+// of the source. So a way to a place that does not come later leads back to the head of a loop. Blocks are joined in this order:
+// 1. the blocks that only lead back, the last one of a loop first (others come from `continue`): so the head, with the loop's test, is
+//    after the loop's body, and a turn needs no jump;
 // 2. the blocks that have one way, unless it leads into a loop;
-// 3. the branches: to the way for a word that is 0, which is out of a loop or behind an `if`, and where that is behind another block, to
-//    the other;
+// 3. the branches: to the way for a word that is 0, which leads out of a loop or past an `if`; if the block there already follows another
+//    one, to the other way;
 // 4. the blocks that lead into a loop.
 
 ghost use Rattle.std.specs.Prelude.{◌≡◌, ◌<◌, length, vec_len, IfOk, All};
-ghost use Rattle.cc_linear.specs.internal.Reached.{InGraph, WaysBelow};
+ghost use Rattle.cc_linear.specs.internal.Reached.{InGraph};
 
 use super::ways::Ways;
 use std::alloc::{AllocError, Global};
 
-/// Chains of labels that follow one another. The number of labels stands for none.
+/// Chains of labels that follow one another. The number of labels means none.
 #[derive(Drop)]
 struct Chains {
     behind: Vec<usize>,
@@ -47,7 +47,7 @@ fn alone(alloc: Global, count: usize) -> Result<Chains, AllocError>
     })
 }
 
-/// Puts a label behind another, where that is the last of its chain and the label the first of another.
+/// Puts a label after another, if the other is the last of its chain and the label is the first of a different one.
 fn join(chains: &mut Chains, from: usize, to: usize)
     requires from { from < vec_len chains.old.behind }
     requires to { to < vec_len chains.old.behind }
@@ -69,7 +69,7 @@ fn join(chains: &mut Chains, from: usize, to: usize)
     }
 }
 
-/// Joins the blocks that do nothing but lead back, the last first.
+/// Joins the blocks that do nothing but lead back, the last one first.
 fn join_back(chains: &mut Chains, graph: &[Ways], is_found: &[bool])
     requires graph { InGraph graph.now }
     requires found { length is_found.now ≡ length graph.now }
@@ -87,7 +87,7 @@ fn join_back(chains: &mut Chains, graph: &[Ways], is_found: &[bool])
     }
 }
 
-/// Joins the blocks that have one way, those that lead to heads of loops or the others.
+/// Joins the blocks that have one way: those that lead to heads of loops, or the others.
 fn join_on(
     chains: &mut Chains,
     graph: &[Ways],
@@ -127,7 +127,7 @@ fn join_branches(chains: &mut Chains, graph: &[Ways], is_found: &[bool])
     }
 }
 
-/// Which labels are heads of loops: a block that was found leads back to them.
+/// The labels that are heads of loops: a block that was found leads back to them.
 fn heads(alloc: Global, graph: &[Ways], is_found: &[bool]) -> Result<Vec<bool>, AllocError>
     requires graph { InGraph graph.now }
     requires found { length is_found.now ≡ length graph.now }
@@ -149,7 +149,7 @@ fn heads(alloc: Global, graph: &[Ways], is_found: &[bool]) -> Result<Vec<bool>, 
     Ok(is_head)
 }
 
-/// Marks where a way leads, if it leads back.
+/// Marks the end of a way that leads back.
 fn mark_back(is_head: &mut Vec<bool>, from: usize, to: usize)
     requires { to < length is_head.old.items }
     ensures { length is_head.new.items ≡ length is_head.old.items }
@@ -159,7 +159,7 @@ fn mark_back(is_head: &mut Vec<bool>, from: usize, to: usize)
     }
 }
 
-/// The chains one after another, that of the entry first.
+/// The chains one after another, the entry's first.
 fn listed(alloc: Global, chains: &Chains, found: &[usize]) -> Result<Vec<usize>, AllocError>
     requires inside { All (λ l. l < vec_len chains.now.behind) found.now }
 {
@@ -180,7 +180,7 @@ fn listed(alloc: Global, chains: &Chains, found: &[usize]) -> Result<Vec<usize>,
     Ok(order)
 }
 
-/// The labels that were found, chain by chain.
+/// The labels that were found, chain by chain. Err: memory ran out.
 pub fn in_chains(alloc: Global, graph: &[Ways], found: &[usize]) -> Result<Vec<usize>, AllocError>
     requires graph { InGraph graph.now }
     requires inside { All (λ l. l < length graph.now) found.now }

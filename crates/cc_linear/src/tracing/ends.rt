@@ -1,11 +1,11 @@
 // Branch tunnelling: where the chain of empty blocks from each label ends.
 
-ghost use Rattle.std.specs.Prelude.{◌≡◌, ℕ, ◌<◌, length, IfOk, All};
+ghost use Rattle.std.specs.Prelude.{◌≡◌, ◌<◌, length, IfOk, All};
 ghost use Rattle.cc_linear.specs.internal.Ends.{Sound, HasEnds};
 
 use std::alloc::{AllocError, Global};
 
-/// Gives a label the end of the next one, where that is known.
+/// Gives a label the end of the next one, if that is known.
 fn settle(next: &[usize], known: &mut Vec<bool>, ends: &mut Vec<usize>, label: usize)
     requires inside { All (λ n. n < length next.now) next.now }
     requires known_long { length known.old.items ≡ length next.now }
@@ -23,7 +23,8 @@ fn settle(next: &[usize], known: &mut Vec<bool>, ends: &mut Vec<usize>, label: u
     }
 }
 
-/// The label at which the chain from each label ends: `next` names for an empty block its successor, and else the label itself.
+/// The label at which the chain from each label ends. `next` has the successor of an empty block, and for any other block its own label.
+/// Err: memory ran out.
 pub fn chain_ends(alloc: Global, next: &[usize]) -> Result<Vec<usize>, AllocError>
     requires inside { All (λ n. n < length next.now) next.now }
     ensures long { IfOk result (λ ends. length ends.items ≡ length next.now) }
@@ -45,7 +46,7 @@ pub fn chain_ends(alloc: Global, next: &[usize]) -> Result<Vec<usize>, AllocErro
             path.push(at)?;
             at = next[at];
         }
-        // a chain that is known, or a cycle: that keeps this label
+        // a known chain, or a cycle, which keeps this label
         known[at] = true;
         while let Some(label) = path.pop() {
             settle(next, &mut known, &mut ends, label);

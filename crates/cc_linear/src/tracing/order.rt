@@ -1,6 +1,6 @@
 // The order in which blocks are laid out.
 
-ghost use Rattle.std.specs.Prelude.{◌≡◌, ℕ, ◌<◌, length, get_or, IfOk, All};
+ghost use Rattle.std.specs.Prelude.{◌≡◌, ◌<◌, length, IfOk, All};
 ghost use Rattle.std.specs.List.{AllPairs, Contains};
 ghost use Rattle.cc_linear.specs.internal.Reached.{InGraph, IsClosed};
 
@@ -10,7 +10,7 @@ use super::reached::reached;
 use super::ways::Ways;
 use std::alloc::{AllocError, Global};
 
-/// The entry and all that it leads to, each once.
+/// The entry and all blocks to which it leads, each once. Err: memory ran out.
 pub fn order(alloc: Global, graph: &[Ways], entry: usize) -> Result<Vec<usize>, AllocError>
     requires graph { InGraph graph.now }
     requires entry { entry < length graph.now }

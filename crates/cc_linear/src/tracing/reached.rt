@@ -1,6 +1,6 @@
-// The labels that the entry leads to.
+// The labels to which the entry leads.
 
-ghost use Rattle.std.specs.Prelude.{◌≡◌, ℕ, ◌<◌, length, IfOk, All};
+ghost use Rattle.std.specs.Prelude.{◌≡◌, ◌<◌, length, IfOk, All};
 ghost use Rattle.std.specs.List.{Contains};
 ghost use Rattle.cc_linear.specs.internal.Reached.{InGraph, ClosedTo, WaysBelow, HasWays, Found, Grew};
 
@@ -23,7 +23,7 @@ fn find(seen: &mut Vec<bool>, found: &mut Vec<usize>, label: usize) -> Result<()
     Ok(())
 }
 
-/// Adds where a block leads.
+/// Adds the labels to which a block leads.
 fn find_ways(seen: &mut Vec<bool>, found: &mut Vec<usize>, ways: Ways) -> Result<(), AllocError>
     requires ways { WaysBelow (length seen.old.items) ways }
     requires found { Found seen.old.items found.old.items }
@@ -42,7 +42,7 @@ fn find_ways(seen: &mut Vec<bool>, found: &mut Vec<usize>, ways: Ways) -> Result
     }
 }
 
-/// The entry and all that it leads to.
+/// The entry and all labels to which it leads. Err: memory ran out.
 pub fn reached(alloc: Global, graph: &[Ways], entry: usize) -> Result<Vec<usize>, AllocError>
     requires graph { InGraph graph.now }
     requires entry { entry < length graph.now }

@@ -1,4 +1,4 @@
--- Rows of registers ordered by what they hold, and what a node makes of one, backward.
+-- Rows of registers ordered by what they hold, and the backward step over a node.
 use Rattle.std.specs.Prelude.{◌≡◌, ℕ, zero, suc, ◌*◌, ◌/◌, ◌%◌, ◌^◌, List, [], ◌∷◌, ◌++◌, length, replicate, Contains, Bool, false, IsTrue, ◌==◌, ◌&&◌, ◌≢◌, not, if◌then◌else◌, Option, Some, None}
 use Rattle.std.specs.Int.RustNames.{bit_or}
 use Rattle.cc_rtl_language.specs.Rtl.{Labelled, Node, node_at}
@@ -26,7 +26,7 @@ abbrev pub with_all : List ℕ → (row : List ℕ) → List ℕ
 with_all [] row = row
 with_all (r ∷ rs) row = either (single r) (with_all rs row)
 
--- what of a row is below n and passes a test, and all of it that does
+-- the registers of a row that are below n and pass a test; all of the row's that pass it
 abbrev pub chosen : (test : ℕ → Bool) → (row : List ℕ) → (n : ℕ) → List ℕ
 chosen test row zero = []
 chosen test row (suc n) = if holds row n && test n then n ∷ chosen test row n else chosen test row n
@@ -42,7 +42,7 @@ abbrev pub is_result : Option ℕ → (register : ℕ) → Bool
 is_result None r = false
 is_result (Some to) r = to == r
 
--- ---- what a node makes of what is live behind it; where `strong` is asked, a dead node makes nothing of it
+-- ---- from what is live after a node to what is live before it; if `strong` is set, a dead node adds nothing
 
 abbrev pub is_unread : (behind : List ℕ) → Option ℕ → Bool
 is_unread behind None = false

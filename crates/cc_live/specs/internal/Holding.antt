@@ -1,4 +1,4 @@
--- What a row holds after each change, register by register; and what a node makes of what is live behind it.
+-- What a row holds after each change, register by register; and what the step over a node makes of what is live after it.
 use Rattle.std.proofs.Common.{◌≡◌, ◌≢◌, ℕ, zero, suc, ◌*◌, ◌/◌, ◌%◌, ◌^◌, ◌<◌, List, [], ◌∷◌, ◌++◌, length, replicate, get_or, refl, sym, ap, ◌∙◌, subst, Bool, true, false, ◌==◌, ◌&&◌, ◌||◌, not, if◌then◌else◌, IsTrue, arith, inl, inr, ◌⊎◌, Contains}
 use Rattle.std.specs.Prelude.{Option, Some, None}
 use Rattle.std.specs.Int.{bit_at}
@@ -55,7 +55,7 @@ holds-single s r = elim (cases_eq s r) [ inl same ↦ here same | inr other ↦ 
           | inr row ↦ ap (λ w. bit_at w (r % 64) == 1) (word_other (s / 64) (2 ^ (s % 64)) (r / 64) row) ∙ (holds-nothing r ∙ sym t)
         ]
 
--- ---- rows made of others
+-- ---- rows made from others
 
 pub holds-with_all : (rs : List ℕ) (row : List ℕ) (r : ℕ) → holds (with_all rs row) r ≡ (among rs r || holds row r)
 holds-with_all [] row r = refl
@@ -66,7 +66,7 @@ holds-with_all (s ∷ rs) row r =
     regroup true b c = refl
     regroup false b c = refl
 
--- what is chosen is held and passes, and the other way round
+-- a register is chosen exactly if the row holds it and it passes
 in_chosen : (test : ℕ → Bool) (row : List ℕ) (n r : ℕ) → IsTrue (among (chosen test row n) r) → IsTrue (holds row r) × IsTrue (test r)
 in_chosen test row zero r h = absurd cc
 in_chosen test row (suc n) r h = go (holds row n && test n) refl h (in_chosen test row n r)
@@ -122,7 +122,7 @@ list_in [] r (k, l, e) = absurd (omega arith)
 list_in (s ∷ rs) r (zero, l, e) = or_left (s == r) (among rs r) ((Decides-eqb s r).1 e)
 list_in (s ∷ rs) r (suc k, l, e) = or_right (s == r) (among rs r) (list_in rs r (k, (omega arith), e))
 
--- ---- what a node makes of what is behind it
+-- ---- the step over a node
 
 some_apart : (to r : ℕ) → Some to ≢ Some r → IsTrue (not (to == r))
 some_apart to r d = go (to == r) refl
@@ -141,7 +141,7 @@ but_for_in : (o : Option ℕ) (row : List ℕ) (r : ℕ) → IsTrue (holds row r
 but_for_in None row r h d = h
 but_for_in (Some to) row r h d = those_in (λ x. not (to == x)) row r h (some_apart to r d)
 
--- what is unread is not held, and a pure node's result is its result
+-- a result that is unread is not held; and the result of a pure node is its result
 other : (to r : ℕ) (row : List ℕ) → IsTrue (not (holds row to)) → IsTrue (holds row r) → Some to ≢ Some r
 other to r row u h e =
     let z : Some to ≡ Some r = e in
@@ -167,7 +167,7 @@ module _ (strong : Bool) (n : Node) (row : List ℕ) where
   abbrev pub drops : Bool
   drops = strong && is_unread row (pure_result n)
 
-  -- what is in front was read, by a node that is not left out, or was behind
+  -- what is live before was read by a node that is not left out, or was live after it
   pub live_before_cases : (r : ℕ) → IsTrue (holds (live_before strong n row) r) → ((drops ≡ false) × Contains (reads n) r) ⊎ (IsTrue (holds row r) × (result n ≢ Some r))
   live_before_cases r h = go drops refl h
     where
@@ -185,7 +185,7 @@ module _ (strong : Bool) (n : Node) (row : List ℕ) where
       go true = h
       go false = with_all_rest (reads n) (but_for (result n) row) r (but_for_in (result n) row r h d)
 
--- what is unread where more is held is unread
+-- a result that is read stays read if more is held
 unread_less : (x y : List ℕ) (o : Option ℕ) → Below x y → is_unread x o ≡ false → is_unread y o ≡ false
 unread_less x y None h e = refl
 unread_less x y (Some to) h e = held (holds x to) refl e
@@ -198,7 +198,7 @@ drops_less : (strong : Bool) (x y : List ℕ) (o : Option ℕ) → Below x y →
 drops_less true x y o h e = unread_less x y o h e
 drops_less false x y o h e = refl
 
--- more behind a node makes more in front of it
+-- if more is live after a node, more is live before it
 pub live_before_up : (strong : Bool) (n : Node) (x y : List ℕ) → Below x y → Below (live_before strong n x) (live_before strong n y)
 live_before_up strong n x y h r i = elim (live_before_cases strong n x r i) [
   | inl (e, read) ↦ read_live_before strong n y r (drops_less strong x y (pure_result n) h e) read
@@ -234,7 +234,7 @@ live_before_made strong n row r made stays is = (
 pub live_before_stays : (strong : Bool) (n : Node) (row : List ℕ) → (strong && is_unread row (pure_result n)) ≡ true → live_before strong n row ≡ row
 live_before_stays strong n row e = ap (λ b. if b then row else with_all (reads n) (but_for (result n) row)) e
 
--- one register more among some
+-- one more register among some
 pub among-push : (rs : List ℕ) (x r : ℕ) → among (rs ++ x ∷ []) r ≡ (x == r || among rs r)
 among-push [] x r = refl
 among-push (s ∷ rs) x r = ap (λ b. (s == r) || b) (among-push rs x r) ∙ swap (s == r) (x == r) (among rs r)

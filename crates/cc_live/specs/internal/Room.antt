@@ -1,11 +1,11 @@
--- How often a row can still rise: by each register that it lacks.
+-- How often a row can still grow: once for each register that it lacks.
 use Rattle.std.specs.Prelude.{ℕ, zero, suc, ◌+◌, ◌≤◌, ◌<◌, ◌^◌, List, IsTrue, Bool, true, false, if◌then◌else◌}
 use Rattle.std.proofs.Common.{arith, ◌≡◌, refl, ap, sym, subst, ◌∙◌, inl, inr}
 use Rattle.std.proofs.lemmas.Bool.{cases_eq}
 use Rattle.cc_bits.specs.Rows.{holds}
 use Rattle.cc_live.specs.internal.Facts.{Below, nothing}
 
--- a row has no more words than registers have numbers for
+-- the most words of a row: as many as the numbers of registers need
 abbrev pub most_words : ℕ
 most_words = 2 ^ 26
 
@@ -32,7 +32,7 @@ pub bounded : room nothing ≤ height
 unfolding room
 bounded = missing_le nothing (2 ^ 32)
 
--- of two rows the one that holds more lacks no more, and less where it holds one more
+-- of two rows, the one that holds more lacks no more than the other, and less if it holds one register more
 no_more : (a b : List ℕ) (n : ℕ) → Below a b → missing b n ≤ missing a n
 no_more a b zero h = omega arith
 no_more a b (suc n) h = go (holds a n) (holds b n) refl refl (no_more a b n h)

@@ -1,4 +1,4 @@
--- Why commands are not read.
+-- Why commands could not be read.
 use Rattle.std.specs.Prelude.{ℕ, List}
 use Rattle.cc_library.specs.declared.command.LibraryCommand.{LibraryCommand}
 use Rattle.cc_library.specs.declared.fault.LibraryFault.{LibraryFault}

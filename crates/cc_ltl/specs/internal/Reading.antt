@@ -1,4 +1,4 @@
--- Reading a function from left to right: each field is a value and the bytes after it, or there is none.
+-- Reading a function from left to right: each field gives a value and the bytes after it, or nothing.
 use Rattle.std.specs.Prelude.{◌≡◌, ℕ, zero, suc, ◌&&◌, List, [], ◌∷◌, length, take, drop, Option, Some, None, Result, Ok, Err, slice_get, nat_lt, nat_le, ◌==◌, if◌then◌else◌}
 use Rattle.std.specs.Option.{option_map}
 use Rattle.std.specs.Int.{w16, w32, from_le_bytes}
@@ -23,13 +23,13 @@ abbrev pub ◌>>=◌ : {A B : Type 0} → Option A → (A → Option B) → Opti
 (Some x) >>= f = f x
 None >>= f = None
 
--- what a function returned, seen by view, is what reading gives; where memory ran out, nothing is said
+-- what a function returned, by its view, is what the definition reads; if memory ran out, nothing is claimed
 abbrev pub Gives : {X Y : Type 0} → (X → Y) → Result X LtlFault → Option Y → Type 0
 Gives view (Ok x) read = read ≡ Some (view x)
 Gives view (Err Damaged) read = read ≡ None
 Gives view (Err OutOfMemory) read = Unit {0}
 
--- what a step of a cursor returned, and the bytes that it left, is what reading gives
+-- what a step of a cursor returned, and the bytes that it left, are what the definition reads
 abbrev pub Reads : {A : Type 0} → Option (A × List ℕ) → Option A → List ℕ → Type 0
 Reads read result after = option_map (λ x. (x, after)) result ≡ read
 
@@ -41,16 +41,16 @@ Reader A = List ℕ → Option (A × List ℕ)
 abbrev pub both : {A B : Type 0} → Reader A → Reader B → Reader (A × B)
 both f g bytes = f bytes >>= λ a. g a.1 >>= λ b. Some ((a.0, b.0), b.1)
 
--- a value made of what is read
+-- a value made from what is read
 abbrev pub mapped : {A B : Type 0} → (A → B) → Reader A → Reader B
 mapped make f bytes = f bytes >>= λ a. Some (make a.0, a.1)
 
--- the same this many times
+-- this many values, one after the other
 unfoldable pub times : {A : Type 0} → Reader A → ℕ → Reader (List A)
 times f zero bytes = Some ([], bytes)
 times f (suc n) bytes = f bytes >>= λ first. times f n first.1 >>= λ others. Some (first.0 ∷ others.0, others.1)
 
--- nothing, one byte, a number of two and one of four
+-- reading nothing, one byte, a number of two bytes, a number of four bytes
 abbrev pub nothing_in : Reader (Unit {0})
 nothing_in bytes = Some (tt, bytes)
 
@@ -97,7 +97,7 @@ width_of n = if n == 1 then Some Byte else (if n == 4 then Some Word else None)
 unfoldable pub width_in : Reader Width
 width_in bytes = byte_in bytes >>= λ b. width_of b.0 >>= λ w. Some (w, b.1)
 
--- what a number in front of it leads to
+-- the reader that belongs to the number in front
 abbrev pub chosen : {A : Type 0} → List (ℕ × Reader A) → (number : ℕ) → Reader A
 chosen [] number bytes = None
 chosen (kind ∷ kinds) number bytes = if number == kind.0 then kind.1 bytes else chosen kinds number bytes
@@ -136,7 +136,7 @@ unary_operation_in bytes = mapped (λ x. Unary x.0 x.1.0 x.1.1.0 x.1.1.1) (both 
 unfoldable pub binary_operation_in : Reader Operation
 binary_operation_in bytes = mapped (λ x. Binary x.0 x.1.0 x.1.1.0 x.1.1.1.0 x.1.1.1.1) (both binary_in (both register_in (both register_in (both register_in word_in)))) bytes
 
--- an object with its width, two registers, a label: of a load and of a store
+-- an object with its width, two registers and a label: the fields of a load and of a store
 unfoldable pub access_in : Reader (Width × (ℕ × (ℕ × (ℕ × ℕ))))
 access_in bytes = both width_in (both word_in (both register_in (both register_in word_in))) bytes
 
@@ -181,7 +181,7 @@ blocks_in bytes = word_in bytes >>= λ n. times block_in n.0 n.1
 unfoldable pub slots_in : Reader ℕ
 slots_in bytes = word_in bytes >>= λ n. if nat_le n.0 most_slots then Some n else None
 
--- the parts of the function of all of these bytes; whether they fit each other is not asked
+-- the parts of the function that all these bytes spell; whether they fit each other is not asked
 unfoldable pub parts_in : List ℕ → Option Ltl
 parts_in bytes =
     mapped (λ x. record { slots = x.0; entry = x.1.0; blocks = x.1.1 }) (both slots_in (both word_in blocks_in)) bytes

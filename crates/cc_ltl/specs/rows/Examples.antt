@@ -1,4 +1,4 @@
--- Worked bytes, runs and text, each by computation.
+-- Worked examples of bytes, runs and text, each by computation.
 use Rattle.std.specs.Prelude.{◌≡◌, ℕ, refl, List, [], ◌∷◌, codes}
 use Rattle.std.specs.Fmt.{digits}
 use Rattle.cc_words.specs.declared.operators.Binary.TheVariants.{Sub}
@@ -18,7 +18,7 @@ returns = record { slots = 0; entry = 0; blocks = record { label = 0; before = [
 returns_bytes : ltl_bytes returns ≡ 0 ∷ 0 ∷ 0 ∷ 0 ∷ 0 ∷ 0 ∷ 0 ∷ 0 ∷ 1 ∷ 0 ∷ 0 ∷ 0 ∷ 0 ∷ 0 ∷ 0 ∷ 0 ∷ 0 ∷ 0 ∷ 10 ∷ 0 ∷ 0 ∷ []
 returns_bytes = refl
 
--- the first parameter less the second, each in its slot
+-- the first parameter minus the second, each in its slot
 abbrev difference : Ltl
 difference = record {
   slots = 3;
@@ -48,11 +48,11 @@ outcome ltl words arguments k = run (ltl_move (λ f. 1) ltl) ltl_output nine k 0
 abbrev ends : (value : ℕ) → Outcome Answer
 ends value = record { stop = Ended (record { value = value; world = nothing }); output = [] }
 
--- 7 less 5, whatever the slots held
+-- 7 - 5, whatever the slots held
 difference_ends : outcome difference (77 ∷ 78 ∷ []) (7 ∷ 5 ∷ []) 3 ≡ ends 2
 difference_ends = refl
 
--- a call's result comes in x10
+-- a call's result is in x10
 abbrev calls : Ltl
 calls = record {
   slots = 0;
@@ -63,7 +63,7 @@ calls = record {
 calls_ends : outcome calls [] (1 ∷ []) 2 ≡ ends 9
 calls_ends = refl
 
--- the parameter is kept in a register, and a call comes in between
+-- the parameter is kept in a register over a call
 abbrev keeps_in : ℕ → Ltl
 keeps_in register = record {
   slots = 0;
@@ -74,13 +74,13 @@ keeps_in register = record {
       ∷ [];
 }
 
--- x18 survives; x28 holds word 28 of the 32 that come after those of the entry
+-- x18 survives; x28 holds word 28 of the 32 that come after the entry's words
 survives_ends : outcome (keeps_in 18) [] (6 ∷ []) 2 ≡ ends 6
 survives_ends = refl
 
 lost_ends : outcome (keeps_in 28) [] (6 ∷ []) 2 ≡ ends 0
 lost_ends = refl
 
--- no block of this label
+-- no block has this label
 stuck : outcome (record { slots = 0; entry = 1; blocks = [] }) [] [] 1 ≡ record { stop = Wrong; output = [] }
 stuck = refl

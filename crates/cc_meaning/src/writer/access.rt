@@ -1,4 +1,4 @@
-// The instructions that read and write what a name is, and that call a function.
+// The instructions that read and write a name, and that call a function.
 
 ghost use Rattle.std.specs.Prelude.{◌≡◌};
 ghost use Rattle.cc_meaning.specs.internal.Form.{load, call_of, store_of, store_element_of};
@@ -6,7 +6,7 @@ ghost use Rattle.cc_meaning.specs.internal.Form.{load, call_of, store_of, store_
 use crate::form::{Instruction, Slot};
 use cc_resolve::{BinaryOperation, Callee, Environment};
 
-/// What pushes the value of a variable.
+/// The instruction that pushes the value of a variable.
 pub fn load(names: &Environment<'_>, name: &[u8]) -> Instruction
     ensures { result ≡ load names.now name.now }
 {
@@ -16,7 +16,7 @@ pub fn load(names: &Environment<'_>, name: &[u8]) -> Instruction
     }
 }
 
-/// What takes a word into a variable, or applies an operation to the variable's old value and the word.
+/// The instruction that stores a word in a variable, or applies an operation to the variable's old value and the word.
 pub fn store(names: &Environment<'_>, applied: Option<BinaryOperation>, name: &[u8]) -> Instruction
     ensures { result ≡ store_of applied names.now name.now }
 {
@@ -35,7 +35,7 @@ pub fn store(names: &Environment<'_>, applied: Option<BinaryOperation>, name: &[
     }
 }
 
-/// The same of an array's element, whose index stands below the word.
+/// The same for an element of an array, whose index is below the word.
 pub fn store_element(
     names: &Environment<'_>,
     applied: Option<BinaryOperation>,
@@ -50,7 +50,7 @@ pub fn store_element(
     }
 }
 
-/// What calls a function whose arguments are pushed.
+/// The instruction that calls a function whose arguments are pushed.
 pub fn call_instruction(names: &Environment<'_>, name: &[u8]) -> Instruction
     ensures { result ≡ call_of names.now name.now }
 {

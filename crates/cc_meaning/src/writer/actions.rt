@@ -19,7 +19,7 @@ use cc_resolve::{BinaryOperation, Environment, operation};
 use cc_types::{applied_operator, step_operator, working_type};
 use std::alloc::AllocError;
 
-// The operation that an assignment applies, of a target and a right side of these types.
+// The operation that an assignment applies, for a target and a right side of these types.
 fn applied(
     operator: Option<BinaryOperator>,
     target: Scalar,
@@ -33,7 +33,7 @@ fn applied(
     }
 }
 
-// What takes a word into what is written, from a right side of a type.
+// The instruction that writes a word to the target, given the type of the right side.
 fn write(
     names: &Environment<'_>,
     operator: Option<BinaryOperator>,
@@ -62,7 +62,7 @@ fn write(
     }
 }
 
-// The index of what is written, where it has one.
+// Writes the index of the target, if it has one.
 fn index(names: &Environment<'_>, code: &mut Emitter, target: &Target) -> Result<(), AllocError>
     ensures { OnOk result (code.new ≡ index_code names.now (target_tree target.now) ++ code.old) }
 {
@@ -75,7 +75,8 @@ fn index(names: &Environment<'_>, code: &mut Emitter, target: &Target) -> Result
     }
 }
 
-// The write is known once the type of the right side is: until then `Drop` stands in its place.
+// Writes an assignment. The instruction for the write depends on the type of the right side; until that is known, `Drop` is in
+// its place.
 fn assignment(
     names: &Environment<'_>,
     code: &mut Emitter,
@@ -95,7 +96,7 @@ fn assignment(
     index(names, code, target)
 }
 
-// An increment or a decrement.
+// Writes an increment or a decrement.
 fn step(
     names: &Environment<'_>,
     code: &mut Emitter,
@@ -110,7 +111,7 @@ fn step(
     index(names, code, target)
 }
 
-/// Writes what does an action.
+/// Writes the instructions of an action.
 pub fn action(
     names: &Environment<'_>,
     code: &mut Emitter,
@@ -131,7 +132,7 @@ pub fn action(
     }
 }
 
-/// Writes what does an action that may be left out.
+/// Writes the instructions of an action that may be absent.
 pub fn optional_action(
     names: &Environment<'_>,
     code: &mut Emitter,

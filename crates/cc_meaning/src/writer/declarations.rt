@@ -1,7 +1,7 @@
 // Declarations of locals.
 //
-// Instructions are written from the last one to the first, so the names of a declaration come into scope before its
-// instructions are written, which then take them back one by one.
+// Instructions are written from last to first, so the names of a declaration come into scope before its instructions are written.
+// Writing them then removes the names one by one.
 
 ghost use Rattle.std.specs.Prelude.{◌≡◌, ◌∷◌, ◌++◌, length, OnOk};
 ghost use Rattle.cc_ast.specs.Erase.{optional_tree, declarator_trees, beginning_tree};
@@ -19,7 +19,7 @@ use cc_ast::{Beginning, Declarator, Scalar};
 use cc_resolve::Environment;
 use std::alloc::AllocError;
 
-// Writes the newest local's initialiser, where it has one, and takes the local back.
+// Writes the newest local's initialiser, if it has one, and removes the local.
 fn declarator(
     names: &mut Environment<'_>,
     code: &mut Emitter,
@@ -39,7 +39,7 @@ fn declarator(
     Ok(())
 }
 
-/// Writes a declaration whose names are in scope, and takes them back.
+/// Writes a declaration whose names are in scope, and removes them.
 pub fn declaration(
     names: &mut Environment<'_>,
     code: &mut Emitter,
@@ -55,7 +55,7 @@ pub fn declaration(
     Ok(())
 }
 
-/// Writes the first part of a `for` header, whose names are in scope, and takes them back.
+/// Writes the first part of a `for` header, whose names are in scope, and removes them.
 pub fn beginning(
     names: &mut Environment<'_>,
     code: &mut Emitter,

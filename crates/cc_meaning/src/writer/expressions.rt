@@ -1,6 +1,6 @@
-// The instructions of expressions, written before those that stand.
+// The instructions of expressions, each written before those that are written already.
 //
-// The recursion is as deep as the tree: at most 512 tokens of a full expression.
+// The recursion is as deep as the tree, which has at most 512 tokens in a full expression.
 
 ghost use Rattle.std.specs.Prelude.{◌≡◌, ◌-◌, ◌<◌, ◌≤◌, ◌∷◌, ◌++◌, length, IfOk, OnOk};
 ghost use Rattle.cc_ast.specs.Erase.{name_tree, expression_tree, optional_tree};
@@ -33,7 +33,7 @@ fn unary(code: &mut Emitter, operator: UnaryOperator) -> Result<(), AllocError>
     }
 }
 
-// What skips a right operand of this many instructions, where the operator may not need it.
+// The instruction that skips a right operand of this many instructions, if the operator may not need it.
 fn short_cut(operator: BinaryOperator, skip: usize) -> Option<Instruction>
     ensures { result ≡ short_cut operator skip }
 {
@@ -56,7 +56,7 @@ fn variable(
     Ok(names.variable_type(name.bytes.as_slice()))
 }
 
-// An element whose index is pushed.
+// Writes an element whose index is pushed.
 fn element(
     names: &Environment<'_>,
     code: &mut Emitter,
@@ -69,7 +69,7 @@ fn element(
     Ok(names.element_type(name.bytes.as_slice()))
 }
 
-// A call whose arguments are pushed.
+// Writes a call whose arguments are pushed.
 fn call(
     names: &Environment<'_>,
     code: &mut Emitter,
@@ -82,7 +82,8 @@ fn call(
     Ok(names.call_type(name.bytes.as_slice()))
 }
 
-// What skips the right operand, after which this many instructions stand, where the operator may not need it.
+// Writes the instruction that skips the right operand, if the operator may not need it. `behind` is how many instructions follow
+// that operand.
 fn skip_right(code: &mut Emitter, operator: BinaryOperator, behind: usize) -> Result<(), AllocError>
     requires { behind ≤ length code.old }
     ensures { OnOk result (code.new ≡ some_code (short_cut operator (length code.old - behind)) ++ code.old) }
@@ -94,8 +95,8 @@ fn skip_right(code: &mut Emitter, operator: BinaryOperator, behind: usize) -> Re
     }
 }
 
-// The operation on two words of these types, in the place of the instruction before which this many stood; `&&` and `||` have
-// none.
+// Puts the operation on two words of these types in place of the instruction that `behind` instructions follow. `&&` and `||`
+// have none.
 fn operate(code: &mut Emitter, operator: BinaryOperator, behind: usize, left: Scalar, right: Scalar)
     requires { behind < length code.old }
     ensures { code.new ≡ operated (short_cut operator 0) (operation operator (working_type operator left right)) behind code.old }
@@ -106,7 +107,7 @@ fn operate(code: &mut Emitter, operator: BinaryOperator, behind: usize, left: Sc
     }
 }
 
-/// Writes what pushes the value of an expression, and answers its type.
+/// Writes the instructions that push the value of an expression, and returns its type.
 #[cycle(expressions)]
 pub fn expression(
     names: &Environment<'_>,
@@ -148,8 +149,8 @@ pub fn expression(
     }
 }
 
-// Both operands and the operation on them. It is known once the types of both are: until then `Truth` stands in its place, and
-// stays there for `&&` and `||`.
+// Writes both operands and the operation on them. The operation depends on the types of both operands; until they are known,
+// `Truth` is in its place, and it stays there for `&&` and `||`.
 #[cycle(expressions)]
 fn binary(
     names: &Environment<'_>,
@@ -170,7 +171,7 @@ fn binary(
     Ok(binary_type(operator, first, second))
 }
 
-// A condition, and the value that it picks of two.
+// Writes a condition, and the two values between which it chooses.
 #[cycle(expressions)]
 fn conditional(
     names: &Environment<'_>,
@@ -192,7 +193,7 @@ fn conditional(
     Ok(common_type(first, second))
 }
 
-// The arguments of a call, from the last to the first.
+// Writes the arguments of a call, from last to first.
 #[cycle(expressions)]
 fn arguments(
     names: &Environment<'_>,
@@ -209,7 +210,7 @@ fn arguments(
     Ok(())
 }
 
-/// Writes what pushes the value of a return, 0 where there is none.
+/// Writes the instructions that push the value of a return, or 0 if it has none.
 pub fn value(
     names: &Environment<'_>,
     code: &mut Emitter,
@@ -226,7 +227,7 @@ pub fn value(
     }
 }
 
-/// Writes what pushes a condition, 1 where there is none.
+/// Writes the instructions that push a condition, or 1 if it is absent.
 pub fn condition(
     names: &Environment<'_>,
     code: &mut Emitter,

@@ -1,7 +1,7 @@
-// Statements, each written after those that follow it.
+// Statements, each written before the instructions of those that follow it.
 //
-// The names of a list are in scope before its statements are written, from the last to the first, and each declaration takes
-// its own names back. The recursion is as deep as the tree: at most 64 levels.
+// The names of a list are in scope before its statements are written, from last to first, and each declaration removes its own
+// names. The recursion is as deep as the tree: at most 64 levels.
 
 ghost use Rattle.std.specs.Prelude.{◌≡◌, ◌≤◌, ◌<◌, ◌-◌, ◌∷◌, ◌++◌, List, length, OnOk};
 ghost use Rattle.cc_ast.specs.Erase.{expression_tree, optional_tree, optional_action, beginning_tree, statement_tree, statements_of};
@@ -23,14 +23,14 @@ use cc_ast::{Action, Beginning, Expression, Statement};
 use cc_resolve::{Environment, declare_beginning, declare_statement};
 use std::alloc::AllocError;
 
-/// Where a break and a continue go: how many instructions of the function stand after that place.
+/// The targets of a break and a continue, each given by how many instructions of the function follow it.
 #[derive(Clone, Copy)]
 pub struct Exits {
     pub breaks: usize,
     pub continues: usize,
 }
 
-// A statement whose own names are in scope, which it takes back.
+// Writes a statement whose own names are in scope, and removes them.
 #[cycle(resolved_statements)]
 fn statement<'a>(
     names: &mut Environment<'a>,
@@ -70,7 +70,7 @@ fn statement<'a>(
     }
 }
 
-// A statement that is a scope of its own.
+// Writes a statement that is a scope of its own.
 #[cycle(resolved_statements)]
 fn inner_statement<'a>(
     names: &mut Environment<'a>,
@@ -90,8 +90,8 @@ fn inner_statement<'a>(
     Ok(())
 }
 
-// A condition and what is done where it holds, of which another branch may stand after: a condition that does not hold goes
-// to a place after which `second` instructions stand.
+// Writes a condition and the branch for a condition that holds. Another branch may follow; if the condition does not hold, the
+// jump goes to the place that `second` instructions follow.
 #[cycle(resolved_statements)]
 fn conditional<'a>(
     names: &mut Environment<'a>,
@@ -114,8 +114,7 @@ fn conditional<'a>(
     Ok(())
 }
 
-// The turns of a loop, where what follows its body and its condition stand, and the jump back after them without its
-// distance.
+// Writes the turns of a loop, once what follows its body, its condition, and the backward jump without its distance are written.
 #[cycle(resolved_statements)]
 fn turns<'a>(
     names: &mut Environment<'a>,
@@ -170,7 +169,7 @@ fn do_loop<'a>(
     turns(names, code, breaks, body)
 }
 
-// A `for`, whose header is a scope around its body.
+// Writes a `for`, whose header is a scope around its body.
 #[cycle(resolved_statements)]
 fn for_loop<'a>(
     names: &mut Environment<'a>,
@@ -216,7 +215,7 @@ fn block<'a>(
     Ok(())
 }
 
-/// The statements of a list, in its scope.
+/// Writes the statements of a list, in its scope.
 #[cycle(resolved_statements)]
 pub fn statements<'a>(
     names: &mut Environment<'a>,

@@ -1,6 +1,6 @@
 // Functions, external declarations, and the form of a unit.
 
-ghost use Rattle.std.specs.Prelude.{◌≡◌, ◌≤◌, [], ◌∷◌, ◌++◌, length, OnOk, IfOk};
+ghost use Rattle.std.specs.Prelude.{◌≡◌, [], ◌∷◌, ◌++◌, length, OnOk, IfOk};
 ghost use Rattle.cc_ast.specs.Erase.{signature_tree, statements_of, external_tree, external_trees};
 ghost use Rattle.cc_types.specs.Bindings.{file_level, file_of};
 ghost use Rattle.cc_meaning.specs.internal.FormErase.{form_tree, Resolves};
@@ -20,7 +20,7 @@ use std::alloc::{AllocError, Global};
 
 const MAIN: &[u8] = b"main";
 
-// Declares a function, and puts its instructions after those of others.
+// Declares a function, and appends its instructions to those of others.
 fn define_function<'a>(
     alloc: Global,
     names: &mut Environment<'a>,
@@ -47,8 +47,8 @@ fn define_function<'a>(
     code.finish(into)
 }
 
-// Brings the names of an external declaration into file scope, and puts the instructions of the function that it defines
-// after those of others.
+// Brings the names of an external declaration into file scope, and appends the instructions of the function that it defines to
+// those of others.
 fn resolve_external<'a>(
     alloc: Global,
     names: &mut Environment<'a>,
@@ -77,7 +77,7 @@ fn resolve_external<'a>(
     }
 }
 
-// Puts the instructions and the entries of a unit's functions after none, from file scope at the start of the unit.
+// Writes the instructions and the entries of a unit's functions into empty lists, from file scope at the start of the unit.
 fn resolve_externals<'a>(
     alloc: Global,
     names: &mut Environment<'a>,
@@ -97,7 +97,7 @@ fn resolve_externals<'a>(
     Ok(())
 }
 
-/// The resolved form of a unit.
+/// Returns the resolved form of a unit.
 pub fn resolve(alloc: Global, trees: &[External]) -> Result<Form, AllocError>
     ensures { IfOk result (λ f. Resolves (external_trees trees.now) (form_tree f)) }
 {

@@ -1,4 +1,4 @@
--- Of commands and images alone, before it is said of a disk.
+-- The same for commands and images, before it is stated for a disk.
 use Rattle.std.specs.Prelude.{◌≡◌, ◌⊎◌, ℕ, false, List}
 use Rattle.cc_library.specs.declared.command.LibraryCommand.{LibraryCommand}
 use Rattle.cc_library.specs.Name.{is_name}
@@ -8,13 +8,13 @@ use Rattle.cc_tasks.specs.declared.part.PartFault.{PartFault}
 use Rattle.cc_tasks.specs.declared.part.PartFault.TheVariants.{BadName, Absent, Library, OutOfMemory}
 use Rattle.cc_past.specs.Past.{StoresNone}
 
--- why there is no such unit: 33 exactly where the name is none, 32 exactly where it is one under which that command stored nothing
+-- why there is no such unit: 33 exactly if the bytes are not a name, 32 exactly if they are a name with which that command stored nothing
 abbrev pub IsNotStored : List LibraryCommand → (name : List ℕ) (number : ℕ) → PartFault → Type 0
 IsNotStored commands name number BadName = is_name name ≡ false
 IsNotStored commands name number Absent = StoresNone commands name number
 IsNotStored commands name number (Library f) = ⊥
 IsNotStored commands name number OutOfMemory = Unit {0}
 
--- an image that could have been left before, or that recovers to the map before or to the one after it alone
+-- an image that could have been left before, or that recovers to the earlier map or to the later one and to no other
 abbrev pub MayBe : (before : List ℕ → Type 0) (old new : Units) → List ℕ → Type 0
 MayBe before old new image = before image ⊎ RecoversOneOf old new image

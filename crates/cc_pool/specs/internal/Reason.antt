@@ -1,4 +1,4 @@
--- Which piece is of a function, and what is told of one of which none came.
+-- Which piece is a function's, and the fault for a function whose piece did not come.
 use Rattle.std.specs.Prelude.{◌≡◌, ℕ, List}
 use Rattle.cc_ast.specs.Source.{source}
 use Rattle.cc_c_laws.specs.declared.mode.Mode.{Mode}
@@ -11,7 +11,7 @@ use Rattle.cc_pool.specs.declared.fault.PoolFault.TheVariants.{Piece, WorkersGon
 abbrev pub IsOf : Mode → List ℕ → (function : ℕ) → emit.Piece → Type 0
 IsOf mode text function p = ((p.mode ≡ mode) × ((source p.unit).text ≡ text)) × (p.function ≡ function)
 
--- this function of the text was refused so; or nothing came for it
+-- this function of the text was refused with this fault; or nothing came for it
 abbrev pub IsReason : Mode → List ℕ → (function : ℕ) → PoolFault → Type 0
 IsReason mode text function (Piece f fault) = (f ≡ function) × IsRefusedAt mode text function fault
 IsReason mode text function WorkersGone = Unit {0}

@@ -1,4 +1,4 @@
--- The reply that an answer to a change is.
+-- The reply for an answer to a change.
 use Rattle.cc_history.specs.declared.reply.Reply.{Reply}
 use Rattle.cc_history.specs.declared.reply.Reply.TheVariants as reply
 use Rattle.cc_recorded.specs.declared.recorded.Answer.{Answer}

@@ -1,9 +1,9 @@
--- What the code that lays objects out keeps.
+-- Offsets that the code keeps while it lays out objects.
 use Rattle.std.specs.Prelude.{ℕ, ◌+◌, List, [], ◌∷◌}
 use Rattle.cc_ast.specs.Tree.{Object}
 use Rattle.cc_types.specs.Types.{object_elements}
 
--- the offset after some objects, of which the first begins at an offset
+-- the offset after some objects, with the first one at this offset
 abbrev pub offset_behind : ℕ → List Object → ℕ
 offset_behind at [] = at
 offset_behind at (o ∷ rest) = offset_behind (at + object_elements o) rest

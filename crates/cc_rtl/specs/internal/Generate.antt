@@ -1,18 +1,19 @@
--- The generator as a function: nodes are made from the end of the code to its beginning, so that the label to go on at is known. A node's
--- place in the list is its label until the whole is turned round (`turned`): then labels ascend along the code.
+-- The generator as a function. Nodes are made from the end of the code to its beginning, so that the label to continue at is
+-- known. A node's place in the list is its label until the order is reversed (`labelled_from`); then labels ascend along the
+-- code.
 use Rattle.std.specs.Prelude.{ℕ, suc, ◌-◌, ◌<◌, List, [], ◌∷◌, ◌++◌, length, get_or, set, Option, Some, None}
 use Rattle.cc_cminor.specs.Cminor.{Expression, Constant, Local, Unary, Binary, Load, Statement, Skip, Set, Store, Call, Read, Write, Sequence, If, Loop, Block, Exit, Return}
 use Rattle.cc_rtl_language.specs.Rtl as rtl
 use Rattle.cc_rtl.specs.Size.{variable_of}
 
--- a label that is kept for a loop's head has no node yet
+-- a label that is reserved for a loop's head has no node yet
 abbrev pub Places : Type 0
 Places = List (Option rtl.Node)
 
 abbrev pub place_at : Places → ℕ → Option rtl.Node
 place_at g l = get_or g l None
 
--- where code begins, and all nodes so far
+-- where the code begins, and all nodes so far
 pub record Made : Type 0 where
   pub entry : ℕ
   pub places : Places
@@ -38,7 +39,7 @@ register e free = held_in (variable_of e) free
 abbrev pub taken : Expression → ℕ → ℕ
 taken e free = taken_by (variable_of e) free
 
--- the nodes that put a value into `to` and go on at exit
+-- the nodes that put a value into `to` and continue at exit
 abbrev pub made_into : Expression → (free to exit : ℕ) → Places → Made
 made_into (Constant w) free to exit g = pushed (rtl.Const to w exit) g
 made_into (Local x) free to exit g = pushed (rtl.Move to x exit) g
@@ -58,7 +59,7 @@ abbrev pub operands : List Expression → ℕ → Made → Made
 operands [] free next = next
 operands (e ∷ es) free next = operand e free (operands es (taken e free) next)
 
--- a loop's head gets its node when the body is made
+-- a loop's head gets its node when the body has been made
 abbrev pub closed : (head : ℕ) → Made → Made
 closed head body = record { entry = head; places = set body.places head (Some (rtl.Nop body.entry)) }
 
@@ -85,7 +86,7 @@ made_function count body =
     let b = made count body 1 [] (Some (rtl.Return count) ∷ Some (rtl.Const count 0 0) ∷ []) in
     pushed (rtl.Nop b.entry) b.places
 
--- the variables of the code lie below the count
+-- the variables of the code are below the count
 abbrev pub Uses : (count : ℕ) → Expression → Type 0
 Uses count (Constant w) = Unit {0}
 Uses count (Local x) = x < count
@@ -113,7 +114,7 @@ IsFormed count (Return e) = Uses count e
 
 -- ---- labels along the code
 
--- a node whose successors have other labels
+-- a node with other labels for its successors
 abbrev pub renamed : (t : ℕ → ℕ) → rtl.Node → rtl.Node
 renamed t (rtl.Nop n) = rtl.Nop (t n)
 renamed t (rtl.Const to w n) = rtl.Const to w (t n)
@@ -128,12 +129,12 @@ renamed t (rtl.Write r n) = rtl.Write r (t n)
 renamed t (rtl.Branch r n m) = rtl.Branch r (t n) (t m)
 renamed t (rtl.Return r) = rtl.Return r
 
--- the places turned round: the last is label 0
+-- the places in reverse order: the last one has label 0
 abbrev pub labelled_from : (last label : ℕ) → List rtl.Node → List rtl.Labelled
 labelled_from last label [] = []
 labelled_from last label (n ∷ ns) = record { label = label; node = renamed (λ l. last - l) n } ∷ labelled_from last (suc label) ns
 
--- the nodes of places, the last of them first
+-- the nodes at places, the last one first
 abbrev pub nodes_back : Places → List rtl.Node
 nodes_back [] = []
 nodes_back (None ∷ g) = nodes_back g

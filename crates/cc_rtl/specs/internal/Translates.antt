@@ -1,10 +1,10 @@
--- Which nodes stand where, for an expression and for a statement: what a generator of RTL may make.
+-- Which nodes an expression or a statement may become: what a generator of RTL may make.
 use Rattle.std.specs.Prelude.{◌≡◌, ℕ, zero, suc, ◌<◌, ◌≤◌, ◌⊎◌, List, [], ◌∷◌, Option, Some, None}
 use Rattle.cc_cminor.specs.Cminor.{Expression, Constant, Local, Unary, Binary, Load, Statement, Skip, Set, Store, Call, Read, Write, Sequence, If, Loop, Block, Exit, Return}
 use Rattle.cc_rtl_language.specs.Rtl as rtl
 use Rattle.cc_rtl_language.specs.internal.Moves.{Graph}
 
--- The label behind the block that `Exit k` leaves. With no such block the run goes wrong, so any label will do.
+-- The label after the block that `Exit k` leaves. Without such a block the run goes wrong, so any label will do.
 abbrev pub Leads : List ℕ → (k label : ℕ) → Type 0
 Leads [] k label = Unit {0}
 Leads (x ∷ xs) zero label = x ≡ label
@@ -15,8 +15,8 @@ module _ (nodes : Graph) (count : ℕ) where
   abbrev pub Stands : (label : ℕ) → rtl.Node → Type 0
   Stands label n = nodes label ≡ Some n
 
-  -- The register that holds an operand's value at `exit`: a variable's own, or a temporary that the expression is put into. `into` is
-  -- what puts it there; the registers below `free` are taken, and those below `free'` are behind it.
+  -- The register that holds an operand's value at `exit`: a variable's own, or a temporary that the expression is put into.
+  -- `into` puts it there. The registers below `free` are in use before, those below `free'` afterwards.
   abbrev pub Held : Expression → (into : ℕ → ℕ → ℕ → ℕ → Type 0) → (free register free' entry exit : ℕ) → Type 0
   Held e into free register free' entry exit = (free ≤ free') × (register < free') × (((e ≡ Local register) × (register < count) × (entry ≡ exit)) ⊎ ((free ≤ register) × into (suc register) register entry exit))
 
@@ -32,19 +32,19 @@ module _ (nodes : Graph) (count : ℕ) where
   abbrev pub Operand : Expression → (free register free' entry exit : ℕ) → Type 0
   Operand e = Held e (Into e)
 
-  -- operands in registers, the first of them first
+  -- operands in registers, in their order
   abbrev pub Operands : List Expression → List ℕ → (free entry exit : ℕ) → Type 0
   Operands [] [] free entry exit = entry ≡ exit
   Operands [] (r ∷ rs) free entry exit = ⊥
   Operands (e ∷ es) [] free entry exit = ⊥
   Operands (e ∷ es) (r ∷ rs) free entry exit = (free' : ℕ) × (m : ℕ) × Operand e free r free' entry m × Operands es rs free' m exit
 
-  -- the register that the next word of the input goes to: a variable's, or one above them where it is dropped
+  -- the register that the next word of the input goes into: a variable's, or one above the variables if it is dropped
   abbrev pub Takes : Option ℕ → (register : ℕ) → Type 0
   Takes None register = count ≤ register
   Takes (Some x) register = register ≡ x
 
-  -- the statement begins at entry, goes on at exit, and leaves blocks to `exits`, the innermost first
+  -- the statement begins at entry, continues at exit, and leaves blocks to `exits`, innermost first
   abbrev pub Translates : Statement → (entry exit : ℕ) → List ℕ → Type 0
   Translates Skip entry exit exits = entry ≡ exit
   Translates (Set x e) entry exit exits = (x < count) × Into e count x entry exit

@@ -1,7 +1,7 @@
-// The nodes of expressions: what puts a value into a register, from the last node to the first.
+// The nodes that put the value of an expression into a register, made from last to first.
 //
-// A variable is read from its own register, so an operand that is a variable takes no node. The recursion is as deep as the tree: two
-// calls for each of its levels.
+// A variable is read from its own register, so an operand that is a variable takes no node. The recursion is as deep as the tree,
+// with two calls for each of its levels.
 
 ghost use Rattle.std.specs.Prelude.{◌≡◌, ◌+◌, ◌<◌, ◌≤◌, ◌^◌, ◌++◌, length, IfOk, OnOk};
 ghost use Rattle.cc_cminor.specs.Code.{expression_of, expressions_of};
@@ -18,7 +18,7 @@ use cc_rtl_language::Node;
 use smallvec::SmallVec;
 use std::alloc::AllocError;
 
-/// The register that holds an operand: a variable's own, or the first that is free.
+/// The register that holds an operand: a variable's own, or the first free one.
 pub fn register(e: &Expression, free: u32) -> u32
     requires numbers { ExpressionBelow most_variables (expression_of e.now) }
     ensures { result ≡ register (expression_of e.now) free }
@@ -29,7 +29,7 @@ pub fn register(e: &Expression, free: u32) -> u32
     }
 }
 
-/// The first register that is free behind an operand.
+/// The first free register after an operand.
 pub fn taken(e: &Expression, free: u32) -> u32
     requires { free + operand_nodes (expression_of e.now) < 2 ^ 32 }
     ensures register { result ≡ taken (expression_of e.now) free }
@@ -41,7 +41,7 @@ pub fn taken(e: &Expression, free: u32) -> u32
     }
 }
 
-// The node that puts the value of an expression into a register, once its operands are held.
+// The node that puts the value of an expression into a register, once its operands are in registers.
 fn last_node(e: &Expression, free: u32, to: u32, exit: u32) -> Node
     requires registers { free + into_nodes (expression_of e.now) < 2 ^ 32 }
     requires numbers { ExpressionBelow most_variables (expression_of e.now) }
@@ -81,7 +81,7 @@ fn last_node(e: &Expression, free: u32, to: u32, exit: u32) -> Node
     }
 }
 
-/// The nodes that put the value of an expression into a register and go on at a label: where they begin.
+/// Makes the nodes that put the value of an expression into a register and continue at a label. Returns where they begin.
 #[cycle(values)]
 pub fn into(
     graph: &mut Graph,
@@ -109,7 +109,8 @@ pub fn into(
     }
 }
 
-/// The nodes that hold an operand's value and go on at a label: none for a variable.
+/// Makes the nodes that put an operand's value into a register and continue at a label: none for a variable. Returns where they
+/// begin.
 #[cycle(values)]
 pub fn operand(graph: &mut Graph, e: &Expression, free: u32, exit: u32) -> Result<u32, AllocError>
     requires room { length graph.old + operand_nodes (expression_of e.now) ≤ most_nodes }
@@ -124,7 +125,7 @@ pub fn operand(graph: &mut Graph, e: &Expression, free: u32, exit: u32) -> Resul
     }
 }
 
-/// The nodes that hold the values of arguments, the first of them first.
+/// Makes the nodes that put the values of arguments into registers, in the order of the arguments.
 pub fn operands(
     graph: &mut Graph,
     es: &[Expression],

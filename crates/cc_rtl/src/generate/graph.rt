@@ -1,7 +1,8 @@
-// A graph that grows: each node has a place, which is its label until the whole is turned round.
+// A graph that grows: each node has a place, which is its label until the order is reversed.
 //
-// Nodes are made from the end of the code to its beginning, so each comes in front of all others: the list has them in the code's order,
-// while places ascend in the order of making. At last they go over, in the code's order, to a list whose labels ascend along it.
+// Nodes are made from the end of the code to its beginning, so each comes before all others: the list has them in the code's
+// order, while places ascend in the order in which they are made. At the end they are moved, in the code's order, to a list whose
+// labels ascend along it.
 
 ghost use Rattle.std.specs.Prelude.{◌≡◌, ◌+◌, ◌-◌, ◌<◌, ◌≤◌, [], ◌∷◌, ◌++◌, length, set, Some, None, IfOk, OnOk, option_map};
 ghost use Rattle.cc_rtl_language.specs.Rtl as rtl;
@@ -15,7 +16,7 @@ use cc_rtl_language::Node;
 use std::alloc::{AllocError, Global};
 use std::marker::Model;
 
-/// The nodes so far, by their places. A place that is kept for a loop's head has no node yet.
+/// The nodes so far, by their places. A place that is reserved for a loop's head has no node yet.
 #[derive(Drop)]
 pub struct Graph {
     places: InstrList<Option<Node>>,
@@ -42,7 +43,7 @@ impl Graph {
         }
     }
 
-    /// Puts a node at the next place, and gives its label.
+    /// Puts a node at the next place, and returns its label.
     pub fn put(&mut self, node: Node) -> Result<u32, AllocError>
         requires { length self.old < most_nodes }
         ensures made { IfOk result (λ entry. made_at entry self.new ≡ pushed (node_of node) self.old) }
@@ -51,7 +52,7 @@ impl Graph {
         self.add(Some(node))
     }
 
-    /// Keeps the next place for a loop's head, and gives its label.
+    /// Reserves the next place for a loop's head, and returns its label.
     pub fn open(&mut self) -> Result<u32, AllocError>
         requires { length self.old < most_nodes }
         ensures head { IfOk result (λ head. head ≡ length self.old) }
@@ -68,7 +69,7 @@ impl Graph {
         drop(self.places.replace(head, Some(Node::Nop { next: first })));
     }
 
-    // The next place, in front of all others.
+    // Adds the next place, before all others.
     fn add(&mut self, place: Option<Node>) -> Result<u32, AllocError>
         requires { length self.old < most_nodes }
         ensures label { IfOk result (λ label. label ≡ length self.old) }
@@ -80,7 +81,7 @@ impl Graph {
         }
     }
 
-    /// The nodes in the code's order, whose labels ascend from 0; `last` is the last place.
+    /// Returns the nodes in the code's order, with labels that ascend from 0. `last` is the last place.
     pub fn finish(self, alloc: Global, last: u32) -> Result<InstrList<Node>, AllocError>
         requires { length self ≤ most_nodes }
         ensures { IfOk result (λ nodes. labelled_of nodes.entries ≡ labelled_from last 0 (nodes_back self)) }
@@ -97,7 +98,7 @@ impl Graph {
     }
 }
 
-// Each successor's label is counted from the last place.
+// Counts the labels of the node's successors from the last place.
 fn turn(node: &mut Node, last: u32)
     ensures { node_of node.new ≡ renamed (λ l. last - l) (node_of node.old) }
 {

@@ -1,8 +1,8 @@
-// The nodes of statements, from the last node to the first.
+// The nodes of statements, made from last to first.
 //
-// The recursion is as deep as the tree; the statements of a list are gone through by a loop.
+// The recursion is as deep as the tree; a loop goes through the statements of a list.
 
-ghost use Rattle.std.specs.Prelude.{◌≡◌, ◌+◌, ◌<◌, ◌≤◌, List, [], ◌∷◌, length, reverse, get_or, IfOk, OnOk};
+ghost use Rattle.std.specs.Prelude.{◌≡◌, ◌+◌, ◌<◌, ◌≤◌, [], length, reverse, get_or, IfOk, OnOk};
 ghost use Rattle.cc_cminor.specs.Cminor.{Call, Store};
 ghost use Rattle.cc_cminor.specs.Code.{expression_of, expressions_of, statement_of, in_sequence};
 ghost use Rattle.cc_cminor.specs.internal.Statements.{statements_of};
@@ -21,7 +21,7 @@ use cc_words::Width;
 use smallvec::SmallVec;
 use std::alloc::{AllocError, Global};
 
-// The register that a result goes to, where it goes to one.
+// The register that a result goes into, if it is used.
 fn result_register(to: Option<usize>) -> Option<u32>
     requires { ResultBelow most_variables to }
     ensures { result ≡ to }
@@ -32,7 +32,7 @@ fn result_register(to: Option<usize>) -> Option<u32>
     }
 }
 
-// The label behind the block that an exit leaves; any label where there is no such block.
+// The label after the block that an exit leaves; any label if there is no such block.
 fn label_behind(exits: &[u32], blocks: usize, exit: u32) -> u32
     ensures { result ≡ get_or (reverse exits.now) blocks exit }
 {
@@ -43,7 +43,7 @@ fn label_behind(exits: &[u32], blocks: usize, exit: u32) -> u32
     }
 }
 
-// A node that reads an operand, and before it the nodes that hold the operand's value.
+// Makes a node that reads an operand, and before it the nodes that put the operand's value into a register.
 fn with_operand(
     graph: &mut Graph,
     node: Node,
@@ -60,7 +60,7 @@ fn with_operand(
     operand(graph, e, count, next)
 }
 
-// The nodes of a store.
+// Makes the nodes of a store.
 fn store(
     graph: &mut Graph,
     width: Width,
@@ -88,7 +88,7 @@ fn store(
     operand(graph, index, count, next)
 }
 
-// The nodes of a call.
+// Makes the nodes of a call.
 fn call(
     alloc: Global,
     graph: &mut Graph,
@@ -115,8 +115,8 @@ fn call(
     operands(graph, arguments, count, next)
 }
 
-/// The nodes of a statement that goes on at `exit`: where they begin. `exits` are the labels behind the open blocks, the innermost last;
-/// they are as before where all went well.
+/// Makes the nodes of a statement that continues at `exit`, and returns where they begin. `exits` has the labels after the open
+/// blocks, innermost last; on success it is unchanged.
 #[cycle(code)]
 pub fn statement(
     alloc: Global,
@@ -181,7 +181,7 @@ pub fn statement(
     }
 }
 
-// The nodes of statements that stand one after the other.
+// Makes the nodes of statements, one after another.
 #[cycle(code)]
 fn sequence(
     alloc: Global,

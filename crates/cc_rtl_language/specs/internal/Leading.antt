@@ -1,4 +1,4 @@
--- Each node leads to nodes, said of lists.
+-- That each node leads to nodes, in terms of lists.
 use Rattle.std.specs.Prelude.{List, All, IsSome}
 use Rattle.cc_rtl_language.specs.Rtl.{Labelled, node_at, successors}
 

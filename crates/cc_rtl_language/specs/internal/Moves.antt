@@ -1,4 +1,4 @@
--- A graph of nodes, however it is kept, and its moves.
+-- A graph of nodes, in any representation, and its moves.
 use Rattle.std.specs.Prelude.{ℕ, Option}
 use Rattle.cc_simulation.specs.Run.{Move, tried}
 use Rattle.cc_rtl_language.specs.Rtl as rtl

@@ -4,7 +4,7 @@ use Rattle.std.specs.Borrow.{Bor}
 use Rattle.cc_script.specs.Line.{words}
 use Rattle.cc_runs.specs.Words.{all_of, word_in}
 
--- the words of a line with this first word, and with this behind the space that ends it, if one does
+-- the words of a line with this first word, and with this rest after the space that ends it, if there is one
 abbrev pub words_behind : (word : List ℕ) → Option (Bor (List ℕ)) → List (List ℕ)
 words_behind word None = word ∷ []
 words_behind word (Some rest) = word ∷ words rest.now
@@ -14,7 +14,7 @@ abbrev pub input_left : Option (Bor (List ℕ)) → Option (List ℕ)
 input_left None = Some []
 input_left (Some rest) = all_of (map word_in (words rest.now))
 
--- how many bytes are left, and one more where a word is
+-- the number of bytes that are left, and one more if a word is left
 abbrev pub room_left : Option (Bor (List ℕ)) → ℕ
 room_left None = 0
 room_left (Some rest) = length rest.now + 1

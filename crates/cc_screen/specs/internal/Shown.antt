@@ -1,7 +1,7 @@
--- What a terminal is shown of the bytes that are printed: of each control byte a question mark.
+-- How a terminal is shown the bytes that are printed: a question mark for each control byte.
 use Rattle.std.specs.Prelude.{ℕ, Bool, ◌&&◌, ◌||◌, ◌==◌, not, nat_le, nat_lt, if◌then◌else◌, List, [], ◌∷◌}
 
--- 0 to 31 but tab and newline, 127, and 128 to 159 after a byte with which it is no part of another character
+-- 0 to 31 except tab and newline, 127, and 128 to 159 unless the byte before makes it part of another character
 abbrev pub is_control : (before byte : ℕ) → Bool
 is_control before byte =
     ((nat_lt byte 32 && not ((byte == 9) || (byte == 10))) || (byte == 127))

@@ -1,4 +1,4 @@
--- The passes, step by step: what a sweep and a look do at one step, which steps stay, which two are one.
+-- The passes, step by step: what a sweep and a check do at one step, which steps stay, and which two become one.
 use Rattle.std.specs.Prelude.{ℕ, Bool, true, false, not, ◌&&◌, ◌||◌, ◌==◌, if◌then◌else◌, List, [], ◌∷◌, Option, Some, None}
 use Rattle.cc_words.specs.declared.operators.Unary.TheVariants.{IsZero}
 use Rattle.cc_words.specs.declared.operators.Binary as binary
@@ -14,23 +14,23 @@ use Rattle.cc_select.specs.Selection.{Test, behind}
 use Rattle.cc_select.specs.declared.fuse.Test as code
 use Rattle.cc_select.specs.internal.Sets.{within}
 
--- the label that a step is
+-- the label, if the step is one
 abbrev pub label_of : Step → Option ℕ
 label_of (One (Label label)) = Some label
 label_of step = None
 
--- whether a label's row has what is live there
+-- whether a label's row has everything that is live there
 abbrev pub is_met : Table → Step → Registers → Bool
 is_met t (One (Label label)) s = within s (t label)
 is_met t step s = true
 
--- a constant stays where somebody reads it; so does an operator with a word, and where nobody reads its register behind it
+-- a constant stays if something reads it; so does an operator with a word, and also if its own register is not live after it
 abbrev pub stays : Step → (behind : Registers) → Bool
 stays (One (Const to word)) s = s to
 stays (Immediate operator to from word) s = s to || not (s from)
 stays step s = true
 
--- the test that a step is
+-- the test, if the step is one
 abbrev pub test_in : Step → Option Test
 test_in (One (IfNonzero r n)) = Some (record { register = r; nonzero = true; to = n })
 test_in (One (IfZero r n)) = Some (record { register = r; nonzero = false; to = n })
@@ -40,11 +40,11 @@ test_in step = None
 abbrev pub shown : code.Test → Test
 shown t = record { register = t.register; nonzero = t.nonzero; to = t.to }
 
--- the branch that the test of whether a register is 0 and a test of that answer are
+-- the branch for a step that asks whether a register is 0 and a test of that answer
 abbrev pub branch_on_zero : (from : ℕ) → Test → Step
 branch_on_zero a v = One (if v.nonzero then IfZero a v.to else IfNonzero a v.to)
 
--- the comparison of which a test of an operator's value is one
+-- the comparison that a test of an operator's value makes
 abbrev pub compared : binary.Binary → Option binary.Binary
 compared operators.Xor = Some operators.Ne
 compared o = if is_comparison o then Some o else None
@@ -53,23 +53,23 @@ abbrev pub branch_compared : Option binary.Binary → (left right : ℕ) → Tes
 branch_compared None a b v = None
 branch_compared (Some o) a b v = Some (Branch o v.nonzero a b v.to)
 
--- the branch that a step and a test of the register that it writes are
+-- the one branch for a step and a test of the register that it writes
 abbrev pub branch_on : Step → Test → Option Step
 branch_on (One (Unary IsZero to a)) v = if to == v.register then Some (branch_on_zero a v) else None
 branch_on (One (Binary o to a b)) v = if to == v.register then branch_compared (compared o) a b v else None
 branch_on (Immediate o to a w) v = if (to == v.register) && gains o w then Some (BranchImmediate o v.nonzero a w v.to) else None
 branch_on step v = None
 
--- whether nobody reads a test's register behind the test; `steps` begin with it
+-- whether nothing reads a test's register after the test; `steps` begin with it
 abbrev pub is_last : Table → Test → (steps : List Step) → Bool
 is_last t v steps = not (live t (behind steps) v.register) && not (t v.to v.register)
 
--- a step and the steps behind it, of which the first may be a test
+-- the one branch for a step and the steps after it, the first of which may be a test
 abbrev pub branch_of : Table → Step → Option Test → (steps : List Step) → Option Step
 branch_of t step None steps = None
 branch_of t step (Some v) steps = if is_last t v steps then branch_on step v else None
 
--- the same of the step that a list begins with
+-- the same for the step that a list begins with
 abbrev pub first_branch : Table → List Step → Option Step
 first_branch t [] = None
 first_branch t (step ∷ []) = None

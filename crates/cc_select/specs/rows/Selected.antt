@@ -1,6 +1,6 @@
--- Worked selection, by computation: which words operators have, constants that go into operations and accesses and constants that stay,
--- powers of two, what is forgotten, branches on constants, comparisons joined with their tests and such that are not, a table, and what some
--- steps do.
+-- Worked examples of selection, by computation: which words operators have, constants that go into operations and accesses, constants that
+-- stay, powers of two, what is forgotten, branches on constants, comparisons that are joined with their tests and others that are not, a
+-- table, and what some steps do.
 use Rattle.std.specs.Prelude.{◌-◌, ◌^◌, ◌≡◌, refl, true, false, Some, None, List, [], ◌∷◌}
 use Rattle.std.specs.Int.Count.{count_trailing_zeros}
 use Rattle.cc_words.specs.declared.operators.Width.TheVariants.{Byte, Word}
@@ -37,14 +37,14 @@ least = refl
 too_small : has_word immediate.Add (2 ^ 32 - 2049) ≡ false
 too_small = refl
 
--- what is subtracted is added as its negative; so what is compared for equality
+-- a word is subtracted by adding its negative; so is a word that is compared for equality
 subtracted : has_word immediate.Sub 2048 ≡ true
 subtracted = refl
 
 too_great_to_subtract : has_word immediate.Eq 2049 ≡ false
 too_great_to_subtract = refl
 
--- at most a word is less than the next
+-- "at most a word" is "less than the next word"
 at_most : has_word immediate.LeS 2046 ≡ true
 at_most = refl
 
@@ -54,7 +54,7 @@ too_great_for_at_most = refl
 all_are_at_most : has_word immediate.LeU (2 ^ 32 - 1) ≡ false
 all_are_at_most = refl
 
--- more than 0 alone
+-- "more than" only with 0
 more_than_one : has_word immediate.GtU 1 ≡ false
 more_than_one = refl
 
@@ -67,7 +67,7 @@ at_least = refl
 
 -- ---- constants
 
--- an element's number, of a load and of a store; the word that is stored stays in its register
+-- an element's number in a load and in a store; the word that is stored stays in its register
 index_of_load : selected (Const 7 3 ∷ Load Word 1 10 7 ∷ Return ∷ []) ≡ LoadAt Word 1 10 3 ∷ One Return ∷ []
 unfolding table
 index_of_load = refl
@@ -76,7 +76,7 @@ index_of_store : selected (Const 7 2 ∷ Const 11 5 ∷ Store Byte 0 7 11 ∷ Re
 unfolding table
 index_of_store = refl
 
--- ---- elements near by: the number is made of a register and a word, and nobody else reads it
+-- ---- nearby elements: the number is made from a register and a word, and nothing else reads it
 
 next_element : selected (Const 7 1 ∷ Binary operators.Add 7 10 7 ∷ Load Word 0 10 7 ∷ Return ∷ []) ≡ LoadNear Word 0 10 10 1 ∷ One Return ∷ []
 unfolding table count_trailing_zeros
@@ -86,12 +86,12 @@ element_before : selected (Const 7 1 ∷ Binary operators.Sub 7 10 7 ∷ Store B
 unfolding table count_trailing_zeros
 element_before = refl
 
--- it stays where its register is read once more
+-- the sum stays if its register is read again
 read_once_more : selected (Const 7 1 ∷ Binary operators.Add 7 10 7 ∷ Load Word 0 11 7 ∷ Copy (Between 10 7) ∷ Return ∷ []) ≡ Immediate immediate.Add 7 10 1 ∷ LoadNear Word 0 11 10 1 ∷ One (Copy (Between 10 7)) ∷ One Return ∷ []
 unfolding table count_trailing_zeros
 read_once_more = refl
 
--- where the register that the sum was made of is written since, or is that of the sum, the number is that of the sum's register
+-- if the register from which the sum was made is written since, or is the sum's own register, the number is the word of the sum's register
 written_since : selected (Const 7 1 ∷ Binary operators.Add 7 10 7 ∷ Copy (Between 10 11) ∷ Load Word 0 10 7 ∷ Return ∷ []) ≡ Immediate immediate.Add 7 10 1 ∷ One (Copy (Between 10 11)) ∷ One (Load Word 0 10 7) ∷ One Return ∷ []
 unfolding table count_trailing_zeros
 written_since = refl
@@ -105,7 +105,7 @@ on_the_right : selected (Const 7 5 ∷ Binary operators.Sub 10 11 7 ∷ Return �
 unfolding table
 on_the_right = refl
 
--- on the left: where the order says nothing; where what is less than a register's word is less by being more; and no difference
+-- on the left: if the order makes no difference; if "the word is less than the register's" becomes "more than"; and not in a difference
 on_the_left : selected (Const 7 5 ∷ Binary operators.And 10 7 11 ∷ Return ∷ []) ≡ Immediate immediate.And 10 11 5 ∷ One Return ∷ []
 unfolding table
 on_the_left = refl
@@ -126,12 +126,12 @@ difference_on_the_left : selected (Const 7 5 ∷ Binary operators.Sub 10 7 11 �
 unfolding table
 difference_on_the_left = refl
 
--- of two constants the right one goes into the operation
+-- of two constants, the right one goes into the operation
 on_both_sides : selected (Const 7 1 ∷ Const 8 2 ∷ Binary operators.Add 10 7 8 ∷ Return ∷ []) ≡ One (Const 7 1) ∷ Immediate immediate.Add 10 7 2 ∷ One Return ∷ []
 unfolding table
 on_both_sides = refl
 
--- a signed quotient has no word, so its constant is live, and stays
+-- a signed quotient cannot have a word, so its constant is live, and stays
 live_constant : selected (Const 7 5 ∷ Binary operators.Add 10 11 7 ∷ Binary operators.DivS 10 10 7 ∷ Return ∷ [])
     ≡ One (Const 7 5) ∷ Immediate immediate.Add 10 11 5 ∷ One (Binary operators.DivS 10 10 7) ∷ One Return ∷ []
 unfolding table
@@ -139,7 +139,7 @@ live_constant = refl
 
 -- ---- powers of two
 
--- 2^0 and 2^31 are the least and the greatest; 0 and 3 are none
+-- 2^0 and 2^31 are the least and the greatest power; 0 and 3 are not powers of two
 product_by_1 : immediate_of operators.Mul 1 ≡ Some (immediate.Shl, 0)
 unfolding count_trailing_zeros
 product_by_1 = refl
@@ -172,7 +172,7 @@ quotient_by_3 : immediate_of operators.DivU 3 ≡ None
 unfolding count_trailing_zeros
 quotient_by_3 = refl
 
--- the remainder by 1 is 0
+-- a remainder by 1 is 0
 remainder_by_1 : immediate_of operators.RemU 1 ≡ Some (immediate.And, 0)
 unfolding count_trailing_zeros
 remainder_by_1 = refl
@@ -189,7 +189,7 @@ remainder_by_3 : immediate_of operators.RemU 3 ≡ None
 unfolding count_trailing_zeros
 remainder_by_3 = refl
 
--- a signed quotient rounds toward 0, and a shift down; and a power of two on the left of a quotient says nothing
+-- a signed quotient rounds toward 0, a shift rounds down; and a quotient with a power of two on its left has no form
 signed_quotient : immediate_of operators.DivS 8 ≡ None
 signed_quotient = refl
 
@@ -224,7 +224,7 @@ long_mask = refl
 
 -- ---- what is forgotten
 
--- at a label, where runs from elsewhere come
+-- at a label, since runs come there from elsewhere
 at_a_label : selected (Const 7 3 ∷ Label 1 ∷ Load Word 0 10 7 ∷ Return ∷ []) ≡ One (Const 7 3) ∷ One (Label 1) ∷ One (Load Word 0 10 7) ∷ One Return ∷ []
 unfolding table
 at_a_label = refl
@@ -238,7 +238,7 @@ past_a_call : selected (Const 18 3 ∷ Call 0 ∷ Load Word 0 10 18 ∷ Return �
 unfolding table
 past_a_call = refl
 
--- where its register is written anew
+-- when its register is written again
 written_anew : selected (Const 7 3 ∷ Copy (Between 7 11) ∷ Load Word 0 10 7 ∷ Return ∷ []) ≡ One (Copy (Between 7 11)) ∷ One (Load Word 0 10 7) ∷ One Return ∷ []
 unfolding table
 written_anew = refl
@@ -250,14 +250,14 @@ argument = refl
 
 -- ---- branches on constants
 
--- behind a test: 0, or at its label 1
+-- after a test: 0; at its label: 1
 abbrev ends : List LinearItem
 ends = Const 10 0 ∷ Return ∷ Label 1 ∷ Const 10 1 ∷ Return ∷ []
 
 abbrev ends_selected : List Step
 ends_selected = One (Const 10 0) ∷ One Return ∷ One (Label 1) ∷ One (Const 10 1) ∷ One Return ∷ []
 
--- a branch on a constant that is certain to be taken is a jump, and nobody reads the constant
+-- a branch on a constant that is certain to be taken is a jump, and nothing reads the constant
 taken_at_1 : selected (Const 7 1 ∷ IfNonzero 7 1 ∷ ends) ≡ One (Jump 1) ∷ ends_selected
 unfolding table
 taken_at_1 = refl
@@ -266,7 +266,7 @@ taken_at_0 : selected (Const 7 0 ∷ IfZero 7 1 ∷ ends) ≡ One (Jump 1) ∷ e
 unfolding table
 taken_at_0 = refl
 
--- one that is certain not to be taken stays
+-- a branch that is certain not to be taken stays
 not_taken_at_0 : selected (Const 7 0 ∷ IfNonzero 7 1 ∷ ends) ≡ One (Const 7 0) ∷ One (IfNonzero 7 1) ∷ ends_selected
 unfolding table
 not_taken_at_0 = refl
@@ -275,12 +275,12 @@ not_taken_at_1 : selected (Const 7 1 ∷ IfZero 7 1 ∷ ends) ≡ One (Const 7 1
 unfolding table
 not_taken_at_1 = refl
 
--- of x8 nothing is known
+-- nothing is known about x8
 branch_on_another : selected (Const 7 1 ∷ IfNonzero 8 1 ∷ ends) ≡ One (IfNonzero 8 1) ∷ ends_selected
 unfolding table
 branch_on_another = refl
 
--- behind it what the items say is known, though no run comes there
+-- after it, what the items say is known, though no run comes there
 behind_a_taken_one : selected (Const 7 3 ∷ IfNonzero 7 1 ∷ Load Word 0 10 7 ∷ Return ∷ Label 1 ∷ Return ∷ []) ≡ One (Jump 1) ∷ LoadAt Word 0 10 3 ∷ One Return ∷ One (Label 1) ∷ One Return ∷ []
 unfolding table
 behind_a_taken_one = refl
@@ -300,7 +300,7 @@ joined_zero : selected (Unary IsZero 7 10 ∷ IfNonzero 7 1 ∷ ends) ≡ One (I
 unfolding table
 joined_zero = refl
 
--- with a word, where the branch gains by it
+-- with a word, if the branch gains by it
 joined_word : selected (Const 8 0 ∷ Binary operators.LtS 7 10 8 ∷ IfNonzero 7 1 ∷ ends) ≡ BranchImmediate immediate.LtS true 10 0 1 ∷ ends_selected
 unfolding table
 joined_word = refl
@@ -313,7 +313,7 @@ word_without_gain : selected (Const 8 100 ∷ Binary operators.LtS 7 10 8 ∷ If
 unfolding table
 word_without_gain = refl
 
--- the value is read at the label, or behind the test, or the test is of another register: two steps
+-- the value is read at the label or after the test, or the test is of another register: two steps
 read_at_the_label : selected (Binary operators.LtS 7 10 11 ∷ IfNonzero 7 1 ∷ Return ∷ Label 1 ∷ Copy (Between 10 7) ∷ Return ∷ [])
     ≡ One (Binary operators.LtS 7 10 11) ∷ One (IfNonzero 7 1) ∷ One Return ∷ One (Label 1) ∷ One (Copy (Between 10 7)) ∷ One Return ∷ []
 unfolding table
@@ -328,8 +328,8 @@ another_register : selected (Binary operators.LtS 10 10 11 ∷ IfNonzero 12 1 �
 unfolding table
 another_register = refl
 
--- ---- a loop: its back jump asks for a second sweep; the constant in it goes, those before it stay, and its test goes before its label and into
--- its back jump
+-- ---- a loop: its jump back needs a second sweep; the constant in it is left out, those before it stay, and its test goes before its label
+-- and into its jump back
 
 abbrev loop : List LinearItem
 loop = Const 18 10 ∷ Const 19 0 ∷ Label 7 ∷ IfZero 18 9 ∷ Binary operators.Add 19 19 18 ∷ Const 7 1 ∷ Binary operators.Sub 18 18 7 ∷ Jump 7 ∷ Label 9 ∷ Copy (Between 10 19) ∷ Return ∷ []
@@ -374,6 +374,6 @@ less_leads = refl
 not_at_most_leads : does (λ f. 0) code (One (Label 1) ∷ Branch operators.LeU false 10 11 1 ∷ One Return ∷ []) locations world [] ≡ Goes (at_steps (One (Label 1) ∷ Branch operators.LeU false 10 11 1 ∷ One Return ∷ []) locations world [])
 not_at_most_leads = refl
 
--- -1 and 5 are 4
+-- -1 + 5 is 4
 sum : does (λ f. 0) code (Immediate immediate.Add 12 10 5 ∷ []) locations world [] ≡ Goes (at_steps [] (put (Register 12) 4 locations) world [])
 sum = refl

@@ -1,4 +1,5 @@
--- Worked threading, by computation: a truth value that is tested where it is made, tests that become jumps, and tests that stay where they are.
+-- Worked examples of threading, by computation: a truth value that is tested where it is made, tests that become jumps, and tests that stay
+-- where they are.
 use Rattle.std.specs.Prelude.{◌≡◌, refl, true, Some, None, List, [], ◌∷◌}
 use Rattle.cc_words.specs.declared.operators.Binary.TheVariants as operators
 use Rattle.cc_ltl.specs.declared.operation.Move.TheVariants.{Between}
@@ -9,11 +10,11 @@ use Rattle.cc_select.specs.Threading.{tests, threaded}
 use Rattle.cc_select.specs.Table.{table}
 use Rattle.cc_select.specs.Selection.{selected}
 
--- where two ways meet, x7 is tested: on at label 3 where it is not 0
+-- where two ways meet, x7 is tested: on at label 3 if it is not 0
 abbrev meeting : List LinearItem
 meeting = Label 2 ∷ IfNonzero 7 3 ∷ Return ∷ Label 3 ∷ Write ∷ Return ∷ []
 
--- ---- `a && b`: 0 where x10 is 0, else whether x11 is less than x12
+-- ---- `a && b`: 0 if x10 is 0, else whether x11 is less than x12
 
 abbrev conjunction : List LinearItem
 conjunction = IfZero 10 1 ∷ Binary operators.LtS 7 11 12 ∷ Jump 2 ∷ Label 1 ∷ Const 7 0 ∷ meeting
@@ -21,7 +22,7 @@ conjunction = IfZero 10 1 ∷ Binary operators.LtS 7 11 12 ∷ Jump 2 ∷ Label 
 goes_before : tests conjunction 2 ≡ Some (IfNonzero 7 3)
 goes_before = refl
 
--- a branch leads to label 1, and behind label 3 stands no test
+-- a branch leads to label 1, and there is no test after label 3
 none_at_the_branched : tests conjunction 1 ≡ None
 none_at_the_branched = refl
 
@@ -32,13 +33,13 @@ conjunction_threaded : threaded conjunction
     ≡ IfZero 10 1 ∷ Binary operators.LtS 7 11 12 ∷ IfNonzero 7 3 ∷ Jump 2 ∷ Label 1 ∷ Const 7 0 ∷ Jump 2 ∷ Label 2 ∷ Return ∷ Label 3 ∷ Write ∷ Return ∷ []
 conjunction_threaded = refl
 
--- nobody reads x7 then: the comparison is a branch, and the constant goes
+-- then nothing reads x7: the comparison becomes a branch, and the constant is left out
 conjunction_selected : selected conjunction
     ≡ One (IfZero 10 1) ∷ Branch operators.LtS true 11 12 3 ∷ One (Jump 2) ∷ One (Label 1) ∷ One (Jump 2) ∷ One (Label 2) ∷ One Return ∷ One (Label 3) ∷ One Write ∷ One Return ∷ []
 unfolding table
 conjunction_selected = refl
 
--- ---- known words: a jump to where the test leads, on behind it, or to its label
+-- ---- known words: a jump to where the test leads, past the test, or to its label
 
 jump_there : threaded (Const 7 5 ∷ Jump 2 ∷ meeting) ≡ Const 7 5 ∷ Jump 3 ∷ IfNonzero 7 3 ∷ Label 2 ∷ Return ∷ Label 3 ∷ Write ∷ Return ∷ []
 jump_there = refl
@@ -65,6 +66,6 @@ another_register = refl
 branched : threaded (IfZero 10 2 ∷ Const 7 0 ∷ Jump 2 ∷ meeting) ≡ IfZero 10 2 ∷ Const 7 0 ∷ Jump 2 ∷ meeting
 branched = refl
 
--- another item stands before the test
+-- another item is before the test
 not_directly_behind : threaded (Jump 2 ∷ Label 2 ∷ Copy (Between 7 10) ∷ IfNonzero 7 3 ∷ Label 3 ∷ Return ∷ []) ≡ Jump 2 ∷ Label 2 ∷ Copy (Between 7 10) ∷ IfNonzero 7 3 ∷ Label 3 ∷ Return ∷ []
 not_directly_behind = refl

@@ -22,7 +22,7 @@ use Rattle.cc_history.specs.declared.reply.Reply.{Reply}
 use Rattle.cc_service.specs.declared.asking.Compared.{Compared}
 use Rattle.cc_service.specs.declared.asking.Compared.TheVariants as compared
 
--- the answer to a change that is this one
+-- the answer to this change
 abbrev pub MakesAnswers : Command → (old new : MemberView) → Result Receipt ServiceFault → Type 0
 MakesAnswers command old new (Ok receipt) = IsEntered (λ c. c ≡ command) old reply.Done new receipt
 MakesAnswers command old new (Err (Book f)) = IsTurnedDown (λ c. c ≡ command) old new f
@@ -36,7 +36,7 @@ MakesAnswers command old new (Err ImageTooLarge) = ⊥
 MakesAnswers command old new (Err OutOfMemory) = ⊥
 MakesAnswers command old new (Err (Changed receipt)) = ⊥
 
--- a look was answered as some map has it, and the receipt is the client's last
+-- a look-up was answered by some map, and the receipt is the client's last
 pub record IsSeen (asked : Asked) (old new : MemberView) (receipt : Receipt) : Type 0 where
   pub units : Units
   pub replied : receipt.entry.reply ≡ reply_of units asked
@@ -44,18 +44,18 @@ pub record IsSeen (asked : Asked) (old new : MemberView) (receipt : Receipt) : T
 
 -- ---- updates
 
--- whether a reply has a unit, and if so with the source that is expected
+-- whether a reply has a unit, and if so whether it has the expected source
 abbrev pub HasCompared : Reply → (expected : List ℕ) → Compared → Type 0
 HasCompared answer expected compared.NoUnit = (unit : StoredUnit) → answer ≡ reply.Unit unit → ⊥
 HasCompared answer expected compared.Other = (unit : StoredUnit) × (answer ≡ reply.Unit unit) × (unit.source ≢ expected)
 HasCompared answer expected compared.Same = (unit : StoredUnit) × (answer ≡ reply.Unit unit) × (unit.source ≡ expected)
 
--- what the book answers, as the service does
+-- what the book answers, as an answer of the service
 abbrev pub answer_of : Result Receipt BookFault → Result Receipt ServiceFault
 answer_of (Ok receipt) = Ok receipt
 answer_of (Err fault) = Err (Book fault)
 
--- what comes after the look: 32 or 60, or the change
+-- what comes after the look-up: 32 or 60, or the change
 module _ {Disk : Type 0} (D : Ghosts Disk) where
   abbrev pub UpdatesSeen : (between : BookView Disk) (heard : MemberView) (expected : List ℕ) → Command → (seen : Receipt) (after : BookView Disk) (new : MemberView) → Result Receipt ServiceFault → Type 0
   UpdatesSeen between heard expected command seen after new result =
@@ -64,7 +64,7 @@ module _ {Disk : Type 0} (D : Ghosts Disk) where
       ⊎ (HasCompared seen.entry.reply expected compared.Same
       × (answer : Result Receipt BookFault) × (result ≡ answer_of answer) × (IsBookChanged D between heard command after new answer ⊎ IsCompactedFor D between heard command after new answer)))
 
--- the answer to an update by a change that is this one
+-- the answer to an update by this change
 abbrev pub UpdatesBy : Command → (name expected : List ℕ) (old new : MemberView) → Result Receipt ServiceFault → Type 0
 UpdatesBy command name expected old new (Ok receipt) = IsUpdated (λ c. c ≡ command) name expected old new receipt
 UpdatesBy command name expected old new (Err (Book f)) = IsNotUpdated name expected old new f

@@ -1,4 +1,4 @@
--- Each bound is its own.
+-- Each bound serves for itself.
 use Rattle.cc_simulation.proofs.Behaving.{follows_refl}
 use Rattle.cc_simulation.proofs.follows_itself.Goals as goal
 

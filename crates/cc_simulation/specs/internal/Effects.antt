@@ -1,4 +1,4 @@
--- What a layer's moves have together with what its calls do: `IsLayer` with the meaning's facts put in.
+-- What a layer's moves satisfy together with the effects of its calls: `IsLayer` with the meaning's facts applied.
 use Rattle.std.specs.Prelude.{◌≡◌, ℕ, ◌+◌, ◌≤◌, List}
 use Rattle.cc_simulation.specs.Behavior.{IsPrefixOf}
 use Rattle.cc_simulation.specs.World.{Question, Answer, Effect, Gives, Unfinished, Failed}
@@ -10,13 +10,13 @@ After output resume o (Gives a left) = IsPrefixOf o (output (resume a))
 After output resume o (Unfinished p) = IsPrefixOf o p
 After output resume o (Failed p) = IsPrefixOf o p
 
--- the effect of d steps more, where with fewer steps a call was unfinished
+-- the effect of d more steps, if a call was unfinished with fewer steps
 abbrev pub UnfinishedThen : {C : Type 0} → (C → List ℕ) → (Answer → C) → List ℕ → ℕ → Effect → Type 0
 UnfinishedThen output resume o d (Gives a left) = (left ≤ d) × IsPrefixOf o (output (resume a))
 UnfinishedThen output resume o d (Unfinished p) = IsPrefixOf o p
 UnfinishedThen output resume o d (Failed p) = IsPrefixOf o p
 
--- the second effect is what the first comes to with d steps more
+-- the second effect is the first one with d more steps
 abbrev pub LaterAt : {C : Type 0} → (C → List ℕ) → (Answer → C) → Effect → ℕ → Effect → Type 0
 LaterAt output resume (Gives a left) d e = e ≡ Gives a (left + d)
 LaterAt output resume (Unfinished o) d e = UnfinishedThen output resume o d e
@@ -28,7 +28,7 @@ Within j (Gives a left) = left ≤ j
 Within j (Unfinished o) = Unit {0}
 Within j (Failed o) = Unit {0}
 
--- a layer with what its calls do
+-- a layer with the effects of its calls
 pub record HasEffects {C : Type 0} (move : C → Move C) (output : C → List ℕ) (effect : ℕ → Question → Effect) : Type 0 where
   pub grows : (c d : C) → move c ≡ Goes d → IsPrefixOf (output c) (output d)
   pub answers : (c : C) (q : Question) (resume : Answer → C) → move c ≡ Calls q resume → (j : ℕ) → After output resume (output c) (effect j q)

@@ -1,5 +1,5 @@
--- What the parser's own functions compute, token by token. No public contract cites this file: `parse` is stated by
--- Grammar and Limits, and that the two agree is proved in proofs/.
+-- What the parser's private functions compute, token by token. No public contract cites this file: the contract of `parse` uses
+-- Grammar and Limits, and proofs/ shows that the two agree.
 use Rattle.std.specs.Prelude.{ℕ, suc, Bool, true, false, ◌&&◌, List, [], ◌∷◌, ◌++◌, length, Option, Some, None, is_some, nat_le, if◌then◌else◌}
 use Rattle.cc_tokens.specs.declared.scalar.Scalar.{Scalar}
 use Rattle.cc_tokens.specs.declared.scalar.Scalar.TheVariants as scalar
@@ -19,7 +19,7 @@ use Rattle.cc_tokens.specs.Token.{Lexeme}
 use Rattle.cc_ast.specs.Tree.{Name, Expr, Number, Variable, Element, Call, Parenthesised, Unary, Cast, Binary, Conditional, Exprs, none, more, Target, AtVariable, AtElement, Action, Assign, Step, Evaluate, Declarator, Beginning, Declares, Performs, Stmt, Block, Local, Perform, Return, Break, Continue, If, IfElse, While, DoWhile, For, Stmts, end, next, ConstantExpr, Parameter, Signature, Object, Single, Array, Bytes as ByteArray, External, Declaration, Definition, Objects}
 use Rattle.cc_ast.specs.Grammar.{Measured, precedence}
 
--- what waits for an operand to its right, or for a closing token
+-- a pending part of an expression: it awaits an operand on its right, or a closing token
 pub data Waiting : Type 0 where
   Parenthesis : Waiting
   Index : Name → Waiting
@@ -30,7 +30,7 @@ pub data Waiting : Type 0 where
   Then : Expr → Waiting
   Otherwise : Expr → Expr → Waiting
 
--- a statement that has begun and waits for a part
+-- a statement that has begun and is not complete
 pub data Open : Type 0 where
   InBlock : Stmts → Open
   InThen : Expr → Open
@@ -39,15 +39,15 @@ pub data Open : Type 0 where
   InDo : Open
   InFor : Beginning → Option Expr → Option Action → Open
 
--- a function's body so far: the external declarations before it, its finished statements, and those that are open, the
--- innermost first
+-- a function's body so far: the external declarations before it, its head, its finished statements, and its open statements with
+-- the innermost first
 pub record Inside : Type 0 where
   pub externals : List External
   pub signature : Signature
   pub finished : Stmts
   pub opened : List Open
 
--- where an action stands: it is a statement, or the first or the last part of a `for` header
+-- what an action is: a statement, or the first or the last part of a `for` header
 pub data Spot : Type 0 where
   AsStatement : Spot
   AsStart : Spot
@@ -59,7 +59,7 @@ pub data Test : Type 0 where
   ForWhile : Test
   ForDo : Stmt → Test
 
--- where a declaration of locals stands: directly in a block, or in a `for` header
+-- what a declaration of locals belongs to: a block directly, or a `for` header
 pub data Position : Type 0 where
   AsLocal : Position
   AsHeader : Position
@@ -74,37 +74,37 @@ pub data Purpose : Type 0 where
   ToGoOn : Beginning → Purpose
   ToInitialise : Position → Scalar → List Declarator → Name → Purpose
 
--- a declaration of objects so far: their elements, those that are complete, and a name
+-- a declaration of objects so far: the kind of their elements, the complete objects, and a name
 pub record Naming : Type 0 where
   pub kind : ObjectKind
   pub objects : List Object
   pub name : Name
 
--- what a constant expression is of the named object, and the offset of its first token
+-- what a constant expression is for the named object, and the offset of its first token
 pub data Part : Type 0 where
   ToSize : ℕ → Part
   ToSingle : ℕ → Part
   ToValue : Option ConstantExpr → List ConstantExpr → ℕ → Part
 
--- what stands around a full expression
+-- what a full expression is a part of
 pub data Context : Type 0 where
   OfBody : Inside → Purpose → Context
   OfObject : List External → Naming → Part → Context
 
--- a full expression so far: what waits, the latest first, and how many tokens it has
+-- a full expression so far: what it is a part of, its pending parts with the latest first, and how many tokens it has
 pub record Full : Type 0 where
   pub context : Context
   pub waiting : List Waiting
   pub count : ℕ
 
--- what comes next in a full expression: an operand; what stands after one; `int` or the end of a cast's type
+-- what comes next in a full expression: an operand, what follows an operand, or `int` or the end of a cast's type
 pub data Phase : Type 0 where
   Operand : Phase
   Operator : Expr → Phase
   CastSign : Scalar → Phase
   CastType : Scalar → Phase
 
--- what comes next in a function's body, outside of full expressions
+-- what comes next in a function's body, outside full expressions
 pub data Stage : Type 0 where
   Item : Stage
   AfterThen : Expr → Stmt → Stage
@@ -145,17 +145,17 @@ pub data Outer : Type 0 where
   Valuing : Naming → Option ConstantExpr → List ConstantExpr → Outer
   Listed : ObjectKind → List Object → Outer
 
--- where the parser stands between two tokens; at file scope, the external declarations that are complete
+-- the parser's state between two tokens; at file scope it has the complete external declarations
 pub data State : Type 0 where
   AtFile : List External → Outer → State
   InBody : Inside → Stage → State
   InFull : Full → Phase → State
 
--- the name that an identifier's token gives
+-- the name in an identifier's token
 abbrev pub name_of : Lexeme → Name
 name_of x = record { text = x.text; at = x.at }
 
--- one more at the end
+-- a list with one more statement at the end
 abbrev pub with_last : Stmts → Stmt → Stmts
 with_last end s = next s end
 with_last (next first others) s = next first (with_last others s)
@@ -164,7 +164,7 @@ abbrev pub with_argument : Exprs → Expr → Exprs
 with_argument none e = more e none
 with_argument (more first others) e = more first (with_argument others e)
 
--- how tightly what waits holds its operand against an operator that follows
+-- how tightly a pending part binds its operand, if an operator follows
 abbrev pub tightness : Waiting → ℕ
 tightness (Prefix op) = 12
 tightness (Casting t) = 12
@@ -172,7 +172,7 @@ tightness (Infix op e) = precedence op
 tightness (Otherwise c a) = 1
 tightness _ = 0
 
--- what waits, with its operand
+-- a pending part with its operand
 abbrev pub completed : Waiting → Expr → Expr
 completed Parenthesis e = Parenthesised e
 completed (Index n) e = Element n e
@@ -183,7 +183,7 @@ completed (Infix op a) e = Binary op a e
 completed (Then c) e = e
 completed (Otherwise c a) e = Conditional c a e
 
--- an expression, and what still waits for it, once an operator of a level follows
+-- an expression and its pending parts, before an operator of this level
 abbrev pub reduced : ℕ → List Waiting → Expr → Expr × List Waiting
 reduced level [] e = (e, [])
 reduced level (w ∷ ws) e = if nat_le level (tightness w) then reduced level ws (completed w e) else (e, w ∷ ws)
@@ -191,20 +191,20 @@ reduced level (w ∷ ws) e = if nat_le level (tightness w) then reduced level ws
 abbrev pub full_of : Context → List Waiting → ℕ → Full
 full_of c ws n = record { context = c; waiting = ws; count = n }
 
--- a full expression with one token more
+-- a full expression with one more token
 abbrev pub goes_on : Full → List Waiting → Phase → Option State
 goes_on f ws p = Some (InFull (full_of f.context ws (suc f.count)) p)
 
--- a full expression after its first tokens
+-- a full expression after this many of its tokens
 abbrev pub begins_full : Context → ℕ → Option State
 begins_full c n = Some (InFull (full_of c [] n) Operand)
 
 abbrev pub inside_of : Inside → Stmts → List Open → Inside
 inside_of b done os = record { externals = b.externals; signature = b.signature; finished = done; opened = os }
 
--- The body once a statement is complete, and what comes next: it ends the loops that wait for it, and stands in the
--- innermost block. Where it is the part of an `if` that an `else` may follow, it waits for the token that tells, unless
--- that is no `else`.
+-- The body once a statement is complete, and what comes next. The statement completes the loops that await it, and goes into the
+-- innermost block. If it is the part of an `if` that an `else` may follow, the next token decides, unless it is known not to be
+-- an `else`.
 abbrev pub settled : Bool → Inside → List Open → Stmt → Inside × Stage
 settled waits b [] s = (inside_of b (with_last b.finished s) [], Item)
 settled waits b (InBlock ss ∷ os) s = (inside_of b b.finished (InBlock (with_last ss s) ∷ os), Item)
@@ -258,7 +258,7 @@ end_in_body b (ToInitialise w t ds n) k e role.Comma = Some (InBody b (Declaring
 end_in_body b (ToInitialise w t ds n) k e role.Semicolon = declares b w t (ds ++ declared n (Some e) ∷ [])
 end_in_body b _ k e _ = None
 
--- the type of elements, as an operand has it
+-- the type in the declaration, which is unsigned for `unsigned char`
 abbrev pub scalar_of : ObjectKind → Scalar
 scalar_of (Words t) = t
 scalar_of Bytes = scalar.Unsigned
@@ -277,11 +277,11 @@ separated es t os _ = None
 abbrev pub constant : ℕ → Expr → ConstantExpr
 constant at e = record { at = at; expr = e }
 
--- the objects with the named one, as it is
+-- the complete objects and the named one
 abbrev pub with_object : Naming → Object → List Object
 with_object n o = n.objects ++ o ∷ []
 
--- the token after a value of an array's list
+-- the token after a value in an initialiser list
 abbrev pub end_list_value : List External → Naming → Option ConstantExpr → List ConstantExpr → ConstantExpr → Role → Option State
 end_list_value es n size vs v role.Comma = Some (AtFile es (Valuing n size (vs ++ v ∷ [])))
 end_list_value es n size vs v role.CloseBrace = Some (AtFile es (Listed n.kind (with_object n (array_of n.kind n.name size (vs ++ v ∷ [])))))
@@ -294,12 +294,12 @@ end_in_object es n (ToSize at) e _ = None
 end_in_object es n (ToSingle at) e r = separated es n.kind (with_object n (Single n.name (Some (constant at e)))) r
 end_in_object es n (ToValue size vs at) e r = end_list_value es n size vs (constant at e) r
 
--- the token after a full expression, of which this many tokens came
+-- the token after a full expression of this many tokens
 abbrev pub end_full : Context → ℕ → Expr → Role → Option State
 end_full (OfBody b p) k e r = end_in_body b p k e r
 end_full (OfObject es n p) k e r = end_in_object es n p e r
 
--- a closing token after an expression, with what waits for it
+-- a closing token after an expression, with the pending parts
 abbrev pub close : Full → Role → Expr × List Waiting → Option State
 close f r (e, []) = end_full f.context f.count e r
 close f role.CloseParenthesis (e, Parenthesis ∷ ws) = goes_on f ws (Operator (Parenthesised e))
@@ -317,19 +317,19 @@ operate f op r = goes_on f (Infix op r.0 ∷ r.1) Operand
 abbrev pub ask : Full → Expr × List Waiting → Option State
 ask f r = goes_on f (Then r.0 ∷ r.1) Operand
 
--- a parenthesis or bracket after an operand, which is then a name
+-- a parenthesis or bracket after an operand, which must be a name
 abbrev pub open_name : Full → Expr → Role → Option State
 open_name f (Variable n) role.OpenParenthesis = goes_on f (Arguments n none ∷ f.waiting) Operand
 open_name f (Variable n) role.OpenBracket = goes_on f (Index n ∷ f.waiting) Operand
 open_name f _ _ = None
 
--- what an assignment may write
+-- the assignment target that an expression is
 abbrev pub target_of : Expr → Option Target
 target_of (Variable n) = Some (AtVariable n)
 target_of (Element n e) = Some (AtElement n e)
 target_of _ = None
 
--- an assignment operator after a target with which an action begins
+-- an assignment operator after the target that an action begins with
 abbrev pub assigns : Context → ℕ → AssignmentOperator → Option Target → Option State
 assigns (OfBody b (ToPerform p)) k op (Some t) = begins_full (OfBody b (ToAssign op t p)) (suc k)
 assigns _ k op _ = None
@@ -338,7 +338,7 @@ abbrev pub assign : Full → Expr → AssignmentOperator → List Waiting → Op
 assign f e op [] = assigns f.context f.count op (target_of e)
 assign f e op (w ∷ ws) = None
 
--- `++` or `--` after a target with which an action begins
+-- `++` or `--` after the target that an action begins with
 abbrev pub steps : Context → ℕ → StepOperator → Option Target → Option State
 steps (OfBody b (ToPerform p)) k op (Some t) = Some (InBody b (Stepped op t p (suc k)))
 steps _ k op _ = None
@@ -359,7 +359,7 @@ operator_step f e (role.Assignment op) = assign f e op f.waiting
 operator_step f e (role.Step op) = step_target f e op f.waiting
 operator_step f e r = close f r (reduced 1 f.waiting e)
 
--- a word of a type, directly after an opening parenthesis
+-- a keyword of a type, directly after an opening parenthesis
 abbrev pub cast : Full → Phase → List Waiting → Option State
 cast f p (Parenthesis ∷ ws) = goes_on f ws p
 cast f p _ = None
@@ -369,7 +369,7 @@ abbrev pub call_of_none : Full → List Waiting → Option State
 call_of_none f (Arguments n none ∷ ws) = goes_on f ws (Operator (Call n none))
 call_of_none f _ = None
 
--- a token where an operand is due
+-- a token in a place where an operand is due
 abbrev pub operand_step : Full → Role → Name → Option State
 operand_step f (role.Number t n) x = goes_on f f.waiting (Operator (Number t n))
 operand_step f role.Identifier x = goes_on f f.waiting (Operator (Variable x))
@@ -411,7 +411,7 @@ close_block b [] = Some (AtFile (b.externals ++ Definition b.signature b.finishe
 close_block b (InBlock ss ∷ os) = settle (inside_of b b.finished os) (Block ss)
 close_block b _ = None
 
--- a declaration stands directly in a block alone
+-- a declaration may only be directly in a block
 abbrev pub declare : Inside → Stage → List Open → Option State
 declare b s [] = Some (InBody b s)
 declare b s (InBlock ss ∷ os) = Some (InBody b s)
@@ -433,7 +433,7 @@ item_step b role.Int x = declare b (Declaring AsLocal scalar.Int []) b.opened
 item_step b (role.SignWord t) x = declare b (LocalSign AsLocal t) b.opened
 item_step b r x = action_step b AsStatement r x
 
--- the word after the body of a `do`
+-- the keyword after the body of a `do`
 abbrev pub do_step : Inside → Stmt → Role → Option State
 do_step b s role.While = Some (InBody b (Testing (ForDo s)))
 do_step b s _ = None
@@ -543,7 +543,7 @@ abbrev pub typed_step : List External → Option Scalar → Role → Name → Op
 typed_step es t role.Identifier x = file es (Named t x)
 typed_step es t _ x = None
 
--- `char`, after `unsigned` alone
+-- `char`, which only `unsigned` may precede
 abbrev pub char_step : List External → Scalar → Option State
 char_step es scalar.Unsigned = file es (ObjectNext Bytes [])
 char_step es scalar.Int = None
@@ -553,7 +553,7 @@ result_sign_step es t role.Int x = file es (Typed (Some t))
 result_sign_step es t role.Char x = char_step es t
 result_sign_step es t r x = typed_step es (Some t) r x
 
--- a token after the name of an object that is no array; of `unsigned char` there are arrays alone
+-- a token after the name of an object that is not an array; `unsigned char` has only arrays
 abbrev pub single_step : List External → Naming → ObjectKind → Role → Option State
 single_step es n (Words t) (role.Assignment assignment.Plain) = file es (Initialising n)
 single_step es n (Words t) r = separated es n.kind (with_object n (Single n.name None)) r
@@ -564,7 +564,7 @@ abbrev pub object_step : List External → Naming → Role → Option State
 object_step es n role.OpenBracket = file es (Sizing n)
 object_step es n r = single_step es n n.kind r
 
--- a token after the name of the first object of a type
+-- a token after the name of the first object in a declaration
 abbrev pub first_step_object : List External → Option Scalar → Name → Role → Option State
 first_step_object es (Some t) n r = object_step es (record { kind = Words t; objects = []; name = n }) r
 first_step_object es None n r = None
@@ -628,7 +628,7 @@ abbrev pub listing_step : List External → Naming → Option ConstantExpr → R
 listing_step es n size role.OpenBrace = file es (Valuing n size [])
 listing_step es n size _ = None
 
--- the closing brace of a list, after a comma
+-- the closing brace of an initialiser list, after a comma
 abbrev pub end_list : List External → Naming → Option ConstantExpr → List ConstantExpr → Option State
 end_list es n size [] = None
 end_list es n size (v ∷ vs) = file es (Listed n.kind (with_object n (array_of n.kind n.name size (v ∷ vs))))
@@ -663,11 +663,11 @@ role_step (AtFile es o) r x = outer_step es o r x
 role_step (InBody b s) r x = body_step b s r x
 role_step (InFull f p) r x = full_step f p r x
 
--- the state after a token, where it can stand there
+-- the state after a token, or None if the token cannot come here
 abbrev pub step : State → Lexeme → Option State
 step s x = role_step s (role_of x.kind) (name_of x)
 
--- how many tokens of its full expression have come
+-- how many tokens of the full expression have been read
 abbrev pub stage_count : Stage → ℕ
 stage_count (Stepping op p) = 1
 stage_count (StepNamed op n p) = 2
@@ -679,12 +679,12 @@ count_of (AtFile es o) = 0
 count_of (InBody b s) = stage_count s
 count_of (InFull f p) = f.count
 
--- the level of what begins, after this many open statements, at a token of a role; 0 where nothing begins
+-- the level of what begins inside this many open statements, at a token of this role; 0 if nothing begins
 abbrev pub item_level : ℕ → Role → ℕ
 item_level depth role.CloseBrace = 0
 item_level depth _ = suc (suc depth)
 
--- how many statements stay open once one is complete after which no `else` stands; none where a `do` waits for its word
+-- how many statements stay open once one is complete that no `else` follows; None if a `do` then awaits its `while`
 abbrev pub resting_depth : List Open → Option ℕ
 resting_depth [] = Some 0
 resting_depth (InBlock ss ∷ os) = Some (suc (length os))
@@ -723,14 +723,14 @@ role_level (InFull f p) r = 0
 abbrev pub level_at : State → Lexeme → ℕ
 level_at s x = role_level s (role_of x.kind)
 
--- a token with its standing, between two states
+-- a token between two states, with what the limits count
 abbrev pub standing : State → Lexeme → State → Measured
 standing s x m = record { token = x; count = count_of m; level = level_at s x }
 
 abbrev pub start : State
 start = AtFile [] Between
 
--- the tree of a unit that is complete
+-- the tree of a complete unit
 abbrev pub unit_of : List External → Outer → Option (List External)
 unit_of [] o = None
 unit_of (e ∷ es) Between = Some (e ∷ es)

@@ -1,4 +1,4 @@
--- The parser's state without where it lies in memory, and what its functions answer by it. No public contract cites this
+-- The parser's state without its place in memory, and what its functions return, in terms of that. No public contract cites this
 -- file.
 use Rattle.std.specs.Prelude.{◌≡◌, ◌<◌, ℕ, List, slice_range, reverse, map, Option, Some, None, Result, Ok, Err}
 use Rattle.cc_syntax.specs.declared.parser.state.Waiting as waiting
@@ -52,7 +52,7 @@ waiting_view (waitings.Infix op e) = Infix op (expression_tree e.value)
 waiting_view (waitings.Then e) = Then (expression_tree e.value)
 waiting_view (waitings.Otherwise c e) = Otherwise (expression_tree c.value) (expression_tree e.value)
 
--- the latest first
+-- latest first
 abbrev pub waiting_views : List waiting.Waiting → List Waiting
 waiting_views ws = reverse (map waiting_view ws)
 
@@ -64,7 +64,7 @@ open_view (open_statements.While e) = InWhile (expression_tree e.value)
 open_view open_statements.Do = InDo
 open_view (open_statements.For a e l) = InFor (beginning_tree a.value) (optional_tree e) (optional_action l)
 
--- the innermost first
+-- innermost first
 abbrev pub open_views : List open_statement.Open → List Open
 open_views os = reverse (map open_view os)
 
@@ -82,7 +82,7 @@ abbrev pub position_view : position.Position → Position
 position_view positions.Local = AsLocal
 position_view positions.Header = AsHeader
 
--- an action stands where the register says, and a declaration of locals has what its register has
+-- an action's place and a declaration of locals are taken from the parser's fields
 abbrev pub purpose_view : spot.Spot → locals.Locals → purpose.Purpose → Purpose
 purpose_view p l purposes.Perform = ToPerform (spot_view p)
 purpose_view p l (purposes.Assign op t) = ToAssign op (target_tree t) (spot_view p)
@@ -110,7 +110,7 @@ phase_view (phases.Operator e) = Operator (expression_tree e.value)
 phase_view (phases.CastSign t) = CastSign t
 phase_view (phases.CastType t) = CastType t
 
--- the number is that of the tokens of an increment or decrement
+-- the number is how many tokens an increment or decrement has
 abbrev pub stage_view : spot.Spot → locals.Locals → ℕ → stage.Stage → Stage
 stage_view p l k stages.Item = Item
 stage_view p l k (stages.AfterThen e s) = AfterThen (expression_tree e.value) (statement_tree s.value)
@@ -150,7 +150,7 @@ outer_view f n v outers.Listing = Listing (naming_view n) (optional_constant v.s
 outer_view f n v outers.Valuing = Valuing (naming_view n) (optional_constant v.size) (constant_trees v.values.items)
 outer_view f n v outers.Listed = Listed n.kind (object_trees n.objects.items)
 
--- each of these with the parser's registers
+-- the same with the parser's fields
 abbrev pub outer_of : parser.Parser → outer.Outer → Outer
 outer_of p next = outer_view p.signature p.naming p.list next
 
@@ -166,7 +166,7 @@ context_of p c = context_view (body_view p) p.body.spot p.body.locals p.naming p
 abbrev pub full_view : parser.Parser → Full
 full_view p = record { context = context_of p p.full.context; waiting = waiting_views p.full.waiting.items; count = p.full.count.tokens }
 
--- what is read tells where the parser stands
+-- the parser's state, by what is being read
 abbrev pub view_at : parser.Parser → reading.At → State
 view_at p readings.File = AtFile (external_trees p.externals.items) (outer_of p p.outer)
 view_at p readings.Body = InBody (body_view p) (stage_of p p.body.stage)
@@ -179,12 +179,12 @@ parser_view p = view_at p p.at
 abbrev pub name_at : cursor.Cursor → Name
 name_at c = record { text = slice_range c.text.now c.token.from c.token.to; at = c.token.from }
 
--- a full expression past its limit
+-- a full expression passes its limit
 abbrev pub PassesCount : Option State → Type 0
 PassesCount None = ⊥
 PassesCount (Some m) = 512 < count_of m
 
--- what a step left of the parser is what the parser gives, unless memory ran out
+-- a step leaves the parser as the state says, unless memory ran out
 abbrev pub Stops : stop.Stop → Option State → Type 0
 Stops stops.Memory given = Unit {0}
 Stops stops.Unexpected given = given ≡ None
@@ -194,7 +194,7 @@ abbrev pub Gives : {X : Type 0} → Option State → Result X stop.Stop → pars
 Gives given (Ok _) p = given ≡ Some (parser_view p)
 Gives given (Err e) p = Stops e given
 
--- what a token comes to, its limits asked
+-- what reading a token gives, with the limits checked
 abbrev pub Advances : {X : Type 0} → State → Lexeme → Result X stop.Stop → parser.Parser → Type 0
 Advances s x (Ok _) p = (step s x ≡ Some (parser_view p)) × IsWithin (standing s x (parser_view p))
 Advances s x (Err stops.Memory) p = Unit {0}

@@ -1,7 +1,7 @@
-// The statements and declarations of a function's body, outside of full expressions.
+// The statements and declarations of a function's body, without the full expressions in them.
 
 ghost use Rattle.std.specs.Prelude.{◌≡◌, [], ◌∷◌, ◌++◌, IfOk, Some, None};
-ghost use Rattle.cc_ast.specs.Erase.{name_tree, expression_tree, statement_tree, beginning_tree, optional_tree, declarator_trees, target_tree};
+ghost use Rattle.cc_ast.specs.Erase.{name_tree, expression_tree, statement_tree, beginning_tree, optional_tree, declarator_trees};
 ghost use Rattle.cc_syntax.specs.internal.Parser.{action_step, item_step, do_step, resting_step, else_step, testing_step, ending_step, returning_step, for_opening_step, for_starting_step, for_testing_step, for_stepping_step, declaring_step, local_sign_step, declared_step, stepping_step, step_named_step, body_step, declared, InBody, Ending};
 ghost use Rattle.cc_syntax.specs.internal.ParserView.{name_at, body_view, stage_of, spot_view, test_view, position_view, Gives};
 
@@ -19,7 +19,7 @@ use cc_tokens::Scalar;
 use std::alloc::{AllocError, Global};
 use std::mem::replace;
 
-/// The last name of a declaration of locals is complete.
+/// Completes the last name in a declaration of locals.
 pub fn add_declarator(
     alloc: Global,
     locals: &mut Locals,
@@ -35,7 +35,7 @@ pub fn add_declarator(
 }
 
 impl Locals {
-    /// A declaration of such locals begins.
+    /// Begins a declaration of locals.
     fn begin(&mut self, position: Position, scalar: Scalar)
         ensures position { self.new.position ≡ position }
         ensures scalar { self.new.scalar ≡ scalar }
@@ -48,7 +48,7 @@ impl Locals {
 }
 
 impl Parser {
-    /// A token of a function's body, outside of full expressions.
+    /// Reads a token of a function's body, outside full expressions.
     #[inline(never)]
     pub fn step_body(&mut self, role: Role, cursor: &Cursor<'_>) -> Result<(), Stop>
         ensures { Gives (body_step (body_view self.old) (stage_of self.old self.old.body.stage) role (name_at cursor.now)) result self.new }
@@ -75,7 +75,7 @@ impl Parser {
         }
     }
 
-    /// The first token of an action.
+    /// Reads the first token of an action.
     fn step_action(&mut self, spot: Spot, role: Role, cursor: &Cursor<'_>) -> Result<(), Stop>
         ensures { Gives (action_step (body_view self.old) (spot_view spot) role (name_at cursor.now)) result self.new }
     {
@@ -86,7 +86,7 @@ impl Parser {
         }
     }
 
-    /// A statement that only its semicolon ends.
+    /// Notes a statement for which only the semicolon is missing.
     fn ending(&mut self, statement: Statement) -> Result<(), Stop>
         ensures { Gives (Some (InBody (body_view self.old) (Ending (statement_tree statement)))) result self.new }
     {
@@ -94,7 +94,7 @@ impl Parser {
         self.to_body(Stage::Ending(statement))
     }
 
-    /// The first token of a statement or declaration, or the end of a block.
+    /// Reads the first token of a statement or declaration, or the end of a block.
     fn step_item(&mut self, role: Role, cursor: &Cursor<'_>) -> Result<(), Stop>
         ensures { Gives (item_step (body_view self.old) role (name_at cursor.now)) result self.new }
     {
@@ -122,7 +122,7 @@ impl Parser {
         }
     }
 
-    /// The word after the body of a `do`.
+    /// Reads the keyword after the body of a `do`.
     fn step_do(&mut self, statement: Box<Statement>, role: Role) -> Result<(), Stop>
         ensures { Gives (do_step (body_view self.old) (statement_tree statement.value) role) result self.new }
     {
@@ -132,7 +132,7 @@ impl Parser {
         }
     }
 
-    /// A token after a statement that no `else` follows.
+    /// Reads a token after a statement that no `else` follows.
     fn step_resting(&mut self, role: Role, cursor: &Cursor<'_>) -> Result<(), Stop>
         ensures { Gives (resting_step (body_view self.old, stage_of self.old self.old.body.stage) role (name_at cursor.now)) result self.new }
     {
@@ -143,7 +143,7 @@ impl Parser {
         }
     }
 
-    /// A token after the part of an `if` that an `else` may follow.
+    /// Reads a token after the part of an `if` that an `else` may follow.
     fn step_else(
         &mut self,
         test: Box<Expression>,
@@ -163,7 +163,7 @@ impl Parser {
         }
     }
 
-    /// The parenthesis before a condition.
+    /// Reads the parenthesis before a condition.
     fn step_testing(&mut self, test: Test, role: Role) -> Result<(), Stop>
         ensures { Gives (testing_step (body_view self.old) (test_view test) role) result self.new }
     {
@@ -176,7 +176,7 @@ impl Parser {
         }
     }
 
-    /// The semicolon of a statement.
+    /// Reads the semicolon of a statement.
     fn step_ending(&mut self, statement: Box<Statement>, role: Role) -> Result<(), Stop>
         ensures { Gives (ending_step (body_view self.old) (statement_tree statement.value) role) result self.new }
     {
@@ -186,7 +186,7 @@ impl Parser {
         }
     }
 
-    /// A token after `return`.
+    /// Reads a token after `return`.
     fn step_returning(&mut self, at: usize, role: Role, cursor: &Cursor<'_>) -> Result<(), Stop>
         ensures { Gives (returning_step (body_view self.old) at role (name_at cursor.now)) result self.new }
     {
@@ -196,7 +196,7 @@ impl Parser {
         }
     }
 
-    /// The parenthesis after `for`.
+    /// Reads the parenthesis after `for`.
     fn step_for_opening(&mut self, role: Role) -> Result<(), Stop>
         ensures { Gives (for_opening_step (body_view self.old) role) result self.new }
     {
@@ -206,7 +206,7 @@ impl Parser {
         }
     }
 
-    /// The first token of a `for` header.
+    /// Reads the first token of a `for` header.
     fn step_for_starting(&mut self, role: Role, cursor: &Cursor<'_>) -> Result<(), Stop>
         ensures { Gives (for_starting_step (body_view self.old) role (name_at cursor.now)) result self.new }
     {
@@ -227,7 +227,7 @@ impl Parser {
         }
     }
 
-    /// The first token of a `for`'s condition.
+    /// Reads the first token of a `for`'s condition.
     fn step_for_testing(
         &mut self,
         start: Box<Beginning>,
@@ -242,7 +242,7 @@ impl Parser {
         }
     }
 
-    /// The first token of the last part of a `for` header.
+    /// Reads the first token of the last part of a `for` header.
     fn step_for_stepping(
         &mut self,
         start: Box<Beginning>,
@@ -258,7 +258,7 @@ impl Parser {
         }
     }
 
-    /// A token where a name is declared.
+    /// Reads a token in a place where a name is declared.
     fn step_declaring(&mut self, role: Role, cursor: &Cursor<'_>) -> Result<(), Stop>
         ensures { Gives (declaring_step (body_view self.old) (position_view self.old.body.locals.position) self.old.body.locals.scalar (declarator_trees self.old.body.locals.declarators.items) role (name_at cursor.now)) result self.new }
     {
@@ -271,7 +271,7 @@ impl Parser {
         }
     }
 
-    /// A token after `signed` or `unsigned` of a declaration.
+    /// Reads a token after `signed` or `unsigned` in a declaration.
     fn step_local_sign(&mut self, role: Role, cursor: &Cursor<'_>) -> Result<(), Stop>
         ensures { Gives (local_sign_step (body_view self.old) (position_view self.old.body.locals.position) self.old.body.locals.scalar role (name_at cursor.now)) result self.new }
     {
@@ -282,7 +282,7 @@ impl Parser {
         }
     }
 
-    /// A token after a declared name.
+    /// Reads a token after a declared name.
     fn step_declared(&mut self, role: Role) -> Result<(), Stop>
         ensures { Gives (declared_step (body_view self.old) (position_view self.old.body.locals.position) self.old.body.locals.scalar (declarator_trees self.old.body.locals.declarators.items) (name_tree self.old.body.locals.name) role) result self.new }
     {
@@ -303,7 +303,7 @@ impl Parser {
         }
     }
 
-    /// A token after `++` or `--`.
+    /// Reads a token after `++` or `--`.
     fn step_stepping(
         &mut self,
         operator: StepOperator,
@@ -321,7 +321,7 @@ impl Parser {
         }
     }
 
-    /// A token after the name that `++` or `--` changes.
+    /// Reads a token after the name that `++` or `--` changes.
     fn step_step_named(&mut self, operator: StepOperator, role: Role) -> Result<(), Stop>
         ensures { Gives (step_named_step (body_view self.old) operator (name_tree self.old.body.locals.name) (spot_view self.old.body.spot) role) result self.new }
     {

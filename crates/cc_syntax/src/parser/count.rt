@@ -1,11 +1,11 @@
-// How many tokens of a full expression have come.
+// How many tokens of a full expression have been read.
 
 ghost use Rattle.std.specs.Prelude.{◌≡◌, ◌≤◌, suc, MatchOption};
 
 /// The most tokens that a full expression may have.
 pub const MOST_TOKENS: usize = 512;
 
-/// How many tokens of its full expression have come: no more than it may have.
+/// How many tokens of the full expression have been read; never more than the limit.
 #[derive(Clone, Copy)]
 pub struct Count {
     pub tokens: usize,
@@ -13,7 +13,7 @@ pub struct Count {
 }
 
 impl Count {
-    /// One token more, none where that is past the limit.
+    /// The count after one more token, or `None` if that passes the limit.
     pub fn next(self) -> Option<Count>
         ensures { MatchOption result (512 ≤ self.tokens) (λ more. more.tokens ≡ suc self.tokens) }
     {

@@ -6,7 +6,7 @@ use cc_ast::Identifier;
 use cc_tokens::Token;
 use std::alloc::{AllocError, Global};
 
-/// A token, and the text in which its bytes lie.
+/// A token, and the text that has its bytes.
 #[derive(Clone, Copy)]
 pub struct Cursor<'a> {
     pub text: &'a [u8],

@@ -1,6 +1,6 @@
-// The token after a full expression: what it is a part of goes on.
+// The token after a full expression: reading continues with what the expression is a part of.
 
-ghost use Rattle.std.specs.Prelude.{◌≡◌, suc, Some};
+ghost use Rattle.std.specs.Prelude.{suc, Some};
 ghost use Rattle.cc_ast.specs.Erase.{name_tree, expression_tree, declarator_trees, target_tree, external_trees, constant_tree, constant_trees, optional_constant};
 ghost use Rattle.cc_syntax.specs.internal.Parser.{end_full, end_in_body, end_in_object, end_list_value, ToInitialise, InBody, Stepped};
 ghost use Rattle.cc_syntax.specs.internal.ParserView.{body_view, context_of, purpose_view, position_view, spot_view, naming_view, part_view, Gives};
@@ -14,7 +14,7 @@ use cc_ast::{Action, ConstantExpression, Expression, Object, Statement, StepOper
 use std::mem::replace;
 
 impl Parser {
-    /// The token after a full expression.
+    /// Reads the token after a full expression.
     pub fn end_full(&mut self, expression: Box<Expression>, role: Role) -> Result<(), Stop>
         ensures { Gives (end_full (context_of self.old self.old.full.context) self.old.full.count.tokens (expression_tree expression.value) role) result self.new }
     {
@@ -24,7 +24,7 @@ impl Parser {
         }
     }
 
-    /// The token after a full expression in a function's body.
+    /// Reads the token after a full expression in a function's body.
     fn end_in_body(
         &mut self,
         purpose: Purpose,
@@ -61,7 +61,7 @@ impl Parser {
         }
     }
 
-    /// An increment or decrement has its target, with one more token.
+    /// Notes the target of an increment or decrement, and counts one more token.
     pub fn end_step(&mut self, operator: StepOperator, target: Target) -> Result<(), Stop>
         ensures { Gives (Some (InBody (body_view self.old) (Stepped operator (target_tree target) (spot_view self.old.body.spot) (suc self.old.full.count.tokens)))) result self.new }
     {
@@ -74,7 +74,7 @@ impl Parser {
         }
     }
 
-    /// The token after the initialiser of a local; how many tokens it has does not matter.
+    /// Reads the token after the initialiser of a local. How many tokens the initialiser has does not matter.
     fn end_initialiser(&mut self, initial: Box<Expression>, role: Role) -> Result<(), Stop>
         ensures { Gives (end_in_body (body_view self.old) (ToInitialise (position_view self.old.body.locals.position) self.old.body.locals.scalar (declarator_trees self.old.body.locals.declarators.items) (name_tree self.old.body.locals.name)) 0 (expression_tree initial.value) role) result self.new }
     {
@@ -86,7 +86,7 @@ impl Parser {
         }
     }
 
-    /// The token after a constant expression.
+    /// Reads the token after a constant expression.
     fn end_in_object(
         &mut self,
         part: Part,
@@ -113,7 +113,7 @@ impl Parser {
         }
     }
 
-    /// The token after a value of an array's list.
+    /// Reads the token after a value of an initialiser list.
     fn end_value(&mut self, value: ConstantExpression, role: Role) -> Result<(), Stop>
         ensures { Gives (end_list_value (external_trees self.old.externals.items) (naming_view self.old.naming) (optional_constant self.old.list.size) (constant_trees self.old.list.values.items) (constant_tree value) role) result self.new }
     {

@@ -1,6 +1,6 @@
-// What waits for an operand, and how tightly it binds.
+// The pending parts of an expression, which await an operand, and how tightly they bind.
 
-ghost use Rattle.std.specs.Prelude.{◌≡◌, ◌≤◌, suc, IfOk};
+ghost use Rattle.std.specs.Prelude.{◌≡◌, IfOk};
 ghost use Rattle.cc_ast.specs.Grammar.{precedence};
 ghost use Rattle.cc_ast.specs.Tree.{Call};
 ghost use Rattle.cc_ast.specs.Erase.{name_tree, expression_tree};
@@ -44,14 +44,14 @@ fn tightness_of(waiting: &Waiting) -> usize
     }
 }
 
-/// A call of a function with these arguments.
+/// Makes a call of a function with these arguments.
 pub fn call_of(name: Identifier, arguments: Vec<Expression>) -> Expression
     ensures { expression_tree result ≡ Call (name_tree name) (expressions_of arguments.items) }
 {
     Expression::Call(name, arguments)
 }
 
-/// One more argument.
+/// Adds an argument.
 pub fn add_argument(
     arguments: &mut Vec<Expression>,
     argument: Box<Expression>,
@@ -62,14 +62,14 @@ pub fn add_argument(
     Ok(())
 }
 
-/// An expression in a box.
+/// Puts an expression into a box.
 pub fn boxed(alloc: Global, expression: Expression) -> Result<Box<Expression>, AllocError>
     ensures { IfOk result (λ b. b.value ≡ expression) }
 {
     Ok(Box::new(alloc, expression)?)
 }
 
-/// What waits, with its operand.
+/// Completes a pending part with its operand.
 fn complete(
     alloc: Global,
     waiting: Waiting,
@@ -97,7 +97,8 @@ fn complete(
     }
 }
 
-/// The expression once an operator of a level follows: all that waits and binds as tightly has its operand.
+/// Returns the expression in front of an operator of this level: every pending part that binds at least as tightly takes its
+/// operand.
 pub fn reduce(
     alloc: Global,
     level: usize,

@@ -1,5 +1,5 @@
-// The declarations of objects, outside of the constant expressions in them. What they have so far is `naming`, and of an
-// array `list`.
+// The declarations of objects, without the constant expressions in them. `naming` has the declaration so far, and `list` what
+// belongs to an array.
 
 ghost use Rattle.std.specs.Prelude.{◌≡◌, [], ◌∷◌, ◌++◌, IfOk, None};
 ghost use Rattle.cc_ast.specs.Erase.{name_tree, external_trees, object_tree, object_trees, optional_constant, constant_trees};
@@ -16,7 +16,7 @@ use cc_tokens::Scalar;
 use std::alloc::{AllocError, Global};
 use std::mem::replace;
 
-/// The type of the elements, as an operand has it.
+/// The type in the declaration: `Unsigned` for `unsigned char`.
 fn scalar_of(kind: ObjectKind) -> Scalar
     ensures { result ≡ scalar_of kind }
 {
@@ -26,7 +26,7 @@ fn scalar_of(kind: ObjectKind) -> Scalar
     }
 }
 
-/// An array of such elements.
+/// Makes an array of such elements.
 fn array_of(
     kind: ObjectKind,
     name: Identifier,
@@ -41,7 +41,7 @@ fn array_of(
     }
 }
 
-/// One more complete object.
+/// Adds a complete object.
 pub fn add_object(objects: &mut Vec<Object>, object: Object) -> Result<(), AllocError>
     ensures { IfOk result (λ _. object_trees objects.new.items ≡ object_trees objects.old.items ++ object_tree object ∷ []) }
 {
@@ -49,7 +49,7 @@ pub fn add_object(objects: &mut Vec<Object>, object: Object) -> Result<(), Alloc
     Ok(())
 }
 
-/// The last name of a declaration of objects is complete, as an array.
+/// Completes the last name in a declaration of objects, as an array.
 pub fn add_array(alloc: Global, naming: &mut Naming, list: &mut Values) -> Result<(), AllocError>
     ensures objects { IfOk result (λ _. object_trees naming.new.objects.items ≡ object_trees naming.old.objects.items ++ array_of naming.old.kind (name_tree naming.old.name) (optional_constant list.old.size) (constant_trees list.old.values.items) ∷ []) }
     ensures kind { naming.new.kind ≡ naming.old.kind }
@@ -64,7 +64,7 @@ pub fn add_array(alloc: Global, naming: &mut Naming, list: &mut Values) -> Resul
 }
 
 impl Parser {
-    /// `char`, after `unsigned` alone.
+    /// Reads `char`, which only `unsigned` may precede.
     pub fn step_char(&mut self, scalar: Scalar) -> Result<(), Stop>
         ensures { Gives (char_step (external_trees self.old.externals.items) scalar) result self.new }
     {
@@ -78,7 +78,7 @@ impl Parser {
         }
     }
 
-    /// A token after the name of the first object of a type.
+    /// Reads a token after the name of the first object in a declaration.
     pub fn step_first_object(&mut self, object_type: Option<Scalar>, role: Role) -> Result<(), Stop>
         ensures { Gives (first_step_object (external_trees self.old.externals.items) object_type (name_tree self.old.naming.name) role) result self.new }
     {
@@ -92,7 +92,7 @@ impl Parser {
         }
     }
 
-    /// A further name of a declaration of objects.
+    /// Reads a further name in a declaration of objects.
     pub fn step_object_next(&mut self, role: Role, cursor: &Cursor<'_>) -> Result<(), Stop>
         ensures { Gives (object_next_step (external_trees self.old.externals.items) self.old.naming.kind (object_trees self.old.naming.objects.items) role (name_at cursor.now)) result self.new }
     {
@@ -105,7 +105,7 @@ impl Parser {
         }
     }
 
-    /// A token after the name of an object.
+    /// Reads a token after the name of an object.
     pub fn step_object(&mut self, role: Role) -> Result<(), Stop>
         ensures { Gives (object_step (external_trees self.old.externals.items) (naming_view self.old.naming) role) result self.new }
     {
@@ -115,7 +115,7 @@ impl Parser {
         }
     }
 
-    /// A token after the name of an object that is no array; of `unsigned char` there are arrays alone.
+    /// Reads a token after the name of an object that is not an array. `unsigned char` has only arrays.
     fn step_single(&mut self, role: Role) -> Result<(), Stop>
         ensures { Gives (single_step (external_trees self.old.externals.items) (naming_view self.old.naming) self.old.naming.kind role) result self.new }
     {
@@ -128,7 +128,7 @@ impl Parser {
         }
     }
 
-    /// The token after a single object without a value.
+    /// Reads the token after a single object without a value.
     fn end_single(&mut self, role: Role) -> Result<(), Stop>
         ensures { Gives (separated (external_trees self.old.externals.items) self.old.naming.kind (object_trees self.old.naming.objects.items ++ Single (name_tree self.old.naming.name) None ∷ []) role) result self.new }
     {
@@ -137,7 +137,7 @@ impl Parser {
         self.end_object(role)
     }
 
-    /// A token after the bracket of an array.
+    /// Reads a token after the opening bracket of an array.
     pub fn step_sizing(&mut self, role: Role, cursor: &Cursor<'_>) -> Result<(), Stop>
         ensures { Gives (sizing_step (external_trees self.old.externals.items) (naming_view self.old.naming) role (name_at cursor.now)) result self.new }
     {
@@ -153,7 +153,7 @@ impl Parser {
         }
     }
 
-    /// A token after the length of an array.
+    /// Reads a token after the length of an array.
     pub fn step_sized(&mut self, role: Role) -> Result<(), Stop>
         ensures { Gives (sized_step (external_trees self.old.externals.items) (naming_view self.old.naming) (optional_constant self.old.list.size) role) result self.new }
     {
@@ -167,7 +167,7 @@ impl Parser {
         }
     }
 
-    /// The brace of an array's list.
+    /// Reads the opening brace of an initialiser list.
     pub fn step_listing(&mut self, role: Role) -> Result<(), Stop>
         ensures { Gives (listing_step (external_trees self.old.externals.items) (naming_view self.old.naming) (optional_constant self.old.list.size) role) result self.new }
     {
@@ -180,7 +180,7 @@ impl Parser {
         }
     }
 
-    /// The first token of a value of an array's list, or the end of the list.
+    /// Reads the first token of a value in an initialiser list, or the end of the list.
     pub fn step_valuing(&mut self, role: Role, cursor: &Cursor<'_>) -> Result<(), Stop>
         ensures { Gives (valuing_step (external_trees self.old.externals.items) (naming_view self.old.naming) (optional_constant self.old.list.size) (constant_trees self.old.list.values.items) role (name_at cursor.now)) result self.new }
     {
@@ -193,7 +193,7 @@ impl Parser {
         }
     }
 
-    /// The closing brace of an array's list, after a comma.
+    /// Reads the closing brace of an initialiser list, after a comma.
     fn end_list(&mut self) -> Result<(), Stop>
         ensures { Gives (end_list (external_trees self.old.externals.items) (naming_view self.old.naming) (optional_constant self.old.list.size) (constant_trees self.old.list.values.items)) result self.new }
     {
@@ -204,7 +204,7 @@ impl Parser {
         self.to_file(Outer::Listed)
     }
 
-    /// The token after a complete object.
+    /// Reads the token after a complete object.
     pub fn end_object(&mut self, role: Role) -> Result<(), Stop>
         ensures { Gives (separated (external_trees self.old.externals.items) self.old.naming.kind (object_trees self.old.naming.objects.items) role) result self.new }
     {

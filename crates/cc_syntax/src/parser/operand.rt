@@ -1,6 +1,6 @@
-// The tokens of a full expression where an operand is due, and those of a cast.
+// The tokens of a full expression in places where an operand is due, and those of a cast.
 
-ghost use Rattle.std.specs.Prelude.{◌≡◌, ◌∷◌};
+ghost use Rattle.std.specs.Prelude.{◌∷◌};
 ghost use Rattle.cc_syntax.specs.internal.Parser.{goes_on, cast, call_of_none, operand_step, cast_step, cast_sign_step, full_step, first_step, Operand};
 ghost use Rattle.cc_syntax.specs.internal.ParserView.{name_at, waiting_view, waiting_views, context_of, full_view, phase_view, Gives};
 
@@ -15,7 +15,7 @@ use cc_tokens::Scalar;
 use std::mem::replace;
 
 impl Parser {
-    /// A token of a full expression.
+    /// Reads a token of a full expression.
     pub fn step_full(&mut self, role: Role, cursor: &Cursor<'_>) -> Result<(), Stop>
         ensures { Gives (full_step (full_view self.old) (phase_view self.old.full.phase) role (name_at cursor.now)) result self.new }
     {
@@ -27,7 +27,7 @@ impl Parser {
         }
     }
 
-    /// The first token of a full expression.
+    /// Reads the first token of a full expression.
     pub fn step_first(
         &mut self,
         context: Context,
@@ -40,7 +40,7 @@ impl Parser {
         self.step_operand(role, cursor)
     }
 
-    /// A token where an operand is due.
+    /// Reads a token in a place where an operand is due.
     fn step_operand(&mut self, role: Role, cursor: &Cursor<'_>) -> Result<(), Stop>
         ensures { Gives (operand_step (full_view self.old) role (name_at cursor.now)) result self.new }
     {
@@ -65,7 +65,7 @@ impl Parser {
         }
     }
 
-    /// One more part waits for an operand, after one more token.
+    /// Adds a pending part, after one more token.
     pub fn to_waiting(&mut self, one: Waiting) -> Result<(), Stop>
         ensures { Gives (goes_on (full_view self.old) (waiting_view one ∷ waiting_views self.old.full.waiting.items) Operand) result self.new }
     {
@@ -73,7 +73,7 @@ impl Parser {
         self.to_full(Phase::Operand)
     }
 
-    /// The closing parenthesis of a call without arguments.
+    /// Reads the closing parenthesis of a call without arguments.
     fn end_call(&mut self) -> Result<(), Stop>
         ensures { Gives (call_of_none (full_view self.old) (waiting_views self.old.full.waiting.items)) result self.new }
     {
@@ -89,7 +89,7 @@ impl Parser {
         }
     }
 
-    /// A word of a type, directly after an opening parenthesis.
+    /// Reads a keyword of a type, directly after an opening parenthesis.
     fn begin_cast(&mut self, phase: Phase) -> Result<(), Stop>
         ensures { Gives (cast (full_view self.old) (phase_view phase) (waiting_views self.old.full.waiting.items)) result self.new }
     {
@@ -99,7 +99,7 @@ impl Parser {
         }
     }
 
-    /// A token after the type of a cast.
+    /// Reads a token after the type of a cast.
     fn step_cast(&mut self, scalar: Scalar, role: Role) -> Result<(), Stop>
         ensures { Gives (cast_step (full_view self.old) scalar role) result self.new }
     {
@@ -109,7 +109,7 @@ impl Parser {
         }
     }
 
-    /// A token after `signed` or `unsigned` of a cast.
+    /// Reads a token after `signed` or `unsigned` of a cast.
     fn step_cast_sign(&mut self, scalar: Scalar, role: Role) -> Result<(), Stop>
         ensures { Gives (cast_sign_step (full_view self.old) scalar role) result self.new }
     {

@@ -14,7 +14,7 @@ use crate::parser::state::{Context, Parser, Phase, Purpose, Waiting};
 use crate::parser::stop::Stop;
 use cc_ast::{AssignmentOperator, BinaryOperator, Expression, Identifier, StepOperator, Target};
 
-/// What an assignment may write, where the expression is such a target.
+/// The assignment target that an expression is, or `None` if it is not one.
 fn target(expression: Box<Expression>) -> Option<Target>
     ensures { option_map target_tree result ≡ target_of (expression_tree expression.value) }
 {
@@ -26,7 +26,7 @@ fn target(expression: Box<Expression>) -> Option<Target>
 }
 
 impl Parser {
-    /// A token after an operand.
+    /// Reads a token after an operand.
     pub fn step_operator(&mut self, operand: Box<Expression>, role: Role) -> Result<(), Stop>
         ensures { Gives (operator_step (full_view self.old) (expression_tree operand.value) role) result self.new }
     {
@@ -42,7 +42,7 @@ impl Parser {
         }
     }
 
-    /// A binary operator after an operand.
+    /// Reads a binary operator after an operand.
     fn step_binary(
         &mut self,
         operand: Box<Expression>,
@@ -55,7 +55,7 @@ impl Parser {
         self.to_waiting(Waiting::Infix(operator, left))
     }
 
-    /// A question mark after an operand.
+    /// Reads a question mark after an operand.
     fn step_question(&mut self, operand: Box<Expression>) -> Result<(), Stop>
         ensures { Gives (ask (full_view self.old) (reduced 2 (waiting_views self.old.full.waiting.items) (expression_tree operand.value))) result self.new }
     {
@@ -63,7 +63,7 @@ impl Parser {
         self.to_waiting(Waiting::Then(test))
     }
 
-    /// A parenthesis or bracket after an operand, which is then a name.
+    /// Reads a parenthesis or bracket after an operand, which must be a name.
     fn step_name(&mut self, operand: Box<Expression>, role: Role) -> Result<(), Stop>
         ensures { Gives (open_name (full_view self.old) (expression_tree operand.value) role) result self.new }
     {
@@ -80,7 +80,7 @@ impl Parser {
         }
     }
 
-    /// An assignment operator after an operand: it goes on with an action that begins with a target.
+    /// Reads an assignment operator after an operand: an action that begins with a target continues.
     fn step_assignment(
         &mut self,
         operand: Box<Expression>,
@@ -106,7 +106,7 @@ impl Parser {
         }
     }
 
-    /// `++` or `--` after an operand: it ends an action that begins with a target.
+    /// Reads `++` or `--` after an operand: it ends an action that begins with a target.
     fn step_step(&mut self, operand: Box<Expression>, operator: StepOperator) -> Result<(), Stop>
         ensures { Gives (step_target (full_view self.old) (expression_tree operand.value) operator (waiting_views self.old.full.waiting.items)) result self.new }
     {
@@ -122,7 +122,7 @@ impl Parser {
         }
     }
 
-    /// A closing token after an operand.
+    /// Reads a closing token after an operand.
     fn step_close(&mut self, operand: Box<Expression>, role: Role) -> Result<(), Stop>
         ensures { Gives (close (full_view self.old) role (reduced 1 (waiting_views self.old.full.waiting.items) (expression_tree operand.value))) result self.new }
     {
@@ -133,7 +133,7 @@ impl Parser {
         }
     }
 
-    /// A closing token after an expression, where this waits for it.
+    /// Reads a closing token after an expression, if a pending part awaits that token.
     fn close_waiting(
         &mut self,
         opening: Waiting,
@@ -162,7 +162,7 @@ impl Parser {
         }
     }
 
-    /// A closing token after an argument of a call.
+    /// Reads a closing token after an argument of a call.
     fn close_argument(
         &mut self,
         name: Identifier,
@@ -180,7 +180,7 @@ impl Parser {
         }
     }
 
-    /// A closing token has made a whole operand.
+    /// Notes that a closing token has completed an operand.
     fn close_whole(&mut self, whole: Expression) -> Result<(), Stop>
         ensures { Gives (goes_on (full_view self.old) (waiting_views self.old.full.waiting.items) (Operator (expression_tree whole))) result self.new }
     {

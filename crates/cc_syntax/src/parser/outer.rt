@@ -1,11 +1,11 @@
-// The tokens at file scope up to a function's body, outside of full expressions: the heads of functions. `objects` has the
-// declarations of objects.
+// The tokens at file scope up to a function's body, outside full expressions: the heads of functions. Declarations of objects are
+// in `objects`.
 
 ghost use Rattle.std.specs.Prelude.{◌≡◌, IfOk, Some, None};
 ghost use Rattle.std.specs.Option.{option_map};
 ghost use Rattle.cc_ast.specs.Erase.{name_tree, external_trees, signature_tree, parameter_trees};
 ghost use Rattle.cc_syntax.specs.internal.Parser.{external_step, typed_step, result_sign_step, named_step, parameter_step, parameters_step, only_void_step, parameter_named_step, parameter_typed_step, parameter_sign_step, headed_step, outer_step, with_parameter, all_named};
-ghost use Rattle.cc_syntax.specs.internal.ParserView.{name_at, naming_view, outer_of, Gives};
+ghost use Rattle.cc_syntax.specs.internal.ParserView.{name_at, outer_of, Gives};
 
 use crate::parser::cursor::Cursor;
 use crate::parser::role::Role;
@@ -16,7 +16,7 @@ use cc_tokens::Scalar;
 use std::alloc::AllocError;
 use std::mem::replace;
 
-/// What is said of a function, with one parameter more.
+/// Adds a parameter to a function's head.
 fn add_parameter(
     signature: &mut Signature,
     scalar: Scalar,
@@ -28,7 +28,7 @@ fn add_parameter(
     Ok(())
 }
 
-/// Whether each parameter has its name.
+/// Whether every parameter has a name.
 fn are_named(parameters: &[Parameter]) -> bool
     ensures { result ≡ all_named (parameter_trees parameters.now) }
 {
@@ -36,7 +36,7 @@ fn are_named(parameters: &[Parameter]) -> bool
 }
 
 impl Parser {
-    /// The first token of an external declaration.
+    /// Reads the first token of an external declaration.
     fn step_external(&mut self, role: Role) -> Result<(), Stop>
         ensures { Gives (external_step (external_trees self.old.externals.items) role) result self.new }
     {
@@ -48,7 +48,7 @@ impl Parser {
         }
     }
 
-    /// A name after a type or `void`.
+    /// Reads a name after a type or `void`.
     fn step_typed(
         &mut self,
         result_type: Option<Scalar>,
@@ -66,7 +66,7 @@ impl Parser {
         }
     }
 
-    /// A token after `signed` or `unsigned`.
+    /// Reads a token after `signed` or `unsigned`.
     fn step_result_sign(
         &mut self,
         scalar: Scalar,
@@ -82,7 +82,7 @@ impl Parser {
         }
     }
 
-    /// A token after the first name of an external declaration.
+    /// Reads a token after the first name of an external declaration.
     fn step_named(&mut self, result_type: Option<Scalar>, role: Role) -> Result<(), Stop>
         ensures { Gives (named_step (external_trees self.old.externals.items) result_type (name_tree self.old.naming.name) role) result self.new }
     {
@@ -100,7 +100,7 @@ impl Parser {
         }
     }
 
-    /// The first token of a parameter.
+    /// Reads the first token of a parameter.
     fn step_parameter(&mut self, role: Role) -> Result<(), Stop>
         ensures { Gives (parameter_step (external_trees self.old.externals.items) (signature_tree self.old.signature) role) result self.new }
     {
@@ -111,7 +111,7 @@ impl Parser {
         }
     }
 
-    /// A token after the opening parenthesis of a function's parameters.
+    /// Reads a token after the opening parenthesis of a function's parameters.
     fn step_parameters(&mut self, role: Role) -> Result<(), Stop>
         ensures { Gives (parameters_step (external_trees self.old.externals.items) (signature_tree self.old.signature) role) result self.new }
     {
@@ -122,7 +122,7 @@ impl Parser {
         }
     }
 
-    /// The closing parenthesis after `void`.
+    /// Reads the closing parenthesis after `void`.
     fn step_only_void(&mut self, role: Role) -> Result<(), Stop>
         ensures { Gives (only_void_step (external_trees self.old.externals.items) (signature_tree self.old.signature) role) result self.new }
     {
@@ -132,7 +132,7 @@ impl Parser {
         }
     }
 
-    /// A token after a parameter.
+    /// Reads a token after a parameter.
     fn step_parameter_named(&mut self, role: Role) -> Result<(), Stop>
         ensures { Gives (parameter_named_step (external_trees self.old.externals.items) (signature_tree self.old.signature) role) result self.new }
     {
@@ -143,7 +143,7 @@ impl Parser {
         }
     }
 
-    /// A token after a parameter's type.
+    /// Reads a token after a parameter's type.
     fn step_parameter_typed(
         &mut self,
         scalar: Scalar,
@@ -165,7 +165,7 @@ impl Parser {
         }
     }
 
-    /// A token after `signed` or `unsigned` of a parameter.
+    /// Reads a token after `signed` or `unsigned` of a parameter.
     fn step_parameter_sign(
         &mut self,
         scalar: Scalar,
@@ -180,7 +180,8 @@ impl Parser {
         }
     }
 
-    /// A token after a function's parameters: the end of its declaration, or a body, for which each parameter has its name.
+    /// Reads a token after a function's parameters: the end of its declaration, or the beginning of a body, which requires that
+    /// every parameter has a name.
     fn step_headed(&mut self, role: Role) -> Result<(), Stop>
         ensures { Gives (headed_step (external_trees self.old.externals.items) (signature_tree self.old.signature) role) result self.new }
     {
@@ -202,7 +203,7 @@ impl Parser {
         }
     }
 
-    /// A token at file scope, outside of full expressions.
+    /// Reads a token at file scope, outside full expressions.
     #[inline(never)]
     pub fn step_outer(&mut self, role: Role, cursor: &Cursor<'_>) -> Result<(), Stop>
         ensures { Gives (outer_step (external_trees self.old.externals.items) (outer_of self.old self.old.outer) role (name_at cursor.now)) result self.new }

@@ -1,10 +1,10 @@
-// All tokens, one after the other.
+// Reading all tokens, one after another.
 //
-// A text is read token by token, as they come, so that no list of them takes memory. Where that comes to no tree, the tokens
-// are put into a list, which tells the first error of the text, and read from there, which tells the first token that breaks
-// the grammar or a limit.
+// A text is first read token by token, without a list of tokens, which would take memory. If that yields no tree, the tokens are
+// put into a list. Making the list finds the first error of the text, and reading it finds the first token that breaks the
+// grammar or a limit.
 
-ghost use Rattle.std.specs.Prelude.{◌≡◌, ◌≤◌, length, IfSome, MatchResult};
+ghost use Rattle.std.specs.Prelude.{◌≡◌, length, IfSome, MatchResult};
 ghost use Rattle.std.specs.Option.{option_map};
 ghost use Rattle.cc_ast.specs.Erase.{external_trees};
 ghost use Rattle.cc_syntax.specs.internal.Parser.{tree_of};
@@ -22,11 +22,11 @@ use cc_ast::External;
 use cc_tokens::{NextToken, Token, next_token};
 use std::mem::replace;
 
-/// The deepest level at which a statement or declaration may stand.
+/// The deepest level that a statement or declaration may have.
 pub const DEEPEST_LEVEL: usize = 64;
 
 impl Parser {
-    /// One token, whose limits are asked.
+    /// Reads one token, and checks the limits.
     fn advance(&mut self, cursor: &Cursor<'_>) -> Result<(), Stop>
         ensures { Advances (parser_view self.old) (lexeme cursor.now.text.now cursor.now.token) result self.new }
     {
@@ -44,8 +44,8 @@ impl Parser {
         }
     }
 
-    /// The external declarations that a text spells, without a list of its tokens. None where it is refused, or where memory
-    /// ran out.
+    /// Returns the external declarations that a text spells, without a list of its tokens. `None` if the text is refused or
+    /// memory runs out.
     pub fn read_text(&mut self, text: &[u8]) -> Option<Vec<External>>
         ensures { IfSome result (λ es. SpellsText text.now (external_trees es.items)) }
     {
@@ -64,8 +64,8 @@ impl Parser {
         self.finished()
     }
 
-    /// The external declarations that all the tokens spell within the limits, or the first token that breaks the grammar or
-    /// a limit.
+    /// Returns the external declarations that the tokens spell within the limits, or which token is the first that breaks the
+    /// grammar or a limit.
     pub fn read_tokens(&mut self, text: &[u8], tokens: &[Token]) -> Result<Vec<External>, Refusal>
         requires { AreInOrder 0 tokens.now (length text.now) }
         ensures { MatchResult result (λ es. SpellsWithin (lexemes text.now tokens.now) (external_trees es.items)) (λ e. Refuses (lexemes text.now tokens.now) e) }
@@ -89,7 +89,7 @@ impl Parser {
         }
     }
 
-    /// The external declarations, where a unit may end.
+    /// Returns the external declarations if the unit may end here.
     fn finished(&mut self) -> Option<Vec<External>>
         ensures { option_map (λ es. external_trees es.items) result ≡ tree_of (parser_view self.old) }
     {

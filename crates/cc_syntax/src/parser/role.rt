@@ -13,7 +13,7 @@ pub enum Role {
     Number(Scalar, u32),
     Int,
     Char,
-    /// `signed` or `unsigned`, after which `int` may stand.
+    /// `signed` or `unsigned`, which `int` may follow.
     SignWord(Scalar),
     Void,
     Return,
@@ -34,18 +34,18 @@ pub enum Role {
     Comma,
     Question,
     Colon,
-    /// `+`: a unary or a binary operator.
+    /// `+`, as a unary or a binary operator.
     Plus,
-    /// `-`: a unary or a binary operator.
+    /// `-`, as a unary or a binary operator.
     Minus,
     /// `~` or `!`.
     Prefix(UnaryOperator),
-    /// Every other binary operator.
+    /// Any other binary operator.
     Infix(BinaryOperator),
     Assignment(AssignmentOperator),
     /// `++` or `--`.
     Step(StepOperator),
-    /// Nothing that a unit has.
+    /// A token that no unit has.
     Other,
 }
 

@@ -1,6 +1,6 @@
-// Statements that are complete, and those that open.
+// Statements that are complete, and statements that begin.
 
-ghost use Rattle.std.specs.Prelude.{◌≡◌, IfOk, Some, None, true, false};
+ghost use Rattle.std.specs.Prelude.{◌≡◌, IfOk, Some, None, true};
 ghost use Rattle.cc_ast.specs.Erase.{statement_tree, statements_of, expression_tree, declarator_trees, action_tree};
 ghost use Rattle.cc_ast.specs.Tree.{Block};
 ghost use Rattle.cc_syntax.specs.internal.Parser.{with_last, settled, settle, opens, declares, acted, tested, close_block, declare};
@@ -15,25 +15,25 @@ use cc_ast::{Action, Beginning, Expression, External, Statement};
 use std::alloc::{AllocError, Global};
 use std::mem::replace;
 
-/// The most statements of a list that has room for no more than it holds.
+/// Up to this many statements, a list takes room for exactly as many as it has.
 const SHORT: usize = 4;
 
-/// A block of statements.
+/// Makes a block of statements.
 fn block(statements: Vec<Statement>) -> Statement
     ensures { statement_tree result ≡ Block (statements_of statements.items) }
 {
     Statement::Block(statements)
 }
 
-/// A statement in a box.
+/// Puts a statement into a box.
 fn boxed(alloc: Global, statement: Statement) -> Result<Box<Statement>, AllocError>
     ensures { IfOk result (λ b. b.value ≡ statement) }
 {
     Ok(Box::new(alloc, statement)?)
 }
 
-/// Most lists of statements are short: the first few find their room one at a time, so that a block of one statement has room
-/// for one.
+/// Most lists of statements are short. So the first few statements get their room one at a time, and a block with one statement
+/// takes room for one.
 fn make_room(statements: &mut Vec<Statement>) -> Result<(), AllocError>
     ensures { statements.new.items ≡ statements.old.items }
 {
@@ -43,7 +43,7 @@ fn make_room(statements: &mut Vec<Statement>) -> Result<(), AllocError>
     Ok(())
 }
 
-/// One more statement at the end.
+/// Adds a statement at the end.
 fn add_statement(
     statements: &mut Vec<Statement>,
     statement: Box<Statement>,
@@ -56,8 +56,8 @@ fn add_statement(
 }
 
 impl Parser {
-    /// The body once a statement is complete, and what comes next: the loops that wait for it end with it. Where an `else`
-    /// may follow, it waits for the token that tells, if asked to.
+    /// Adds a complete statement to the body, with the loops that it completes, and sets what comes next. If an `else` may follow
+    /// and `waits` is set, the next token decides.
     pub fn settle_body(&mut self, waits: bool, statement: Box<Statement>) -> Result<(), AllocError>
         ensures { IfOk result (λ _. settled waits (body_view self.old) (open_views self.old.body.open.items) (statement_tree statement.value) ≡ (body_view self.new, stage_of self.new self.new.body.stage)) }
     {
@@ -98,7 +98,7 @@ impl Parser {
         Ok(())
     }
 
-    /// A statement of the body is complete.
+    /// Adds a complete statement to the body.
     pub fn settle_boxed(&mut self, statement: Box<Statement>) -> Result<(), Stop>
         ensures { Gives (settle (body_view self.old) (statement_tree statement.value)) result self.new }
     {
@@ -107,7 +107,7 @@ impl Parser {
         Ok(())
     }
 
-    /// The same of a statement that is not in a box yet.
+    /// Does the same for a statement that is not in a box yet.
     pub fn settle(&mut self, statement: Statement) -> Result<(), Stop>
         ensures { Gives (settle (body_view self.old) (statement_tree statement)) result self.new }
     {
@@ -115,7 +115,7 @@ impl Parser {
         self.settle_boxed(statement)
     }
 
-    /// A statement has begun.
+    /// Notes that a statement has begun.
     pub fn begin(&mut self, one: Open) -> Result<(), Stop>
         ensures { Gives (opens (body_view self.old) (open_view one)) result self.new }
     {
@@ -123,7 +123,7 @@ impl Parser {
         self.to_body(Stage::Item)
     }
 
-    /// The end of a declaration of locals.
+    /// Ends a declaration of locals.
     pub fn end_declaration(&mut self) -> Result<(), Stop>
         ensures { Gives (declares (body_view self.old) (position_view self.old.body.locals.position) self.old.body.locals.scalar (declarator_trees self.old.body.locals.declarators.items)) result self.new }
     {
@@ -139,7 +139,7 @@ impl Parser {
         }
     }
 
-    /// The token after an action, which stands where `spot` says.
+    /// Reads the token after an action. `spot` says what the action is a part of.
     pub fn end_action(&mut self, action: Action, role: Role) -> Result<(), Stop>
         ensures { Gives (acted (body_view self.old) (spot_view self.old.body.spot) (action_tree action) role) result self.new }
     {
@@ -162,7 +162,7 @@ impl Parser {
         }
     }
 
-    /// The closing parenthesis of a condition.
+    /// Reads the closing parenthesis of a condition.
     pub fn end_test(&mut self, test: Test, condition: Box<Expression>) -> Result<(), Stop>
         ensures { Gives (tested (body_view self.old) (test_view test) (expression_tree condition.value)) result self.new }
     {
@@ -176,7 +176,7 @@ impl Parser {
         }
     }
 
-    /// The end of the innermost block, or of the function's body.
+    /// Ends the innermost block, or the function's body.
     pub fn end_block(&mut self) -> Result<(), Stop>
         ensures { Gives (close_block (body_view self.old) (open_views self.old.body.open.items)) result self.new }
     {
@@ -193,7 +193,7 @@ impl Parser {
         }
     }
 
-    /// A declaration, which stands directly in a block alone.
+    /// Begins a declaration, which may only be directly in a block.
     pub fn begin_declaration(&mut self, stage: Stage) -> Result<(), Stop>
         ensures { Gives (declare (body_view self.old) (stage_of self.old stage) (open_views self.old.body.open.items)) result self.new }
     {

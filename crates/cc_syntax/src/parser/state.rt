@@ -15,7 +15,7 @@ use cc_ast::{
 use cc_tokens::Scalar;
 use std::alloc::Global;
 
-/// What waits for an operand to its right, or for a closing token.
+/// A pending part of an expression: it awaits an operand on its right, or a closing token.
 #[derive(Drop)]
 pub enum Waiting {
     Parenthesis,
@@ -27,11 +27,11 @@ pub enum Waiting {
     Infix(BinaryOperator, Box<Expression>),
     /// A condition and its question mark.
     Then(Box<Expression>),
-    /// A condition, what stands after its question mark, and the colon.
+    /// A condition, the operand after its question mark, and the colon.
     Otherwise(Box<Expression>, Box<Expression>),
 }
 
-/// A statement that has begun and waits for a part: a block for its end, the others for a statement.
+/// A statement that has begun and is not complete: a block awaits its end, any other a statement.
 #[derive(Drop)]
 pub enum Open {
     Block(Vec<Statement>),
@@ -42,7 +42,7 @@ pub enum Open {
     For(Box<Beginning>, Option<Box<Expression>>, Option<Action>),
 }
 
-/// Where an action stands: it is a statement, or the first or the last part of a `for` header.
+/// What an action is: a statement, or the first or the last part of a `for` header.
 #[derive(Drop)]
 pub enum Spot {
     Statement,
@@ -55,18 +55,18 @@ pub enum Spot {
 pub enum Test {
     If,
     While,
-    /// `do` with its body.
+    /// `do`, with its body.
     Do(Box<Statement>),
 }
 
-/// Where a declaration of locals stands: directly in a block, or in a `for` header.
+/// What a declaration of locals belongs to: a block directly, or a `for` header.
 #[derive(Clone, Copy)]
 pub enum Position {
     Local,
     Header,
 }
 
-/// A declaration of locals so far: those that are complete, and a name. The name is also that behind `++` or `--`.
+/// A declaration of locals so far: the complete ones, and a name. The name is also used for the one after `++` or `--`.
 #[derive(Drop)]
 pub struct Locals {
     pub position: Position,
@@ -78,7 +78,7 @@ pub struct Locals {
 /// What a full expression in a function's body is a part of.
 #[derive(Drop)]
 pub enum Purpose {
-    /// An action that begins with it, or is it.
+    /// An action that begins with the expression, or consists of it.
     Perform,
     Assign(AssignmentOperator, Target),
     /// The index of an element that is incremented or decremented.
@@ -97,7 +97,7 @@ pub enum ObjectKind {
     Bytes,
 }
 
-/// A declaration of objects so far: their type, those that are complete, and a name.
+/// A declaration of objects so far: their type, the complete objects, and a name.
 #[derive(Drop)]
 pub struct Naming {
     pub kind: ObjectKind,
@@ -105,19 +105,19 @@ pub struct Naming {
     pub name: Identifier,
 }
 
-/// What is said of the named array so far: its length where it is given, and the values of its list.
+/// The named array so far: its length if given, and the values of its initialiser list.
 #[derive(Drop)]
 pub struct Values {
     pub size: Option<ConstantExpression>,
     pub values: Vec<ConstantExpression>,
 }
 
-/// What a constant expression is of the named object, and the offset of its first token.
+/// What a constant expression is for the named object, and the offset of its first token.
 #[derive(Clone, Copy)]
 pub enum Part {
     Size(usize),
     Single(usize),
-    /// A value of a list.
+    /// A value in an initialiser list.
     Value(usize),
 }
 
@@ -132,15 +132,16 @@ pub enum Context {
 #[derive(Drop)]
 pub enum Phase {
     Operand,
-    /// An operator or the end, after an operand.
+    /// An operator or the end comes, after an operand.
     Operator(Box<Expression>),
-    /// `int` or a closing parenthesis, after `signed` or `unsigned` of a cast.
+    /// `int` or a closing parenthesis comes, after `signed` or `unsigned` of a cast.
     CastSign(Scalar),
-    /// A closing parenthesis, after the type of a cast.
+    /// A closing parenthesis comes, after the type of a cast.
     CastType(Scalar),
 }
 
-/// A full expression so far: what waits, the latest last, how many tokens it has, and what comes next.
+/// A full expression so far: what it is a part of, its pending parts with the latest last, how many tokens it has, and what comes
+/// next.
 #[derive(Drop)]
 pub struct Full {
     pub context: Context,
@@ -149,12 +150,12 @@ pub struct Full {
     pub phase: Phase,
 }
 
-/// What comes next in a function's body, outside of full expressions.
+/// What comes next in a function's body, outside full expressions.
 #[derive(Drop)]
 pub enum Stage {
     /// A statement, a declaration, or the end of the block.
     Item,
-    /// `else` or what an `Item` has, after the first part of an `if`.
+    /// `else`, or anything that may come at an `Item`, after the first part of an `if`.
     AfterThen(Box<Expression>, Box<Statement>),
     /// `while`, after the body of a `do`.
     AfterDo(Box<Statement>),
@@ -179,14 +180,14 @@ pub enum Stage {
     Declared,
     /// A name, after `++` or `--`.
     Stepping(StepOperator),
-    /// `[` or the end, after that name.
+    /// `[` or the end, after the name that `++` or `--` changes.
     StepNamed(StepOperator),
-    /// The end, after an increment or decrement, of which the tokens were counted.
+    /// The end, after an increment or decrement whose tokens have been counted.
     Stepped(StepOperator, Target),
 }
 
-/// A function's body so far: its finished statements, those that are open, the innermost last, what comes next, and where
-/// an action stands and what a declaration has, where one is read.
+/// A function's body so far: its finished statements, the open statements with the innermost last, what comes next, the place of
+/// the action being read, and the declaration being read.
 #[derive(Drop)]
 pub struct Body {
     pub finished: Vec<Statement>,
@@ -205,7 +206,7 @@ pub enum Outer {
     ResultSign(Scalar),
     /// A name, after a type or `void`.
     Typed(Option<Scalar>),
-    /// What stands after the first name.
+    /// What follows the first name.
     Named(Option<Scalar>),
     /// `void`, a parameter or `)`, after `(`.
     Parameters,
@@ -233,13 +234,13 @@ pub enum Outer {
     Initialising,
     /// `{`.
     Listing,
-    /// A value, or after a comma `}`.
+    /// A value, or `}` after a comma.
     Valuing,
     /// A comma or a semicolon, after a complete object.
     Listed,
 }
 
-/// What is read: what stands at file scope, a function's body, or a full expression of one of these.
+/// What is being read: something at file scope, a function's body, or a full expression in one of these.
 #[derive(Clone, Copy)]
 pub enum At {
     File,
@@ -247,32 +248,32 @@ pub enum At {
     Full,
 }
 
-/// A text so far: the external declarations that are complete, what is read, and what each part of it comes to next. All of
-/// it stays where it is, and is changed in place; what is not read is what it last was.
+/// A text so far: the complete external declarations, what is being read, and what comes next in each part. All parts stay in
+/// place and are changed there; a part that is not being read keeps its last value.
 #[derive(Drop)]
 pub struct Parser {
     pub alloc: Global,
     pub externals: Vec<External>,
     pub at: At,
     pub outer: Outer,
-    /// What is said of the function whose head or body is read.
+    /// The head of the function that is being read.
     pub signature: Signature,
-    /// The objects that are declared.
+    /// The objects that are being declared.
     pub naming: Naming,
-    /// The array among them.
+    /// The array that is being declared.
     pub list: Values,
     pub body: Body,
     pub full: Full,
 }
 
-/// Puts a value in the place of another.
+/// Replaces a value.
 pub fn put<T: Drop>(place: &mut T, value: T)
     ensures { place.new ≡ value }
 {
     *place = value;
 }
 
-/// An identifier of no bytes, where one was taken.
+/// An identifier without bytes, to replace one that was taken.
 pub fn no_name(alloc: Global) -> Identifier {
     Identifier {
         bytes: Vec::new(alloc),
@@ -280,7 +281,7 @@ pub fn no_name(alloc: Global) -> Identifier {
     }
 }
 
-/// What is said of no function, where a signature was taken.
+/// An empty head of a function, to replace one that was taken.
 pub fn no_signature(alloc: Global) -> Signature {
     Signature {
         result: None,
@@ -330,7 +331,7 @@ pub fn no_full(alloc: Global) -> Full {
 }
 
 impl Parser {
-    /// The parser is before the first token.
+    /// Puts the parser before the first token.
     pub fn restart(&mut self)
         ensures { parser_view self.new ≡ start }
     {
@@ -339,7 +340,7 @@ impl Parser {
         self.at = At::File;
     }
 
-    /// What comes next at file scope.
+    /// Continues at file scope with `next`.
     pub fn to_file(&mut self, next: Outer) -> Result<(), Stop>
         ensures { Gives (Some (AtFile (external_trees self.old.externals.items) (outer_of self.old next))) result self.new }
     {
@@ -348,7 +349,7 @@ impl Parser {
         Ok(())
     }
 
-    /// What comes next in a function's body.
+    /// Continues in a function's body with `stage`.
     pub fn to_body(&mut self, stage: Stage) -> Result<(), Stop>
         ensures { Gives (Some (InBody (body_view self.old) (stage_of self.old stage))) result self.new }
     {
@@ -357,7 +358,7 @@ impl Parser {
         Ok(())
     }
 
-    /// What comes next in a full expression, after one more of its tokens.
+    /// Continues in a full expression with `phase`, after one more of its tokens.
     pub fn to_full(&mut self, phase: Phase) -> Result<(), Stop>
         ensures { Gives (goes_on (full_view self.old) (waiting_views self.old.full.waiting.items) (phase_view phase)) result self.new }
     {
@@ -372,7 +373,7 @@ impl Parser {
         }
     }
 
-    /// A full expression begins, after this many of its tokens.
+    /// Begins a full expression after this many of its tokens.
     pub fn open_full(&mut self, context: Context, count: Count)
         ensures full { full_view self.new ≡ full_of (context_of self.old context) [] count.tokens }
         ensures state { parser_view self.new ≡ InFull (full_of (context_of self.old context) [] count.tokens) Operand }
@@ -384,7 +385,7 @@ impl Parser {
         self.at = At::Full;
     }
 
-    /// An operand of it comes next.
+    /// Begins a full expression with an operand.
     pub fn begin_full(&mut self, context: Context, count: Count) -> Result<(), Stop>
         ensures { Gives (begins_full (context_of self.old context) count.tokens) result self.new }
     {

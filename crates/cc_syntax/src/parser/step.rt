@@ -9,7 +9,7 @@ use crate::parser::role::Role;
 use crate::parser::state::{At, Open, Outer, Parser, Stage};
 use crate::parser::stop::Stop;
 
-/// The level of what begins after this many open statements, 0 where a block ends.
+/// The level of a statement or declaration that begins inside this many open statements, or 0 if the token ends a block.
 fn level_behind(count: usize, role: Role) -> usize
     requires { count < 2 ^ 63 }
     ensures { result ≡ item_level count role }
@@ -20,8 +20,7 @@ fn level_behind(count: usize, role: Role) -> usize
     }
 }
 
-/// How many open statements are left once a statement after which no `else` stands is complete; none where a `do` waits
-/// for its `while`.
+/// How many open statements remain once a statement is complete that no `else` follows. `None` if a `do` then awaits its `while`.
 fn rest(statements: &[Open]) -> Option<usize>
     ensures depth { result ≡ resting_depth (open_views statements.now) }
     ensures within { IfSome result (λ left. left ≤ length statements.now) }
@@ -38,7 +37,7 @@ fn rest(statements: &[Open]) -> Option<usize>
 }
 
 impl Parser {
-    /// One token, or `Unexpected` where no unit goes on with it.
+    /// Reads one token. Fails with `Unexpected` if no unit continues with it.
     pub fn step(&mut self, role: Role, cursor: &Cursor<'_>) -> Result<(), Stop>
         ensures { Gives (role_step (parser_view self.old) role (name_at cursor.now)) result self.new }
     {
@@ -49,7 +48,7 @@ impl Parser {
         }
     }
 
-    /// The level of the statement or declaration that a token begins, 0 where it begins none.
+    /// The level of the statement or declaration that a token begins, or 0 if it begins none.
     pub fn level_begun(&self, role: Role) -> usize
         ensures { result ≡ role_level (parser_view self.now) role }
     {
@@ -66,7 +65,7 @@ impl Parser {
         }
     }
 
-    /// The level of what a token begins in a function's body, 0 where it begins nothing.
+    /// The level of what a token begins in a function's body, or 0 if it begins nothing.
     fn level_in_body(&self, role: Role) -> usize
         ensures { result ≡ stage_level (open_views self.now.body.open.items) (stage_of self.now self.now.body.stage) role }
     {

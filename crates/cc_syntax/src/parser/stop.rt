@@ -7,7 +7,7 @@ use std::alloc::{AllocError, AllocFailed};
 pub enum Stop {
     /// Memory ran out.
     Memory,
-    /// No unit goes on with the token.
+    /// No unit continues with the token.
     Unexpected,
     /// The token passes a limit.
     TooDeep,
@@ -18,7 +18,7 @@ pub enum Stop {
 pub enum Refusal {
     /// Memory ran out.
     Memory,
-    /// No unit goes on with the token of this number; the end of the text counts as a last token.
+    /// No unit continues with the token of this number. The end of the text counts as a last token.
     Unexpected(usize),
     /// The token of this number passes a limit.
     TooDeep(usize),

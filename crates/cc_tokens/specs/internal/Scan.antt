@@ -1,5 +1,5 @@
--- What the private functions of the scanner answer, as functions on lists. The definition of the tokens of a text does not
--- rest on it: the proofs show that it agrees with that definition.
+-- What the private functions of the scanner return, as functions on lists. The definition of a text's tokens does not depend on
+-- them: the proofs show that they agree with it.
 use Rattle.std.specs.Prelude.{ℕ, zero, suc, ◌+◌, Bool, true, false, not, ◌||◌, ◌&&◌, ◌==◌, nat_lt, if◌then◌else◌, slice_index, List, [], ◌∷◌, length, take, drop, Option, Some, None, Result, Ok, Err}
 use Rattle.std.specs.List.{find, prefix_len, starts_with}
 use Rattle.std.specs.Str.{bytes_eq}
@@ -36,12 +36,12 @@ offset_within test zero bytes = 0
 offset_within test (suc n) [] = suc n
 offset_within test (suc n) (b ∷ bs) = if test (b ∷ bs) then 0 else suc (offset_within test n bs)
 
--- which bytes go on with a run
+-- which bytes continue a run
 abbrev pub goes_on : Run → ℕ → ℕ → Bool
 goes_on run.Word = continues_word
 goes_on run.Number = continues_number
 
--- how many bytes go on, each from the one before it
+-- how many bytes continue the run, each after the one before it
 unfoldable pub run_length : (ℕ → ℕ → Bool) → ℕ → List ℕ → ℕ
 run_length may before [] = 0
 run_length may before (b ∷ bs) = if may before b then suc (run_length may b bs) else 0
@@ -97,15 +97,15 @@ punctuators_with b =
     else (if b == 126 then punctuator.Tilde ∷ []
     else []))))))))))))))))))))))
 
--- the keyword of these bytes
+-- the keyword that these bytes spell
 unfoldable pub keyword_named : List ℕ → Option Keyword
 keyword_named word = find (λ k. bytes_eq (keyword_bytes k) word) KEYWORDS
 
--- the longest punctuator at the head
+-- the longest punctuator that the bytes begin with
 unfoldable pub punctuator_at : List ℕ → Option Punctuator
 punctuator_at bytes = find (λ p. starts_with (λ a b. a == b) bytes (punctuator_bytes p)) PUNCTUATORS
 
--- what a word is
+-- the kind of a word
 abbrev pub word_kind : Option Keyword → TokenKind
 word_kind None = kind.Identifier
 word_kind (Some k) = kind.Keyword k
@@ -117,14 +117,14 @@ base_of bytes = if slice_index bytes 0 == 48 then (if slice_index bytes 1 == 120
 abbrev pub prefix_of_base : ℕ → ℕ
 prefix_of_base base = if base == 10 then 0 else (if base == 8 then 1 else 2)
 
--- whether these bytes are a suffix, or nothing
+-- whether these bytes are a suffix; no bytes count as none, anything else as neither
 unfoldable pub suffix_of : List ℕ → Option Bool
 suffix_of bytes =
     if length bytes == 0 then Some false
     else (if length bytes == 1 && (slice_index bytes 0 == 117 || slice_index bytes 0 == 85) then Some true
     else None)
 
--- the constant after a prefix, of which n bytes are digits
+-- the constant that follows a prefix, whose first n bytes are digits
 abbrev pub with_suffix : ℕ → List ℕ → Option Bool → Option Constant
 with_suffix base digits None = None
 with_suffix base digits (Some suffixed) = Some (record { base = base; digits = digits; suffixed = suffixed })
@@ -141,7 +141,7 @@ constant_spelled bytes =
     let behind = drop (prefix_of_base base) bytes in
     constant_behind base (prefix_len (is_digit_of base) behind) behind
 
--- what a constant is
+-- the kind of a constant
 abbrev pub typed : Option Scalar → ℕ → Result TokenKind LexicalError
 typed None value = Err ConstantTooLarge
 typed (Some type) value = Ok (kind.Number type value)
@@ -159,7 +159,7 @@ abbrev pub punctuator_head : Option Punctuator → Head
 punctuator_head None = head.Error BadByte 0
 punctuator_head (Some p) = head.Token (kind.Punctuator p) (length (punctuator_bytes p))
 
--- a comment of n bytes, unless a line splice stands in it
+-- a comment of n bytes, unless there is a line splice in it
 abbrev pub spliced : ℕ → ℕ → Head
 spliced n place = if nat_lt place n then head.Error BadByte place else head.Comment n
 
@@ -175,11 +175,11 @@ comment_head bytes =
     if slice_index bytes 1 == 42 then block_comment (offset_within begins_close (length body) body) bytes
     else comment_of (offset_within begins_line_end (length body) body + 2) bytes
 
--- how many bytes of a run stand at the head, of which the first is one
+-- how many bytes the run at the beginning has; the first byte belongs to it
 abbrev pub run_of : (ℕ → ℕ → Bool) → List ℕ → ℕ
 run_of may bytes = suc (run_length may (slice_index bytes 0) (drop 1 bytes))
 
--- what stands at the head of the bytes
+-- what the bytes begin with
 unfoldable pub head_of : List ℕ → Head
 head_of bytes =
     let first = slice_index bytes 0 in

@@ -1,9 +1,9 @@
--- What the code asks of what is in scope.
+-- What the code checks about the names in scope.
 use Rattle.std.specs.Prelude.{ℕ, Bool, false, List, map, Option, Some, None, nat_le}
 use Rattle.cc_ast.specs.scalar.Scalar.{Scalar}
 use Rattle.cc_ast.specs.Tree.{Parameter}
 
--- a number from k on
+-- a number that is at least k
 abbrev pub from : ℕ → Option ℕ → Bool
 from k None = false
 from k (Some n) = nat_le k n

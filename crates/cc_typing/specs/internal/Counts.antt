@@ -8,12 +8,12 @@ use Rattle.cc_types.specs.declared.rule.Rule.TheVariants.{TooMany}
 use Rattle.cc_types.specs.internal.Externals.{defined_in}
 use Rattle.cc_typing.specs.declared.limits.Words.{Words}
 
--- the limit passed at a place, where it is
+-- the limit passed at an offset, if there is one
 abbrev pub excess_of : Option ℕ → List RuleError
 excess_of None = []
 excess_of (Some at) = record { rule = TooMany; at = at } ∷ []
 
--- the words of objects so far, and the place of the object that passed their limit
+-- the words of the objects so far, and the offset of the object that passed their limit
 pub record WordCount : Type 0 where
   pub taken : ℕ
   pub past : Option ℕ
@@ -21,7 +21,7 @@ pub record WordCount : Type 0 where
 abbrev pub word_count : Words → WordCount
 word_count w = record { taken = w.taken; past = w.past }
 
--- the same after one object more; nothing is counted once the limit is passed
+-- the count after one more object; nothing is counted once the limit is passed
 abbrev pub with_words : WordCount → Object → WordCount
 with_words w o =
     if is_some w.past then w
@@ -31,7 +31,7 @@ abbrev pub words_after : WordCount → List Object → WordCount
 words_after w [] = w
 words_after w (o ∷ rest) = words_after (with_words w o) rest
 
--- those that some external declarations define, the last first, in front of others
+-- the functions that some external declarations define, the last one first, before the earlier ones
 abbrev pub all_defined : List External → List (List ℕ) → List (List ℕ)
 all_defined [] d = d
 all_defined (e ∷ rest) d = all_defined rest (defined_in e ++ d)

@@ -14,44 +14,44 @@ use Rattle.cc_typing.specs.declared.around.Surroundings.{Surroundings}
 abbrev pub is_before : RuleError → RuleError → Bool
 is_before o p = nat_lt o.at p.at || (o.at == p.at && nat_lt (rule_number o.rule) (rule_number p.rule))
 
--- the first of the error found before, where there is one, and another
+-- the earlier of an error, if there is one, and another
 abbrev pub earlier : Option RuleError → RuleError → RuleError
 earlier None o = o
 earlier (Some p) o = if is_before o p then o else p
 
--- the first error, after some more
+-- the first error after some more
 abbrev pub noted : Option RuleError → List RuleError → Option RuleError
 noted first [] = first
 noted first (o ∷ rest) = noted (Some (earlier first o)) rest
 
--- what is found: the first error, the first call of a function that is not defined, and the functions that are
+-- what has been found: the first error, the first call of a function that is not defined, and the defined functions
 pub record Found : Type 0 where
   pub first : Option RuleError
   pub undefined : Option RuleError
   pub functions : Functions
 
--- the same after a part with these errors and these calls
+-- what has been found after a part with these errors and these calls
 abbrev pub after : Found → List RuleError → List Name → Found
 after f errors calls = record f { first = noted f.first errors; undefined = noted f.undefined (undefined_among f.functions.defined calls) }
 
--- nothing is found yet
+-- nothing has been found yet
 abbrev pub nothing_found : Functions → Found
 nothing_found functions = record { first = None; undefined = None; functions = functions }
 
--- the same once more definitions stand before
+-- the same after more functions have been defined
 abbrev pub with_before : Found → List (List ℕ) → Found
 with_before f names = record f { functions = record { defined = f.functions.defined; before = names ++ f.functions.before } }
 
--- where a statement stands
+-- what surrounds a statement
 abbrev pub around_of : Surroundings → Around
 around_of a = record { result = a.result; in_loop = a.in_loop }
 
--- one name of a declaration of locals
+-- the errors of one name in a declaration of locals
 abbrev pub declarator_errors : Scalar → Declarator → Visible → List RuleError
 declarator_errors t d v =
     broken_if (is_declared v.inner d.name.text) Redeclared d.name.at ++ optional_errors (in_scope (declared d.name.text (Variable t) v)) d.initial
 
--- a return with a value in a void function, or without one in another
+-- a return with a value in a void function, or without one in any other
 abbrev pub is_bad_return : Option Scalar → Option Expr → Bool
 is_bad_return None None = false
 is_bad_return None (Some e) = true

@@ -1,4 +1,4 @@
--- Worked values of the definitions, each by computation. A negative number stands here as its word: -1 is 4294967295.
+-- Worked values of the definitions, each shown by computation. A negative number is written as its word: -1 is 4294967295.
 use Rattle.std.specs.Prelude.{◌≡◌, refl, Some, None, pos, negsuc}
 use Rattle.cc_words.specs.Words.{signed_value, word_of, add, sub, mul, neg, eq, ne, lt_s, le_s, lt_u, le_u, is_zero, div_s, rem_s, div_u, rem_u, shl, shr_s, shr_u, and, or, xor, complement}
 
@@ -31,7 +31,7 @@ product_wraps = refl
 neg_of_least : neg 2147483648 ≡ 2147483648
 neg_of_least = refl
 
--- -1 < 1 as signed, not as unsigned
+-- -1 < 1 holds for signed numbers, but not for unsigned ones
 signed_less : lt_s 4294967295 1 ≡ 1
 signed_less = refl
 
@@ -67,7 +67,7 @@ quotient_by_negative = refl
 remainder_by_negative : rem_s 7 4294967294 ≡ Some 1
 remainder_by_negative = refl
 
--- no answer: by zero, and -2147483648 by -1
+-- no value: division by zero, and of -2147483648 by -1
 signed_by_zero : div_s 7 0 ≡ None
 signed_by_zero = refl
 
@@ -87,7 +87,7 @@ unsigned_remainder = refl
 unsigned_by_zero : rem_u 7 0 ≡ None
 unsigned_by_zero = refl
 
--- -8 >> 1 is -4; as unsigned a zero comes in
+-- -8 >> 1 is -4; an unsigned shift brings in a zero
 arithmetic_shift : shr_s 4294967288 1 ≡ Some 4294967292
 arithmetic_shift = refl
 

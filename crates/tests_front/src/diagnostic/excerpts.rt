@@ -6,11 +6,11 @@ use std::alloc::Global;
 use std::test::Fail;
 use tests_texts::verdict::{each_passes, passes};
 
-// Texts, and what is told of each.
+// Texts, and the message for each.
 type Line = (&'static [u8], &'static str);
 
 static LINES: [Line; 9] = [
-    // the middle one of three lines, and lines that end otherwise
+    // the middle one of three lines, and lines with other ends
     (
         b"int x;\nint main(void){y;}\nint z;\n",
         "-:2:16: 'y' is not declared\n    2 | int main(void){y;}\n      |                ^\n",
@@ -19,7 +19,7 @@ static LINES: [Line; 9] = [
         b"int main(void){\r\n  y;\r\n}\r\n",
         "-:2:3: 'y' is not declared\n    2 |   y;\n      |   ^\n",
     ),
-    // the end of the text, with an end of its line before it or none
+    // the end of the text, with and without a line end before it
     (
         b"int x",
         "-:1:6: expected '=', '(', '[', ',' or ';' before the end of the text\n    1 | int x\n      |      ^\n",
@@ -33,12 +33,12 @@ static LINES: [Line; 9] = [
         b"int main(void){\n\tint x;\ty;}",
         "-:2:9: 'y' is not declared\n    2 | \tint x;\ty;}\n      | \t      \t^\n",
     ),
-    // columns count bytes, the caret characters
+    // columns count bytes, the caret is placed by characters
     (
         b"int main(void){/*\xc3\xa9*/y;}",
         "-:1:22: 'y' is not declared\n    1 | int main(void){/*\u{e9}*/y;}\n      |                     ^\n",
     ),
-    // what is no UTF-8 is shown byte by byte, what would steer a terminal as a question mark
+    // bytes that are not UTF-8 are shown one by one, and a byte that would control a terminal as a question mark
     (
         b"int main(void){/*\xe9\x1b\x9b*/y;}",
         "-:1:23: 'y' is not declared\n    1 | int main(void){/*\u{e9}??*/y;}\n      |                       ^\n",
@@ -62,7 +62,7 @@ fn lines(rt: HostRuntime) -> Result<(), Fail> {
     each_passes(rt.alloc(), LINES.as_slice(), is_line)
 }
 
-// Whether a name of this many bytes that is not declared is shown so, in quotes.
+// Whether an undeclared name of this many bytes is shown with this many of them, in quotes.
 fn shows_name(alloc: Global, length: usize, shown: usize, end: &str) -> Result<bool, Fail> {
     let mut text = String::from_str(alloc, "int main(void){\n")?;
     let mut told = String::from_str(alloc, "-:2:1: '")?;
@@ -88,7 +88,7 @@ fn long_names(rt: HostRuntime) -> Result<(), Fail> {
     passes(shows_name(rt.alloc(), 41, 40, "...'"))
 }
 
-// A text, an offset in it, and what is written of a diagnostic there.
+// A text, an offset in it, and the lines that are written for a diagnostic there.
 type Written = (&'static [u8], Option<usize>, &'static str);
 
 fn is_written(alloc: Global, row: &Written) -> Result<bool, Fail> {
@@ -120,7 +120,7 @@ fn offsets(rt: HostRuntime) -> Result<(), Fail> {
     each_passes(rt.alloc(), OFFSETS.as_slice(), is_written)
 }
 
-// Whether what is told of the name of this many bytes at an offset is written so.
+// Whether the message about the name of this many bytes at an offset is these lines.
 fn names(alloc: Global, at: usize, length: usize, told: &str) -> Result<bool, Fail> {
     let text = b"int f(void){}".as_slice();
     let diagnostic = of_name(alloc, text, at, length, "is too large")?;

@@ -1,18 +1,18 @@
-// What is told of texts that are no programs.
+// Messages about texts that are not programs.
 
 use super::helpers::tells;
 use std::alloc::Global;
 use std::test::Fail;
 use tests_texts::verdict::each_passes;
 
-// A text, and what is told of it.
+// A text, and the message about it.
 type Row = (&'static str, &'static str);
 
 fn is_told(alloc: Global, row: &Row) -> Result<bool, Fail> {
     Ok(tells(alloc, row.0.as_bytes(), row.1.as_bytes()))
 }
 
-// Texts whose bytes, comments or numbers are no tokens, and what is told of each.
+// Texts whose bytes, comments or numbers are not tokens, and the message about each.
 static SPELLING: [Row; 18] = [
     (
         "int main(void){$}",
@@ -142,7 +142,7 @@ static SPELLING: [Row; 18] = [
     ),
 ];
 
-// Texts with a token with which no text goes on, and what is told of each: the token, and what could stand there.
+// Texts with a token that cannot come there, and the message about each: the token, and what could come instead.
 static GRAMMAR: [Row; 37] = [
     (
         "",
@@ -420,7 +420,7 @@ static GRAMMAR: [Row; 37] = [
     ),
 ];
 
-// Names that are not in scope, or declared twice; what is told of each, with the first declaration.
+// Names that are not in scope, or are declared twice, and the message about each, with the first declaration.
 static NAMES: [Row; 18] = [
     (
         "int total;\n\nint main(void){\n totl=1;\n}",
@@ -571,7 +571,7 @@ static NAMES: [Row; 18] = [
     ),
 ];
 
-// Names that are used as what they are not, and constant expressions that are none.
+// Names that are used as something else than they are, and expressions that should be constant and are not.
 static KINDS: [Row; 17] = [
     (
         "int x;int main(void){x();}",
@@ -694,7 +694,7 @@ static KINDS: [Row; 17] = [
     ),
 ];
 
-// Counts of arguments and of initialisers that do not fit.
+// Numbers of arguments and of initialisers that do not fit.
 static COUNTS: [Row; 9] = [
     (
         "int add(int a,int b){return a+b;}\nint main(void){\n  add(1);\n}",
@@ -761,7 +761,7 @@ static COUNTS: [Row; 9] = [
     ),
 ];
 
-// Values, `return`, `break` and `continue` out of place, functions that are missing, and limits that are passed.
+// Values, `return`, `break` and `continue` in the wrong place, missing functions, and exceeded limits.
 static OTHERS: [Row; 16] = [
     (
         "void f(void){}int main(void){write_word(f());}",

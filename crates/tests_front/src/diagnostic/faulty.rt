@@ -1,17 +1,17 @@
-// Faulty texts: the place on standard error, and key words of what is told there.
+// Faulty texts: the place on standard error, and key words of the message.
 //
-// The place is that of the first line, the key words stand anywhere behind it. A row without them is a program of which nothing is
-// told.
+// The place is that of the first line; the key words may be anywhere after it. A row without them is a program for which nothing
+// is written.
 
 use super::helpers::{has, told_of};
 use std::alloc::Global;
 use std::test::Fail;
 use tests_texts::verdict::each_passes;
 
-/// A text, the place of what is told of it first, and key words of it.
+/// A text, the place of the first message about it, and key words of that message.
 type Row = (&'static str, &'static str, &'static str);
 
-// Mistakes of the first hour, and C that is left out.
+// Mistakes of a beginner's first hour, and C that the language leaves out.
 static FIRST_HOUR_1: [Row; 26] = [
     (
         "int main(void) {\n  int total = 0;\n  totl = total + read_word();\n  write_word(total);\n  return 0;\n}\n",
@@ -540,7 +540,8 @@ static FIRST_HOUR_4: [Row; 26] = [
     ),
 ];
 
-// Others: words that are misspelt, C that is left out, numbers and bytes, what is missing, constant expressions, warnings.
+// Other mistakes: misspelt words, C that the language leaves out, numbers and bytes, missing parts, constant expressions,
+// warnings.
 static OTHERS_1: [Row; 22] = [
     (
         "int main(void){\n  unsinged y=2;\n}",
@@ -847,7 +848,7 @@ static OTHERS_3: [Row; 21] = [
     ),
 ];
 
-// Whether what is told of a row's text stands at its place, and has its key words.
+// Whether the message about a row's text has its place and its key words.
 fn is_told(alloc: Global, row: &Row) -> Result<bool, Fail> {
     let (text, place, words) = row;
     let told = told_of(alloc, text.as_bytes())?;

@@ -1,6 +1,7 @@
-// The errors of scope and type behind the first: the place of each, and key words of what is told there.
+// The errors of scope and type after the first one: the place of each, and key words of its message.
 //
-// The places are those of gcc 12.2 and clang 14 where both tell of the same; what they only warn of, or do not tell, is worked by hand.
+// If gcc 12.2 and clang 14 both report an error, the place is theirs. If they only warn about it or do not report it, the place
+// is worked out by hand.
 
 use super::helpers::{errors_of, has};
 use cc_diagnostic::Diagnostic;
@@ -8,7 +9,7 @@ use std::alloc::{AllocError, Global};
 use std::test::Fail;
 use tests_texts::verdict::each_passes;
 
-/// A text, and all that is told of it: the place, and key words.
+/// A text, and all the messages about it: the place of each, and key words.
 type Row = (&'static str, &'static [(&'static str, &'static str)]);
 
 static ROWS_1: [Row; 9] = [
@@ -273,7 +274,7 @@ static ROWS_3: [Row; 8] = [
     ),
 ];
 
-// Whether a diagnostic over a text stands at a place, and has key words.
+// Whether a diagnostic about a text has this place and these key words.
 fn is_told(alloc: Global, text: &str, diagnostic: &Diagnostic, place: &str, words: &str) -> bool {
     let mut told = Vec::new(alloc);
     if diagnostic.write(text.as_bytes(), &mut told).is_err() {
@@ -285,7 +286,7 @@ fn is_told(alloc: Global, text: &str, diagnostic: &Diagnostic, place: &str, word
     rest.starts_with(b": ".as_slice()) && has(told, words.as_bytes())
 }
 
-// Whether exactly these errors are told of a row's text.
+// Whether the errors reported for a row's text are exactly these.
 fn are_all(alloc: Global, row: &Row) -> Result<bool, Fail> {
     let (text, wanted) = row;
     let errors = errors_of(alloc, text.as_bytes())?;
@@ -322,7 +323,7 @@ fn with_errors(alloc: Global, count: usize) -> Result<Vec<u8>, AllocError> {
     Ok(text)
 }
 
-// How many errors a text has, how many are told, and what is told last.
+// How many errors a text has, how many are reported, and the last message.
 type Many = (usize, usize, &'static [u8]);
 
 fn tells_at_last(alloc: Global, row: &Many) -> Result<bool, Fail> {
@@ -351,7 +352,7 @@ fn twenty_at_most(rt: HostRuntime) -> Result<(), Fail> {
     each_passes(rt.alloc(), MANY.as_slice(), tells_at_last)
 }
 
-// A text of this many bytes with two names that are declared nowhere.
+// A text of this many bytes with two undeclared names.
 fn of_length(alloc: Global, length: usize) -> Result<Vec<u8>, AllocError> {
     let mut text = Vec::from_slice(alloc, b"int main(void){x;y;}")?;
     for _ in text.len()..length {
@@ -360,14 +361,14 @@ fn of_length(alloc: Global, length: usize) -> Result<Vec<u8>, AllocError> {
     Ok(text)
 }
 
-// How many errors are told of such a text.
+// How many errors are reported for such a text.
 fn count_of(alloc: Global, length: usize) -> Option<usize> {
     let text = of_length(alloc, length).ok()?;
     let errors = errors_of(alloc, text.as_slice()).ok()?;
     Some(errors.len())
 }
 
-// Before the second error is found, `int A;` stands before the text.
+// To find the second error, the search puts `int A;` in front of a copy of the text.
 #[test]
 fn a_copy_that_is_too_large(rt: HostRuntime) {
     let counts = [count_of(rt.alloc(), 65_530), count_of(rt.alloc(), 65_531)];

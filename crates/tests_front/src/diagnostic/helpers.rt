@@ -1,4 +1,4 @@
-// What is told of a text, as it is written.
+// The messages about a text, as they are written.
 
 use cc_diagnostic::{Diagnostic, further_of_typing, of_syntax, of_typing, warnings};
 use cc_meaning::{Stop, interpret};
@@ -8,7 +8,7 @@ use cc_types::TypeFault;
 use cc_typing::check;
 use std::alloc::{AllocError, Global};
 
-/// What is written of a diagnostic over a text, nothing where there is none.
+/// The lines that are written for a diagnostic about a text, or none without a diagnostic.
 pub fn written(
     alloc: Global,
     text: &[u8],
@@ -26,7 +26,7 @@ pub fn written(
     Ok(lines)
 }
 
-// What is warned of in a text that is a program.
+// The warnings about a text that is a program.
 fn warned(alloc: Global, text: &[u8]) -> Result<Vec<u8>, AllocError> {
     let list = warnings(alloc, text)?;
     let mut lines = Vec::new(alloc);
@@ -51,7 +51,7 @@ fn of_unit(alloc: Global, text: &[u8], unit: Unit) -> Result<Vec<u8>, AllocError
     }
 }
 
-// What is told of a fault of a tree, and of those behind it.
+// The diagnostics for a fault of a tree, and for the faults after it.
 fn all_of_fault(
     alloc: Global,
     text: &[u8],
@@ -67,7 +67,7 @@ fn all_of_fault(
     Ok(list)
 }
 
-/// What is told of the errors of scope and type of a text; nothing where it has no tree.
+/// The diagnostics for the scope and type errors of a text, or none if it has no tree.
 pub fn errors_of(alloc: Global, text: &[u8]) -> Result<Vec<Diagnostic>, AllocError> {
     match parse(alloc, text) {
         Ok(unit) => match check(alloc, unit) {
@@ -88,7 +88,7 @@ pub fn errors_of(alloc: Global, text: &[u8]) -> Result<Vec<Diagnostic>, AllocErr
     }
 }
 
-/// What is told of the first fault of a text; of a program what is warned of.
+/// The message about the first fault of a text, or the warnings if it is a program.
 pub fn told_of(alloc: Global, text: &[u8]) -> Result<Vec<u8>, AllocError> {
     match parse(alloc, text) {
         Ok(unit) => of_unit(alloc, text, unit),
@@ -100,7 +100,7 @@ pub fn told_of(alloc: Global, text: &[u8]) -> Result<Vec<u8>, AllocError> {
     }
 }
 
-/// Whether this is told of the first fault of a text.
+/// Whether this is the message about the first fault of a text.
 pub fn tells(alloc: Global, text: &[u8], told: &[u8]) -> bool {
     match told_of(alloc, text) {
         Ok(found) => found.as_slice() == told,
@@ -108,7 +108,7 @@ pub fn tells(alloc: Global, text: &[u8], told: &[u8]) -> bool {
     }
 }
 
-// How a program's run ends on these words of input, within this many steps; nothing for a text that is no program.
+// How a program's run ends on these words of input, within this many steps, or `None` if the text is not a program.
 fn stop_of(alloc: Global, text: &[u8], input: &[u32], steps: u64) -> Option<Stop> {
     let unit = parse(alloc, text).ok()?;
     let typed = check(alloc, unit).ok()?;
@@ -123,7 +123,7 @@ fn stop_of(alloc: Global, text: &[u8], input: &[u32], steps: u64) -> Option<Stop
     }
 }
 
-/// What is told of a run of a text that goes wrong; nothing for another one.
+/// The message about a run of a text that goes wrong, or nothing if it does not.
 pub fn told_of_run(
     alloc: Global,
     text: &[u8],
@@ -139,7 +139,7 @@ pub fn told_of_run(
     }
 }
 
-/// Whether the words stand among the bytes.
+/// Whether the words occur among the bytes.
 pub fn has(bytes: &[u8], words: &[u8]) -> bool {
     words.is_empty() || bytes.windows(words.len()).any(|window| window == words)
 }

@@ -1,11 +1,11 @@
-// What is told where a limit is passed: which one, and how large it is.
+// Messages about exceeded limits: which limit it is, and how large.
 
 use super::helpers::tells;
 use std::alloc::{AllocError, Global};
 use std::test::Fail;
 use tests_texts::verdict::each_passes;
 
-/// A part of a text or of what is told, and how often it stands there.
+/// A part of a text or of a message, and how often it is repeated.
 type Part = (&'static str, usize);
 
 // The bytes of these parts.
@@ -19,7 +19,7 @@ fn bytes_of(alloc: Global, parts: &[Part]) -> Result<Vec<u8>, AllocError> {
     Ok(bytes)
 }
 
-/// The parts of a text, and those of what is told of it.
+/// The parts of a text, and those of the message about it.
 type Row = (&'static [Part], &'static [Part]);
 
 static ROWS: [Row; 8] = [
@@ -135,7 +135,7 @@ static ROWS: [Row; 8] = [
     ),
 ];
 
-// Whether what is told of the text of a row is the row's.
+// Whether the message about a row's text is the row's.
 fn is_told(alloc: Global, row: &Row) -> Result<bool, Fail> {
     let text = bytes_of(alloc, row.0)?;
     let told = bytes_of(alloc, row.1)?;

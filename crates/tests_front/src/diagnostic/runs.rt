@@ -1,4 +1,4 @@
-// What is told of runs that go wrong.
+// Messages about runs that go wrong.
 
 use super::helpers::told_of_run;
 use cc_meaning::Cause;
@@ -7,7 +7,7 @@ use std::alloc::Global;
 use std::test::Fail;
 use tests_texts::verdict::each_passes;
 
-// Texts, the words of the input, and what is told of a run of each: the place, the values and the function.
+// Texts, the words of the input, and the message about a run of each: the place, the values and the function.
 type Row = (&'static str, &'static [u32], &'static str);
 
 static RUNS: [Row; 34] = [
@@ -285,7 +285,7 @@ static RUNS: [Row; 34] = [
     ),
 ];
 
-// Whether this is told of a run.
+// Whether this is the message about a run.
 fn tells_of_run(alloc: Global, text: &str, input: &[u32], steps: u64, told: &str) -> bool {
     match told_of_run(alloc, text.as_bytes(), input, steps) {
         Ok(found) => found.as_slice() == told.as_bytes(),
@@ -302,7 +302,7 @@ fn runs_that_go_wrong(rt: HostRuntime) -> Result<(), Fail> {
     each_passes(rt.alloc(), RUNS.as_slice(), is_told)
 }
 
-// The fourth turn of the loop goes wrong: main's step and those of four turns are needed.
+// The fourth turn of the loop goes wrong, which takes the step of `main` and those of four turns.
 const FOURTH: &str = "int a[3];int main(void){int i;for(i=0;i<9;i++)a[i]=1;}";
 
 #[test]
@@ -315,7 +315,7 @@ fn the_last_step(rt: HostRuntime) {
     assert!(rt; fifth && tells_of_run(rt.alloc(), FOURTH, &[], 4, ""));
 }
 
-// Texts whose run does not go wrong for this cause within 5 steps, and texts that are none.
+// Texts whose run does not go wrong for this cause within 5 steps, and texts that are not programs.
 type Silent = (&'static str, Cause);
 
 static SILENT: [Silent; 5] = [
@@ -326,7 +326,7 @@ static SILENT: [Silent; 5] = [
     ("int main(void){return 1/0", Cause::Division),
 ];
 
-// Whether nothing is told of a run for a cause.
+// Whether there is no message about a run for a cause.
 fn is_silent(alloc: Global, row: &Silent) -> Result<bool, Fail> {
     let told = of_wrong(alloc, row.0.as_bytes(), &[], 5, row.1)?;
     Ok(told.is_none())

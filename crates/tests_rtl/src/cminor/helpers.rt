@@ -8,7 +8,7 @@ use std::sync::Arc;
 use std::test::Fail;
 use tests_texts::stages::Stage;
 
-// Whether the function with this number goes through, and the pair names it.
+// Whether the function with this number can be translated, and the pair names it.
 fn goes_through(alloc: Global, unit: &Arc<TypedUnit>, function: usize) -> bool {
     if function >= unit.functions() {
         return false;
@@ -23,7 +23,7 @@ fn goes_through(alloc: Global, unit: &Arc<TypedUnit>, function: usize) -> bool {
     }
 }
 
-/// Whether each function of a text goes through, and there are this many.
+/// Whether each function of a text can be translated, and there are this many.
 pub fn all_go_through(alloc: Global, text: &[u8], functions: usize) -> Result<bool, Fail> {
     let unit = shared_unit(alloc, text)?;
     let mut right = unit.functions() == functions;
@@ -55,7 +55,7 @@ fn written(alloc: Global, pair: &CminorPair) -> Result<String, AllocError> {
     pair.to_string(alloc)
 }
 
-/// The way to Cminor.
+/// The translation to Cminor.
 pub struct CminorStage;
 
 impl Stage for CminorStage {

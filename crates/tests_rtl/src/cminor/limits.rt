@@ -1,4 +1,4 @@
-// Definitions of some 64 KiB, each at one of the limits: they end in a test's time, whatever their shape.
+// Definitions of some 64 KiB, each at one of the limits: whatever their form, they end within a test's time.
 
 use super::helpers::all_go_through;
 use std::alloc::{AllocError, Global};
@@ -6,19 +6,19 @@ use std::test::Fail;
 use tests_texts::parts::{Part, append, text_of};
 use tests_texts::verdict::{each_passes, passes};
 
-// Whether a text has some 64 KiB, and its one function goes through.
+// Whether a text has some 64 KiB, and its only function can be translated.
 fn is_long_and_goes_through(alloc: Global, text: &[u8]) -> Result<bool, Fail> {
     let fits = text.len() > 60_000 && text.len() <= 65_536;
     Ok(all_go_through(alloc, text, 1)? && fits)
 }
 
-// The same of the text of these parts.
+// The same for the text of these parts.
 fn goes_through(alloc: Global, parts: &[Part<'_>]) -> Result<bool, Fail> {
     let text = text_of(alloc, parts)?;
     is_long_and_goes_through(alloc, text.as_slice())
 }
 
-/// What stands before the body's statements, one statement, and how often that stands there.
+/// What comes before the body's statements, one statement, and how often it is repeated.
 type Body = (&'static str, &'static str, usize);
 
 static STRAIGHT: [Body; 3] = [
@@ -48,8 +48,8 @@ fn choices_and_loops(rt: HostRuntime) -> Result<(), Fail> {
     each_passes(rt.alloc(), BRANCHING.as_slice(), body_goes_through)
 }
 
-/// A statement whose full expression has about 512 tokens: what is repeated, how often, what stands within, what is repeated
-/// behind that, and how many such statements there are.
+/// A statement whose full expression has about 512 tokens: what is repeated before the middle, how often, the middle, what is
+/// repeated as often after it, and how many such statements there are.
 type Row = (&'static str, usize, &'static str, &'static str, usize);
 
 static SUMS: [Row; 2] = [("~", 511, "1", "", 127), ("x+", 255, "1", "", 127)];
@@ -71,7 +71,7 @@ fn append_statement(text: &mut Vec<u8>, row: &Row) -> Result<(), AllocError> {
     append(text, ";", 1)
 }
 
-// A text whose one function has such statements.
+// A text whose only function has such statements.
 fn text_of_row(alloc: Global, row: &Row) -> Result<Vec<u8>, AllocError> {
     let mut text = Vec::new(alloc);
     append(&mut text, "int x;int a[9];int main(void){", 1)?;
@@ -107,7 +107,7 @@ fn values_that_wait(rt: HostRuntime) -> Result<(), Fail> {
     each_passes(rt.alloc(), WAITING.as_slice(), row_goes_through)
 }
 
-// A call within a call, 170 deep: each argument is a call.
+// A call within a call, 170 deep: the argument of each is a call.
 #[test]
 fn calls_within_calls(rt: HostRuntime) -> Result<(), Fail> {
     let before = ("int f(int n){return n;}int main(void){", 1);
@@ -116,7 +116,7 @@ fn calls_within_calls(rt: HostRuntime) -> Result<(), Fail> {
     passes(all_go_through(rt.alloc(), text.as_slice(), 2))
 }
 
-// Loops 61 deep, with statements in the innermost one's block.
+// Loops 61 deep, with statements in the block of the innermost one.
 #[test]
 fn levels(rt: HostRuntime) -> Result<(), Fail> {
     let parts = [
@@ -129,7 +129,7 @@ fn levels(rt: HostRuntime) -> Result<(), Fail> {
     passes(goes_through(rt.alloc(), &parts))
 }
 
-// Blocks 60 deep with a local each.
+// Blocks 60 deep, each with a local.
 #[test]
 fn locals_within(rt: HostRuntime) -> Result<(), Fail> {
     let parts = [
@@ -141,7 +141,7 @@ fn locals_within(rt: HostRuntime) -> Result<(), Fail> {
     passes(goes_through(rt.alloc(), &parts))
 }
 
-// 256 locals one behind the other.
+// 256 locals one after another.
 #[test]
 fn locals_behind(rt: HostRuntime) -> Result<(), Fail> {
     let parts = [

@@ -1,4 +1,4 @@
-// The text of the Cminor of whole functions, worked by hand from the rules in `docs/INTERMEDIATE.md`.
+// The text of the Cminor of whole functions, worked out by hand from the rules in `docs/INTERMEDIATE.md`.
 
 use super::helpers::CminorStage;
 use std::test::Fail;
@@ -6,7 +6,7 @@ use tests_texts::stages::shows_all;
 
 /// A text, the number of a function, and the text of its Cminor.
 static SHOWN: [(&str, usize, &str); 13] = [
-    // a value that nobody uses is put into a variable all the same, since it may go wrong
+    // a value that nothing uses is put into a variable nevertheless, since computing it may go wrong
     (
         "int a[2];int main(void){int i=5;a[i];7/i;}",
         0,
@@ -17,7 +17,7 @@ static SHOWN: [(&str, usize, &str); 13] = [
   v1 = div_s(7, v0)
 ",
     ),
-    // the division of two signed words; a void call leaves 0 in a variable that nobody reads
+    // the division of two signed words; a void call leaves 0 in a variable that nothing reads
     (
         "int main(void){write_word(-7/2);write_word(-7%2);return 0;}",
         0,
@@ -42,7 +42,7 @@ static SHOWN: [(&str, usize, &str); 13] = [
   return 7
 ",
     ),
-    // a left operand waits for the call at its right
+    // a left operand waits in a variable for the call to its right
     (
         "int f(int x) { int y = x + 1; while (y < 10) y = y + f(y); return y; } int main(void) { }",
         0,
@@ -63,7 +63,7 @@ static SHOWN: [(&str, usize, &str); 13] = [
   return v1
 ",
     ),
-    // an element: its index waits, the old value is read behind the right side
+    // an element: its index waits in a variable, and the old value is read after the right side
     (
         "int a[2];int f(void){a[0]=1;return 1;}int main(void){a[f()]+=a[0]+5;write_word(a[1]);}",
         0,
@@ -83,7 +83,7 @@ static SHOWN: [(&str, usize, &str); 13] = [
   v0 = 0
 ",
     ),
-    // a local is set to 0 on each turn, then to its initialiser
+    // in each turn a local is set to 0, and then to its initialiser
     (
         "int main(void){int i;for(i=0;i<2;i++){int x=x+1;write_word(x);}}",
         0,
@@ -103,8 +103,8 @@ static SHOWN: [(&str, usize, &str); 13] = [
         exit 0
 ",
     ),
-    // `&&` gives 0 or 1, to which a right operand that may be another word is made; an operand of type unsigned makes the division
-    // unsigned, a shift has the type of its left operand
+    // `&&` gives 0 or 1, and a right operand that may be another word is made 0 or 1; an operand of type unsigned makes the
+    // division unsigned, and a shift has the type of its left operand
     (
         "int f(int a,unsigned b){int c=a&&read_word();return c?b/2:a>>1;}int main(void){}",
         0,
@@ -123,7 +123,7 @@ static SHOWN: [(&str, usize, &str); 13] = [
   return v3
 ",
     ),
-    // `continue` leaves the body alone, `break` the loop; a branch on `==` tests a word that is 0 where the words are equal
+    // `continue` leaves only the body, `break` the loop; a branch on `==` tests a word that is 0 if the two are equal
     (
         "int main(void){for(int i=0;i<9;i++){if(i==3)continue;if(i==5)break;write_word(-i);}}",
         0,
@@ -149,7 +149,7 @@ static SHOWN: [(&str, usize, &str); 13] = [
         exit 0
 ",
     ),
-    // arguments wait in variables one behind the other where one of them is no single expression
+    // arguments wait in variables one after another if one of them is not a single expression
     (
         "int g(int a,int b,int c){return a>b||c;}int main(void){return g(1,read_word(),~2);}",
         1,
@@ -161,7 +161,7 @@ static SHOWN: [(&str, usize, &str); 13] = [
   return v0
 ",
     ),
-    // a comparison is 0 or 1 already; what a branch tests is not made to one of them
+    // a comparison is 0 or 1 already; a word that a branch tests is not made 0 or 1
     (
         "int f(int a,int b){int c=a<b||a!=9;if(!(a==0))c=2;return c;}int main(void){}",
         0,
@@ -203,7 +203,7 @@ static SHOWN: [(&str, usize, &str); 13] = [
   return v2
 ",
     ),
-    // an object of one word, a condition behind the body; a negation and `>=` each exchange the ways of the branch
+    // an object of one word, and a condition after the body; a negation and `>=` each swap the ways of the branch
     (
         "unsigned n;int main(void){do{n=n+1;}while(!(n>=3));return n;}",
         0,

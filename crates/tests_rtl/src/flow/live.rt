@@ -1,6 +1,5 @@
-// Live variables of three names, with a count of the visits.
+// Live variables among three, with a count of the visits.
 
-ghost use Rattle.std.specs.Prelude.{◌≡◌, IfOk};
 ghost use Rattle.std.proofs.Common.{arith};
 ghost use Rattle.tests_rtl.specs.Live.{below, none, both, room, laws, carried, carried_up};
 
@@ -23,7 +22,7 @@ pub struct Node {
     pub writes: Live,
 }
 
-/// The nodes of some code, and how often one was visited.
+/// The nodes of some code, and a count of the visits.
 #[derive(Drop)]
 pub struct Code {
     pub nodes: Vec<Node>,
@@ -106,7 +105,7 @@ pub fn set(bits: u8) -> Live {
     }
 }
 
-/// Code of this many nodes that do nothing.
+/// Code of this many nodes that neither read nor write.
 pub fn idle(alloc: Global, nodes: usize) -> Result<Code, AllocError> {
     let node = Node {
         reads: set(0),
@@ -118,7 +117,7 @@ pub fn idle(alloc: Global, nodes: usize) -> Result<Code, AllocError> {
     })
 }
 
-/// A node reads and writes these variables, where there is such a node.
+/// Makes a node read and write these variables, if the code has such a node.
 pub fn put(code: &mut Code, node: usize, reads: u8, writes: u8) {
     if node < code.nodes.len() {
         code.nodes[node] = Node {
@@ -128,7 +127,7 @@ pub fn put(code: &mut Code, node: usize, reads: u8, writes: u8) {
     }
 }
 
-/// A graph of this many nodes with these edges, of which those that lead out of it are left out.
+/// A graph of this many nodes with these edges, except edges that leave the graph.
 pub fn graph(alloc: Global, nodes: usize, edges: &[(usize, usize)]) -> Result<Graph, AllocError> {
     let mut graph = Graph::new(alloc, nodes)?;
     for (from, to) in edges {
@@ -137,7 +136,7 @@ pub fn graph(alloc: Global, nodes: usize, edges: &[(usize, usize)]) -> Result<Gr
     Ok(graph)
 }
 
-/// Adds an edge, where both ends are nodes.
+/// Adds an edge, if both ends are nodes.
 pub fn lead(graph: &mut Graph, from: usize, to: usize) -> Result<(), AllocError> {
     if from < graph.len() && to < graph.len() {
         graph.add_edge(from, to)?;

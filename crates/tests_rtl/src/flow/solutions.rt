@@ -1,4 +1,4 @@
-// Live variables of small code, worked by hand.
+// Live variables of small pieces of code, worked out by hand.
 
 use crate::flow::live::{A, B, C, graph, idle, put, set};
 use cc_flow::solve_backward;
@@ -6,7 +6,8 @@ use std::alloc::Global;
 use std::test::Fail;
 use tests_texts::verdict::passes;
 
-// Solves code whose nodes read, write and have live in front of them these variables, and compares the last.
+// Solves code with these nodes (what each reads, what it writes, and what is live before it), and compares what is live with the
+// solution.
 fn has_live(alloc: Global, nodes: &[(u8, u8, u8)], edges: &[(usize, usize)]) -> Result<(), Fail> {
     let mut code = idle(alloc, nodes.len())?;
     for (i, (reads, writes, _)) in nodes.iter().enumerate() {
@@ -46,7 +47,7 @@ fn straight_code(rt: HostRuntime) -> Result<(), Fail> {
     )
 }
 
-// The inner loop is 2, 3, 4 and the outer one 1 to 5.
+// The inner loop is 2, 3, 4, and the outer loop is 1 to 5.
 #[test]
 fn nested_loops(rt: HostRuntime) -> Result<(), Fail> {
     has_live(
@@ -73,7 +74,7 @@ fn nested_loops(rt: HostRuntime) -> Result<(), Fail> {
     )
 }
 
-// Nobody leads to 3 and 4, which have sets all the same; 4 leads to itself alone.
+// No edge leads to 3 and 4 from elsewhere, but they have sets; 4 leads only to itself.
 #[test]
 fn unreachable_nodes(rt: HostRuntime) -> Result<(), Fail> {
     has_live(

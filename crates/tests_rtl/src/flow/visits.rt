@@ -1,4 +1,4 @@
-// How often a node is visited: a limit on functions has 4,096 nodes.
+// How often a node is visited, in code of 4,096 nodes, which is the limit for a function.
 
 use crate::flow::live::{A, B, C, Code, idle, lead, put, set};
 use cc_flow::{Graph, solve_backward};
@@ -18,7 +18,7 @@ fn line(alloc: Global) -> Result<Graph, AllocError> {
     Ok(graph)
 }
 
-// Whether it takes so many visits, from the least to the most, and node 0 has these variables live.
+// Whether solving takes a number of visits in this range, and these variables are live at node 0.
 fn is_solved(
     alloc: Global,
     graph: &Graph,
@@ -62,7 +62,7 @@ fn line_back(alloc: Global) -> Result<Graph, AllocError> {
     Ok(graph)
 }
 
-// The worst order. A node waits again only where facts rose.
+// The worst order. A node waits again only if a fact rose.
 #[test]
 fn code_numbered_backward_takes_as_many_visits_as_rises(rt: HostRuntime) -> Result<(), Fail> {
     let mut code = idle(rt.alloc(), NODES)?;

@@ -1,4 +1,4 @@
-// A text's functions as RTL, their live sets as a text, and what is left of them.
+// A text's functions as RTL, their live sets as a text, and what remains of them.
 
 use crate::helpers::pair_of;
 use cc_live::{Liveness, RegisterSet, drop_dead, drop_faint, liveness};
@@ -7,7 +7,7 @@ use std::alloc::{AllocError, Global};
 use std::fmt::Write;
 use std::test::Fail;
 
-/// What is asked of a function.
+/// What a test asks about a function.
 #[derive(Clone, Copy, PartialEq)]
 pub enum Asked {
     /// Its live sets.
@@ -20,7 +20,7 @@ pub enum Asked {
     WithoutFaint,
 }
 
-// The registers of a set below 256, in order.
+// The registers of a set that are below 256, in order.
 fn write_set(text: &mut String, set: &RegisterSet) -> Result<(), AllocError> {
     for register in 0..256u32 {
         if set.contains(register) {
@@ -60,7 +60,7 @@ fn answer(alloc: Global, pair: &mut RtlPair, asked: Asked) -> Result<String, All
     }
 }
 
-/// What is asked of one function of a text; nothing where it has no RTL.
+/// What a test asks about one function of a text, or `None` if the function has no RTL.
 pub fn asked_of(
     alloc: Global,
     text: &[u8],
@@ -75,7 +75,7 @@ pub fn asked_of(
     Ok(Some(shown?))
 }
 
-/// How many nodes of a function are no nops: of all, of those that are left without dead ones, and without faint ones.
+/// How many nodes of a function are not nops: in all, without dead nodes, and without faint nodes.
 #[derive(Clone, Copy, PartialEq)]
 pub struct Left {
     pub all: usize,
@@ -108,7 +108,7 @@ fn count_left(alloc: Global, pair: &mut RtlPair) -> Result<Left, AllocError> {
     })
 }
 
-/// How many nodes of one function of a text are left; nothing where it has no RTL.
+/// How many nodes of one function of a text remain, or `None` if the function has no RTL.
 pub fn left_of(alloc: Global, text: &[u8], function: usize) -> Result<Option<Left>, Fail> {
     let Some(mut pair) = pair_of(alloc, text, function)? else {
         return Ok(None);

@@ -1,4 +1,4 @@
-// Functions of some 4,000 nodes over 200 variables that are live around a loop, in a test's time.
+// Functions of some 4,000 nodes over 200 variables that are live around a loop, within a test's time.
 
 use super::helpers::{Left, left_of};
 use std::alloc::{AllocError, Global};
@@ -6,7 +6,7 @@ use std::fmt::Write;
 use std::test::Fail;
 use tests_texts::verdict::each_passes;
 
-// A function that reads 200 variables and then, in a loop, moves each to the one before this many times, and returns one value.
+// A function that reads 200 variables, moves each to the one before it this many times in a loop, and returns one value.
 fn rotating(alloc: Global, times: usize, value: &str) -> Result<String, AllocError> {
     let mut text = String::new(alloc);
     text.push_str("int main(void){")?;
@@ -24,9 +24,10 @@ fn rotating(alloc: Global, times: usize, value: &str) -> Result<String, AllocErr
     Ok(text)
 }
 
-/// How often the variables move, which value is returned, and how many nodes are no nops: at first, without dead ones, without faint
-/// ones. A declaration takes a constant, which is dead, a read and a move, the loop a nop, a read and a branch, and a return of a
-/// constant two nodes. Where no variable is returned, what `v0` first gets is read by nobody, since the loop sets it first.
+/// How often the variables move, which value is returned, and how many nodes are not nops: at first, without dead nodes, and
+/// without faint ones. A declaration takes a constant, which is dead, a read and a move; the loop takes a nop, a read and a
+/// branch; and returning a constant takes two nodes. If no variable is returned, nothing reads the first value of `v0`, since the
+/// loop sets `v0` first.
 type Row = (usize, &'static str, Left);
 
 static ROTATIONS: [Row; 3] = [

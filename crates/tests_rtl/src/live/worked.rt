@@ -1,11 +1,12 @@
-// Live sets worked by hand from the rule (what a node reads and, but for its result, what is live behind it), and which nodes go.
+// Live sets worked out by hand from the rule (what a node reads, and what is live after it except its result), and which nodes
+// are dropped.
 
 use super::helpers::{Asked, asked_of};
 use std::alloc::Global;
 use std::test::Fail;
 use tests_texts::verdict::each_passes;
 
-/// A text, what is asked of its first function, and the answer.
+/// A text, what is asked about its first function, and the answer.
 type Row = (&'static str, Asked, &'static str);
 
 fn is_answered(alloc: Global, row: &Row) -> Result<bool, Fail> {
@@ -16,7 +17,7 @@ fn is_answered(alloc: Global, row: &Row) -> Result<bool, Fail> {
 }
 
 static ANSWERS: [Row; 11] = [
-    // a parameter that is returned; behind the return stands what a function that runs off its end returns
+    // a parameter that is returned; after the return comes the value that a function returns when it runs off its end
     (
         "int f(int x){return x;}int main(void){}",
         Asked::Sets,
@@ -26,7 +27,7 @@ static ANSWERS: [Row; 11] = [
 3: r1
 ",
     ),
-    // a branch: one way needs the parameter, the other nothing; a call takes its result out and puts its argument in
+    // a branch: one way needs the parameter, the other needs nothing; a call takes its result out and puts its arguments in
     (
         "int f(int n){if(n)return f(n-1);return 7;}int main(void){write_word(f(1022));}",
         Asked::Sets,
@@ -42,7 +43,7 @@ static ANSWERS: [Row; 11] = [
 9: r2
 ",
     ),
-    // a loop: the sum and the count are live all round it
+    // a loop: the sum and the count are live all around it
     (
         "int f(int n){int s=0;while(n){s=s+n;n=n-1;}return s;}int main(void){}",
         Asked::Sets,
@@ -77,7 +78,7 @@ static ANSWERS: [Row; 11] = [
 10: return r2
 ",
     ),
-    // a product that nobody reads goes, its factor stays for now
+    // a product that nothing reads is dropped; its factor stays at first
     (
         "int main(void){int x=read_word();int y=x*7;write_word(x);}",
         Asked::WithoutDead,
@@ -95,7 +96,7 @@ static ANSWERS: [Row; 11] = [
 10: return r3
 ",
     ),
-    // and goes with it
+    // and is dropped together with it
     (
         "int main(void){int x=read_word();int y=x*7;write_word(x);}",
         Asked::WithoutFaint,
@@ -113,7 +114,7 @@ static ANSWERS: [Row; 11] = [
 10: return r3
 ",
     ),
-    // of a chain of products one goes at a time
+    // of a chain of products one is dropped at a time
     (
         "int f(int x){int a=x*2;int b=a*3;int c=b*5;return x;}int main(void){}",
         Asked::WithoutDead,
@@ -153,7 +154,7 @@ static ANSWERS: [Row; 11] = [
 12: return r4
 ",
     ),
-    // two moves in a loop that only read each other are live
+    // two moves in a loop that are read only by each other are live
     (
         "int f(int n){int a=1;int b=2;while(n){a=b;b=a;n=n-1;}return n;}int main(void){}",
         Asked::WithoutDead,
@@ -174,7 +175,7 @@ static ANSWERS: [Row; 11] = [
 13: return r3
 ",
     ),
-    // and not strongly live
+    // but not strongly live
     (
         "int f(int n){int a=1;int b=2;while(n){a=b;b=a;n=n-1;}return n;}int main(void){}",
         Asked::WithoutFaint,
@@ -195,7 +196,7 @@ static ANSWERS: [Row; 11] = [
 13: return r3
 ",
     ),
-    // a load goes; a read and a call stay, though nobody reads what they give
+    // a load is dropped; a read and a call stay, though nothing reads their results
     (
         "int a[3];int f(int x){int y=a[x];int z=read_word();int w=f(x);return x;}int main(void){}",
         Asked::WithoutFaint,

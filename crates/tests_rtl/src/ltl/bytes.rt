@@ -5,11 +5,11 @@ use std::alloc::Global;
 use std::test::Fail;
 use tests_texts::verdict::{each_passes, passes};
 
-// One block with label 0 that returns, no slots, entry 0.
+// One block with label 0 that returns, without slots, and entry 0.
 static RETURNS: [u8; 21] =
     *b"\x00\x00\x00\x00\x00\x00\x00\x00\x01\x00\x00\x00\x00\x00\x00\x00\x00\x00\x0a\x00\x00";
 
-// Three slots, three blocks: two parameters are put into slots, their difference is taken, and returned.
+// Three slots and three blocks: two parameters are put into slots, and their difference is computed and returned.
 static DIFFERENCE: [u8; 78] =
     *b"\x03\x00\x00\x00\x00\x00\x00\x00\x03\x00\x00\x00\x00\x00\x00\x00\x02\x00\x02\x00\x00\x0a\x02\x01\x00\x0b\x00\x01\x00\x00\x00\x00\x00\x01\x00\x00\x00\x02\x00\x01\x07\x00\x00\x01\x08\x01\x00\x03\x01\x07\x07\x08\x2c\x01\x00\x00\x02\x00\x02\x02\x00\x07\x00\x09\x07\x2c\x01\x00\x00\x01\x00\x01\x0a\x02\x00\x0a\x00\x00";
 
@@ -17,7 +17,7 @@ static DIFFERENCE: [u8; 78] =
 static KINDS: [u8; 193] =
     *b"\x01\x00\x00\x00\x00\x00\x00\x00\x0b\x00\x00\x00\x00\x00\x00\x00\x00\x00\x00\x01\x00\x00\x00\x00\x00\x01\x00\x00\x00\x00\x00\x01\x07\xff\xff\xff\xff\x02\x00\x00\x00\x00\x00\x02\x00\x00\x00\x00\x00\x02\x01\x08\x07\x03\x00\x00\x00\x00\x00\x03\x00\x00\x00\x00\x00\x03\x12\x1f\x08\x07\x04\x00\x00\x00\x00\x00\x04\x00\x00\x00\x00\x00\x04\x04\x02\x00\x00\x00\x09\x1f\x05\x00\x00\x00\x00\x00\x05\x00\x00\x00\x00\x00\x05\x04\x02\x01\x00\x00\x09\x08\x06\x00\x00\x00\x00\x00\x06\x00\x00\x00\x01\x00\x00\x0a\x09\x06\x3f\x00\x00\x00\x07\x00\x00\x00\x01\x00\x02\x00\x00\x0a\x07\x00\x00\x00\x00\x00\x07\x08\x00\x00\x00\x00\x00\x08\x00\x00\x00\x00\x00\x08\x09\x00\x00\x00\x00\x00\x09\x00\x00\x00\x00\x00\x09\x07\x00\x00\x00\x00\xff\xff\xff\xff\x00\x00\xff\xff\xff\xff\x00\x00\x0a\x00\x00";
 
-// Whether the bytes are a function; then its own bytes are these.
+// Whether the bytes are a function. Fails if that function is written as other bytes.
 fn is_function(alloc: Global, bytes: &[u8]) -> Result<bool, Fail> {
     match read_ltl(alloc, bytes) {
         Ok(ltl) => {
@@ -38,7 +38,7 @@ fn is_function(alloc: Global, bytes: &[u8]) -> Result<bool, Fail> {
     }
 }
 
-// Whether bytes with one of them changed are a function.
+// Whether the bytes with one of them changed are a function.
 fn is_changed(alloc: Global, bytes: &[u8], place: usize, value: u8) -> Result<bool, Fail> {
     let mut changed = Vec::from_slice(alloc, bytes)?;
     match changed.get_mut(place) {
@@ -73,7 +73,7 @@ fn shorter_and_longer_bytes_are_damaged(rt: HostRuntime) -> Result<(), Fail> {
     passes(is_damaged(rt.alloc(), &RETURNS[..20]))
 }
 
-// Each byte of the three blocks in turn, and each value: another function, or none.
+// Each byte of the three blocks in turn, with each value: either another function or none.
 #[test]
 fn each_byte_changed(rt: HostRuntime) -> Result<(), Fail> {
     let mut functions = 0u32;
@@ -87,7 +87,7 @@ fn each_byte_changed(rt: HostRuntime) -> Result<(), Fail> {
     passes(Ok(functions > 78))
 }
 
-// A byte of the function with each operation, and whether a function is left.
+// The index of a byte of the function with each operation, a new value of it, and whether the bytes are still a function.
 type Limit = (usize, u8, bool);
 
 fn is_limit(alloc: Global, row: &Limit) -> Result<bool, Fail> {
@@ -103,7 +103,7 @@ static LIMITS: [Limit; 21] = [
     // 257 and 513 slots
     (1, 1, true),
     (1, 2, false),
-    // an operation, an operator of one word and of two words, a move: each the last that there is, and one more
+    // an operation, an operator on one word and one on two words, a move: the last one of each, and one more
     (18, 8, true),
     (18, 11, false),
     (50, 2, true),
@@ -117,7 +117,7 @@ static LIMITS: [Limit; 21] = [
     (32, 5, false),
     (32, 31, true),
     (32, 32, false),
-    // the slot that is their number
+    // the slot whose number is the number of slots
     (137, 1, false),
     // the label before and the one after
     (25, 0, false),
@@ -129,7 +129,7 @@ static LIMITS: [Limit; 21] = [
     (83, 5, false),
 ];
 
-// What comes behind the bytes of a function up to its block's operation, and whether that is a function.
+// What comes after the bytes of a function up to its block's operation, and whether that is a function.
 type Tail = (&'static [u8], bool);
 
 fn is_with_tail(alloc: Global, row: &Tail) -> Result<bool, Fail> {
@@ -152,7 +152,7 @@ fn no_move_stands_behind_a_branch_or_a_return(rt: HostRuntime) -> Result<(), Fai
     each_passes(rt.alloc(), &table, is_with_tail)
 }
 
-// The bytes of a function, and what it prints.
+// The bytes of a function, and its listing.
 type Listed = (&'static [u8], &'static str);
 
 fn is_listed(alloc: Global, row: &Listed) -> Result<bool, Fail> {

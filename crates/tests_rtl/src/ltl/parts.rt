@@ -14,7 +14,7 @@ fn registers_and_slots(rt: HostRuntime) {
     );
 }
 
-// A block of this label with these moves before and no move after.
+// A block with this label, with these moves before its operation and none after.
 fn block(
     alloc: Global,
     label: u32,
@@ -35,7 +35,7 @@ fn block(
     })
 }
 
-// Two blocks of these labels, in a function with this many slots: the first has x10 from slot 2, the second returns.
+// Two blocks with these labels, in a function with this many slots: the first loads x10 from slot 2, and the second returns.
 fn two_blocks(alloc: Global, slots: u16, first: u32, second: u32) -> Result<Option<Ltl>, Fail> {
     let (Some(to), Some(slot)) = (Register::new(10), Slot::new(2)) else {
         return Err(Fail::from("no register"));
@@ -57,7 +57,7 @@ fn two_blocks(alloc: Global, slots: u16, first: u32, second: u32) -> Result<Opti
     }
 }
 
-// Slots, two labels, and whether there is such a function.
+// The number of slots, two labels, and whether such a function exists.
 type Parts = (u16, u32, u32, bool);
 
 fn is_made(alloc: Global, row: &Parts) -> Result<bool, Fail> {

@@ -6,6 +6,7 @@ use super::reading::{absent_at, done_at, is_found, number};
 use super::starting::{ALL, Begun, Fused, Own, SMALL, adds, begin, ended, opened, prepared};
 use super::trial::{Trial, succeeds};
 use crate::helpers::{TEXTS, opened as opened_library};
+use cc_library::SpaceUse;
 use cc_link::Mode;
 use cc_pool::NoGate;
 use cc_service::{BookFault, Client, MOST_CLIENTS, Named, ServiceFault};
@@ -48,6 +49,18 @@ fn are_answered<N: Own, R: Wait>(
         && is_found(service.get(rt, alloc, client, b"a"), 2, SMALL)
         && done_at(service.withdraw(rt, alloc, client, b"a")) == 3
         && absent_at(service.get(rt, alloc, client, b"a")) == 4
+        && has_no_unit(service.space(rt))
+}
+
+// Whether there are records, which a compaction would leave out.
+fn has_no_unit(answer: Result<SpaceUse, ServiceFault>) -> bool {
+    match answer {
+        Ok(space) => (space.compacted, space.units) == (0, 0) && 9 < space.used,
+        Err(fault) => {
+            drop(fault);
+            false
+        }
+    }
 }
 
 // The service, whose end is refused without its client, and whether it is as it has to be.

@@ -21,11 +21,12 @@ fn a_failed_add(rt: HostRuntime) -> Result<(), Fail> {
     succeeds(&rt, rt.alloc(), OPENING + 2, 1, NoGate, Trial::FailsOnce)
 }
 
-/// The first change fails, the next is refused, a look is answered; the disk has nothing.
+/// The first change fails, the next and a look at the space are refused, a look at a name is answered; the disk has nothing.
 pub fn fails_once<N: Own, R: Wait>(rt: &R, alloc: Global, service: Fused<N>) -> Result<bool, Fail> {
     let mut client = service.client(rt, alloc)?;
     let right = number(service.add(rt, alloc, &mut client, b"a", SMALL)) == 35
         && number(service.add(rt, alloc, &mut client, b"b", SMALL)) == 36
+        && number(service.space(rt)) == 36
         && absent_at(service.get(rt, alloc, &mut client, b"a")) == 1;
     let closed = ended(rt, alloc, service, alone(alloc, client)?)?;
     Ok(right && holds(alloc, closed.library.into_disk(), &EMPTY, &EMPTY)?)

@@ -172,3 +172,26 @@ fn is_closed(alloc: Global) -> Result<bool, Fail> {
 fn a_closed_library(rt: HostRuntime) -> Result<(), Fail> {
     passes(is_closed(rt.alloc()))
 }
+
+// Whether a library takes so many bytes of its area, would take so many after a compaction, and has so many units.
+fn takes<D: Disk>(library: &Library<D>, used: usize, compacted: usize, units: usize) -> bool {
+    let space = library.space();
+    (space.area, space.used) == (AREA as usize, used)
+        && (space.compacted, space.units) == (compacted, units)
+}
+
+fn is_measured(alloc: Global) -> Result<bool, Fail> {
+    let mut library = opened(alloc, formatted(alloc, AREA)?)?;
+    let empty = takes(&library, 0, 0, 0);
+    let one = steps_done(alloc, &mut library, &FOUR[..1])? == 1 && takes(&library, 25, 25, 1);
+    let four = steps_done(alloc, &mut library, &FOUR[1..])? == 3 && takes(&library, 100, 50, 2);
+    let compacted = number(library.compact(alloc)) == 0 && takes(&library, 50, 50, 2);
+    let withdrawn = number(library.withdraw(alloc, name(b'a')?)) == 0;
+    Ok(empty && one && four && compacted && withdrawn && takes(&library, 59, 25, 1))
+}
+
+// The record of a withdrawal takes 5 bytes and 4: version, kind, and the name with its length.
+#[test]
+fn how_much_is_taken(rt: HostRuntime) -> Result<(), Fail> {
+    passes(is_measured(rt.alloc()))
+}

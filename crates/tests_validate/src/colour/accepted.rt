@@ -1,4 +1,4 @@
-// The validator refuses none of the answers.
+// The validator refuses none of the allocator's answers.
 
 use super::functions::all_are_accepted;
 use std::test::Fail;

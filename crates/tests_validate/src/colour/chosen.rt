@@ -8,7 +8,7 @@ use std::alloc::Global;
 use std::test::Fail;
 use tests_texts::verdict::{each_passes, passes};
 
-// The LTL of the first function, where the validator takes all functions of the text.
+// The LTL of the first function, if the validator accepts all functions of the text.
 fn right(alloc: Global, text: &str) -> Result<Option<Ltl>, Fail> {
     if all_are_accepted(alloc, text.as_bytes())? {
         Ok(Some(first_coloured(alloc, text.as_bytes())?))
@@ -17,7 +17,7 @@ fn right(alloc: Global, text: &str) -> Result<Option<Ltl>, Fail> {
     }
 }
 
-// Whether it is accepted, and the moves between registers are this many, and none has a slot.
+// Whether the text is accepted, has this many moves between registers, and uses no slot.
 fn has_moves(alloc: Global, text: &str, between: usize) -> Result<bool, Fail> {
     match right(alloc, text)? {
         Some(ltl) => {
@@ -32,7 +32,7 @@ fn has_moves(alloc: Global, text: &str, between: usize) -> Result<bool, Fail> {
     }
 }
 
-// Parameters are taken, passed on and returned where they are.
+// Parameters are taken, passed on and returned without a move.
 static WITHOUT_MOVES: [&str; 5] = [
     "int f(int x){return x;}int main(void){}",
     "int f(int a,int b){return a-b;}int main(void){}",
@@ -86,7 +86,7 @@ fn a_cycle_of_moves_takes_one_more(rt: HostRuntime) -> Result<(), Fail> {
     )
 }
 
-// Whether the first function of a text has so many slots, and saves registers that calls keep, or none.
+// Whether the first function of a text has this many slots, and whether it saves registers that calls keep.
 fn has_slots(alloc: Global, text: &str, slots: u16, saves: bool) -> Result<bool, Fail> {
     match right(alloc, text)? {
         Some(ltl) => Ok(ltl.slots() == slots && saves_registers(&ltl) == saves),
@@ -94,7 +94,7 @@ fn has_slots(alloc: Global, text: &str, slots: u16, saves: bool) -> Result<bool,
     }
 }
 
-// What lives over the calls of a loop stands in registers that calls keep; what lives over a service of the machine needs none of these.
+// What lives across the calls of a loop is in registers that calls keep; what lives across a service of the machine needs none of these.
 #[test]
 fn what_lives_over_calls_in_a_loop_is_in_saved_registers(rt: HostRuntime) -> Result<(), Fail> {
     let calls =
@@ -105,14 +105,14 @@ fn what_lives_over_calls_in_a_loop_is_in_saved_registers(rt: HostRuntime) -> Res
     passes(has_slots(rt.alloc(), services, 0, false))
 }
 
-// What lives over one call is cheaper in a slot than in a register that has to be saved.
+// What lives across one call is cheaper in a slot than in a register that has to be saved.
 #[test]
 fn what_lives_over_one_call_is_in_a_slot(rt: HostRuntime) -> Result<(), Fail> {
     let text = "int f(int n){if(n<2)return n;return f(n-1)+f(n-2);}int main(void){}";
     passes(has_slots(rt.alloc(), text, 2, false))
 }
 
-// Of more values than there are registers those stay in registers that the loop uses: no block that multiplies has a slot.
+// If there are more values than registers, those that the loop uses stay in registers: no block that multiplies uses a slot.
 static CROWDED: &str =
     "int f(int n){int a=read_word();int b=read_word();int c=read_word();int d=read_word();int e=read_word();int g=read_word();int h=read_word();int i=read_word();int j=read_word();int k=read_word();int l=read_word();int m=read_word();int o=read_word();int p=read_word();int q=read_word();int r=read_word();int s=read_word();int t=read_word();int u=read_word();int v=read_word();int w=read_word();int x=read_word();int y=read_word();int z=read_word();int aa=read_word();int ab=read_word();int ac=read_word();int ad=read_word();int ae=1;while(n>0){ae=ae*n;n=n-1;}return a+b+c+d+e+g+h+i+j+k+l+m+o+p+q+r+s+t+u+v+w+x+y+z+aa+ab+ac+ad+ae;}int main(void){}";
 

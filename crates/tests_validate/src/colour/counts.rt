@@ -1,8 +1,8 @@
-// How many moves there are, and which registers stand in a function.
+// How many moves there are, and which registers a function uses.
 
 use cc_ltl::{Block, Ltl, Move, Operation, Register};
 
-/// Moves of a function, by their kinds.
+/// How many moves of each kind there are.
 #[derive(Clone, Copy, PartialEq, Eq)]
 pub struct Counts {
     pub between: usize,
@@ -46,12 +46,12 @@ pub fn function_counts(ltl: &Ltl) -> Counts {
     counts
 }
 
-/// How many moves have a slot.
+/// How many moves read or write a slot.
 pub fn slot_moves(counts: Counts) -> usize {
     counts.reloads.saturating_add(counts.spills)
 }
 
-// Whether a call gives a register back as it got it: x8, x9, x18 to x27.
+// Whether a call keeps a register: x8, x9, x18 to x27.
 fn is_saved(register: Register) -> bool {
     let number = register.number();
     number == 8 || number == 9 || (18..=27).contains(&number)
@@ -78,7 +78,7 @@ fn moves_write(moves: &[Move]) -> bool {
     false
 }
 
-/// Whether a function uses a register that it has to give back.
+/// Whether a function writes a register whose value it has to restore.
 pub fn saves_registers(ltl: &Ltl) -> bool {
     for block in ltl.blocks() {
         if is_written(block)

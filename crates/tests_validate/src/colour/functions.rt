@@ -1,4 +1,4 @@
-// From a text to a function's RTL without what nobody needs, and to its registers.
+// From a text to a function's RTL without operations whose results nobody needs, and to its allocation.
 
 use crate::pairs;
 use crate::pairs::unit_of;
@@ -12,14 +12,14 @@ use std::alloc::Global;
 use std::sync::Arc;
 use std::test::Fail;
 
-/// The RTL of one function, without what nobody needs.
+/// The RTL of one function, without operations whose results nobody needs.
 pub fn pair_of(alloc: Global, unit: &Arc<TypedUnit>, function: usize) -> Result<RtlPair, Fail> {
     let mut pair = pairs::pair_of(alloc, unit, function)?;
     drop_faint(alloc, &mut pair)?;
     Ok(pair)
 }
 
-/// Its LTL in registers.
+/// Its LTL, as the allocator makes it.
 pub fn coloured(alloc: Global, pair: &RtlPair) -> Result<Ltl, Fail> {
     let live = liveness(alloc, pair.code())?;
     let ltl = colour(alloc, pair.code(), &live)?;
@@ -36,7 +36,7 @@ pub fn first_coloured(alloc: Global, text: &[u8]) -> Result<Ltl, Fail> {
     Ok(ltl)
 }
 
-/// Whether the validator takes the registers of one function of a unit.
+/// Whether the validator accepts the allocation of one function of a unit.
 pub fn is_accepted(alloc: Global, unit: &Arc<TypedUnit>, function: usize) -> Result<bool, Fail> {
     let pair = pair_of(alloc, unit, function)?;
     let ltl = coloured(alloc, &pair)?;
@@ -52,7 +52,7 @@ pub fn is_accepted(alloc: Global, unit: &Arc<TypedUnit>, function: usize) -> Res
     }
 }
 
-/// Whether it takes those of all functions of a text.
+/// Whether it accepts those of all functions of a text.
 pub fn all_are_accepted(alloc: Global, text: &[u8]) -> Result<bool, Fail> {
     let unit = unit_of(alloc, text)?;
     for function in 0..unit.functions() {

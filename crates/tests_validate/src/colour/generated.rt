@@ -1,4 +1,4 @@
-// Functions that are large in one respect: values alive at once, moves, loops within one another, arguments.
+// Functions that are large in one respect: values alive at once, moves, nested loops, arguments.
 
 use super::functions::all_are_accepted;
 use std::alloc::{AllocError, Global};
@@ -20,7 +20,7 @@ fn put_name(text: &mut Vec<u8>, number: usize) -> Result<(), AllocError> {
     Ok(())
 }
 
-// Each of these variables, with this before it and that behind it.
+// Each of these variables, with one text before it and another after it.
 fn put_each(
     text: &mut Vec<u8>,
     before: &str,
@@ -35,7 +35,7 @@ fn put_each(
     Ok(())
 }
 
-// So many variables, read one after the other and then added up.
+// This many variables, which are read one after the other and then added up.
 fn many_alive(alloc: Global, count: usize) -> Result<Vec<u8>, AllocError> {
     let mut text = Vec::new(alloc);
     put(&mut text, "int main(void){")?;
@@ -64,7 +64,7 @@ fn put_move(text: &mut Vec<u8>, to: usize, from: usize) -> Result<(), AllocError
     put(text, ";")
 }
 
-// Variables that are passed round in a loop, this many.
+// This many variables, which are passed round in a loop.
 fn turning(alloc: Global, count: usize) -> Result<Vec<u8>, AllocError> {
     let mut text = Vec::new(alloc);
     put(&mut text, "int main(void){int t=0;")?;
@@ -97,7 +97,7 @@ fn put_loop(text: &mut Vec<u8>, number: usize) -> Result<(), AllocError> {
     put(text, "++)")
 }
 
-// Loops within one another, each with a counter that is called with, as deep as statements go.
+// Nested loops, as deep as statements go; each has a counter, and the innermost one passes their sum to a call.
 fn nested(alloc: Global, depth: usize) -> Result<Vec<u8>, AllocError> {
     let mut text = Vec::new(alloc);
     put(

@@ -1,4 +1,4 @@
-// A text's functions, as Linear. Their LTL is the allocation that keeps each register in a slot of its own.
+// A text's functions, as Linear. Their LTL is the allocation with a slot of its own for each register.
 
 use crate::pairs::{pair_of, unit_of};
 use cc_colour::spill_all;
@@ -28,7 +28,7 @@ pub fn linear_of(
     }
 }
 
-/// Whether each function of a text goes through, names itself and its unit, and there are this many.
+/// Whether there are this many functions in a text, and each goes through and names itself and its unit.
 pub fn all_go_through(alloc: Global, text: &[u8], functions: usize) -> Result<bool, Fail> {
     let unit = unit_of(alloc, text)?;
     let mut right = unit.functions() == functions;

@@ -1,4 +1,4 @@
-// What the turns of loops execute: the items from a label to a branch back to it hold the loop's own test, and those of what stands within.
+// What the turns of loops execute: the items from a label to a branch back to it are the loop's own test and what is within the loop.
 
 use super::helpers::linear_of;
 use crate::pairs::unit_of;
@@ -7,7 +7,7 @@ use std::alloc::Global;
 use std::test::Fail;
 use tests_texts::verdict::passes_for;
 
-/// A turn: how many branches and how many jumps stand in it.
+/// A turn: how many branches and how many jumps are in it.
 type Turn = (usize, usize);
 
 // Where an item branches to.
@@ -18,7 +18,7 @@ fn target(item: LinearItem) -> Option<u32> {
     }
 }
 
-// The branches and jumps among items, from the label on; none where the label does not stand.
+// The branches and jumps among items after a label; `None` if the label is not there.
 fn turn(items: &[LinearItem], head: u32) -> Option<Turn> {
     let mut found = false;
     let mut branches = 0_usize;
@@ -61,7 +61,7 @@ fn has_turns(alloc: Global, text: &str, turns: &[Turn]) -> Result<bool, Fail> {
     Ok(right)
 }
 
-/// A text, and the turns of its last function. A turn of a loop within another begins with a jump to its test, behind its body.
+/// A text, and the turns of its last function. A turn of a nested loop begins with a jump to its test, which is after its body.
 static LOOPS: [(&str, &[Turn]); 9] = [
     ("int x;int main(void){while(x)x--;}", &[(1, 0)]),
     ("int x;int main(void){do x--;while(x);}", &[(1, 0)]),
@@ -70,12 +70,12 @@ static LOOPS: [(&str, &[Turn]); 9] = [
         "int main(void){int i;for(i=0;i<9;i++)write_word(i);}",
         &[(1, 0)],
     ),
-    // one loop behind another, and after an `if` that stands before it
+    // one loop after another, and after an `if`
     (
         "int x;int main(void){if(x){x=x+2;x=x+3;}while(x)x--;while(x)x++;}",
         &[(1, 0), (1, 0)],
     ),
-    // loops within one another: the inner turn has no jump, the outer one that into the inner
+    // nested loops: a turn of the inner one has no jump, a turn of the outer one has the jump into the inner one
     (
         "int main(void){int i;int j;for(i=0;i<2;i++)for(j=0;j<3;j++)write_word(j);}",
         &[(1, 0), (2, 1)],

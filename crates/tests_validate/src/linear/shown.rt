@@ -1,5 +1,5 @@
 // The text of the Linear of whole functions, worked by hand from the rules in `docs/INTERMEDIATE.md`: the nodes of RTL, the blocks that
-// stand for them with each register in its slot, and the order of blocks.
+// come of them with a slot for each register, and the order of blocks.
 
 use super::helpers::LinearStage;
 use std::test::Fail;
@@ -7,7 +7,7 @@ use tests_texts::stages::shows_all;
 
 /// A text, the number of a function, and the text of its Linear.
 static SHOWN: [(&str, usize, &str); 4] = [
-    // one block after the other; what stands behind the return is never reached
+    // one block after the other; what comes after the return is never reached
     (
         "int f(int a,int b){return a-b;}int main(void){}",
         0,
@@ -22,8 +22,8 @@ static SHOWN: [(&str, usize, &str); 4] = [
   return
 ",
     ),
-    // a loop's test, which comes first, stands behind its body: RTL is 0: nop -> 4, 1: branch r0 -> 2, 5, 2: r1 = 1 -> 3,
-    // 3: r0 = sub r0, r1 -> 4, 4: nop -> 1, 5: return r0
+    // a loop's test, which is executed first, comes after its body: RTL is 0: nop -> 4, 1: branch r0 -> 2, 5, 2: r1 = 1 -> 3, 3: r0 = sub
+    // r0, r1 -> 4, 4: nop -> 1, 5: return r0
     (
         "int f(int n){while(n)n=n-1;return n;}int main(void){}",
         0,
@@ -44,7 +44,7 @@ static SHOWN: [(&str, usize, &str); 4] = [
   return
 ",
     ),
-    // an endless loop that does nothing stays; its two empty blocks, the entry and the head's way back, are passed over
+    // an endless loop that does nothing stays; its two empty blocks, the entry and the way back to its head, are skipped
     (
         "int main(void){for(;;);write_word(1);}",
         0,
@@ -66,7 +66,8 @@ static SHOWN: [(&str, usize, &str); 4] = [
   return
 ",
     ),
-    // the way for a word that is 0 follows the branch, unless it follows another block, as what is behind an `if` follows what is under it
+    // the way for a word that is 0 follows the branch, unless it follows another block, as what comes after an `if` follows the body of the
+    // `if`
     (
         "int f(int n){if(n)return f(n-1);return 7;}int main(void){}",
         0,

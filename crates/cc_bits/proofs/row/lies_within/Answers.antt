@@ -1,4 +1,4 @@
--- One word more; a word that has a bit more.
+-- One more word; and a word with a bit that the other one lacks.
 use Rattle.std.proofs.Common.{refl, get_or}
 use Rattle.cc_bits.proofs.Bits.{one_within, one_outside}
 use Rattle.cc_bits.proofs.row.lies_within.Goals as goal

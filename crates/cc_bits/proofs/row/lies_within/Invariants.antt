@@ -1,4 +1,4 @@
--- The words before hold nothing that the other row does not.
+-- The words so far hold nothing that the other row does not hold.
 use Rattle.cc_bits.proofs.Bits.{WithinFirst}
 use Rattle.cc_bits.proofs.row.lies_within.Given as goal
 

@@ -3,6 +3,6 @@ use Rattle.cc_cminor.specs.Code as code
 use Rattle.cc_cminor.specs.internal.Lowering.{locals_from}
 use Rattle.cc_cminor.proofs.expressions.locals_from.Given as goal
 
--- with those that are left they are all
+-- together with the remaining ones they are all
 abbrev pub invariant-loop-variable : goal.invariant-loop-variable
 invariant-loop-variable l = code.expressions_of l.all.items ++ locals_from l.variable (l.variable-end - l.variable) ≡ locals_from l.fn.k l.fn.count

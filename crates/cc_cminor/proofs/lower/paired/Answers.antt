@@ -1,4 +1,4 @@
--- What the pair's type keeps, from the laws of the meaning at this unit.
+-- What the pair's type guarantees, by the laws of the meaning for this unit.
 use Rattle.std.proofs.Common.{refl, subst}
 use Rattle.std.specs.Arc.{arc_value}
 use Rattle.cc_ast.specs.Source.{source}

@@ -1,4 +1,4 @@
--- Scopes, which leave the names as they were, `for`, and lists statement by statement.
+-- Scopes, which leave the names as they were; `for`; and lists, statement by statement.
 use Rattle.std.proofs.Common.{◌≡◌, ◌+◌, ◌++◌, ◌∙◌, List, [], ◌∷◌, drop, rules, sym, ap, subst}
 use Rattle.cc_ast.specs.Erase.{optional_tree, optional_action, beginning_tree, statement_tree, statements_of}
 use Rattle.cc_ast.specs.Tree.{Block}

@@ -1,4 +1,4 @@
--- The area that fits, and none below the least.
+-- An area that fits; no area below the least one fits.
 use Rattle.std.proofs.Common.{ℕ, ◌≤◌, ◌<◌, ◌-◌, ◌^◌}
 use Rattle.cc_copy.specs.Copy.{room_for}
 use Rattle.cc_copy.proofs.filling.least_area.Given as goal

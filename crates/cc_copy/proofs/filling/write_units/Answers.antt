@@ -1,10 +1,21 @@
 -- The records are one Add a name, which stand for the map.
-use Rattle.std.proofs.Common.{ℕ, List, sym, subst}
+use Rattle.std.proofs.Common.{◌≡◌, ◌∙◌, ℕ, List, sym, subst}
+use Rattle.cc_journal.specs.Format.{AllHold}
+use Rattle.cc_library.specs.Compact.{compacted}
 use Rattle.cc_library.specs.Recovered.{StandFor}
 use Rattle.cc_library.proofs.Compacting.{adds_stand, spelled_compacted}
 use Rattle.cc_library.proofs.Standing.{holds_recovers}
 use Rattle.cc_copy.proofs.Filled.{commit_refused}
 use Rattle.cc_copy.proofs.filling.write_units.Goals as goal
+
+pub returns-in-Ok-rewrite-clause-records : goal.returns-in-Ok-rewrite-clause-records
+returns-in-Ok-rewrite-clause-records g c = λ h.
+    let D = g.D.Disk in
+    let j = c.rewrite.new.self in
+    let units = c.args.units.now in
+    let bodies_are : j.bodies ≡ compacted units = c.in-Ok-rewrite.ensures.rewritten ∙ spelled_compacted c.in-Ok.bodies.items units c.in-Ok.ensures in
+    subst (λ (a : ℕ). AllHold (D.may_leave j.disk) a (compacted units)) c.rewrite.ensures.area
+    (subst (λ (bs : List (List ℕ)). AllHold (D.may_leave j.disk) j.area bs) bodies_are (c.in-Ok-rewrite.ensures.kept h))
 
 pub returns-in-Ok-rewrite-clause-copied : goal.returns-in-Ok-rewrite-clause-copied
 returns-in-Ok-rewrite-clause-copied g c = λ h image left.

@@ -6,7 +6,7 @@ use Rattle.cc_copy.proofs.Audited.{judged_more}
 use Rattle.cc_copy.proofs.judging.judge.Goals as goal
 
 pub loop-name-preserved : goal.loop-name-preserved
-loop-name-preserved c =
+loop-name-preserved g c =
     let units = c.args.units.now in
     let name = c.name-item.result in
     let unit : StoredUnit = c.deref.result.now in

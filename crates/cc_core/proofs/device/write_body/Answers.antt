@@ -1,4 +1,4 @@
--- Where memory runs out the step is due, so the event has one.
+-- If memory runs out, the step is due, so the event has a step.
 use Rattle.std.proofs.Common.{refl}
 use Rattle.cc_core.specs.declared.contents.Due.TheVariants as due
 use Rattle.cc_core.specs.Step.{Advances}

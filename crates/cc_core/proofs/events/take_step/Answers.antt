@@ -1,4 +1,4 @@
--- Each arm answers as its handler does; `begin` alone puts a command in the order, and `finish` alone hands in a piece.
+-- Each arm answers as its handler does; only `begin` puts a command in the order, and only `finish` hands in a piece.
 use Rattle.std.proofs.Common.{refl, sym, subst}
 use Rattle.cc_core.specs.declared.contents.Due.TheVariants as due
 use Rattle.cc_core.specs.declared.contents.RewriteDue.TheVariants as left

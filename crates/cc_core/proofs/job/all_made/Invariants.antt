@@ -1,4 +1,4 @@
--- The pieces put so far, and those made among the rest, are those made among all.
+-- The pieces so far, and those made among the rest, are those made among all.
 use Rattle.std.proofs.Common.{◌≡◌, ◌++◌, drop, map}
 use Rattle.cc_core.specs.Job.{made_pieces}
 use Rattle.cc_core.proofs.job.all_made.Given as goal

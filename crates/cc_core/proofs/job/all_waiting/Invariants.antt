@@ -1,4 +1,4 @@
--- All pieces that were put so far wait.
+-- All pieces so far wait.
 use Rattle.std.proofs.Common.{◌≡◌}
 use Rattle.std.specs.Prelude.{replicate}
 use Rattle.cc_core.specs.declared.job.Progress.TheVariants.{Waiting}

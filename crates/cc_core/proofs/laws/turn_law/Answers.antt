@@ -1,4 +1,4 @@
--- How a run goes on is said by the lemmas of Turns, one for each clause.
+-- The lemmas of Turns say how a run goes on, one for each clause.
 use Rattle.cc_core.proofs.Turns.{step_turn, Run-append, no_job, no_work, can_be_ready}
 use Rattle.cc_core.proofs.laws.turn_law.Goals as goal
 

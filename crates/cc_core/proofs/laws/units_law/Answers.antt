@@ -1,4 +1,4 @@
--- A right command keeps each unit of a map right, or right or found; the empty map has none.
+-- A right command keeps each unit of a map right, or right or found; the empty map has no units.
 use Rattle.cc_core.specs.Run.{IsRightOr}
 use Rattle.cc_core.proofs.Orders.{EachUnit-after, EachUnit-empty}
 use Rattle.cc_core.proofs.laws.units_law.Goals as goal

@@ -1,4 +1,4 @@
--- The bodies before this one were read, and their commands stand in the order with their numbers.
+-- The bodies before this one were read, and their commands are in the order with their numbers.
 use Rattle.std.proofs.Common.{drop}
 use Rattle.cc_core.proofs.Beginnings.{IsReadTo}
 use Rattle.cc_core.proofs.opening.read_order.Given as goal

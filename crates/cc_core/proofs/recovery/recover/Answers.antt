@@ -1,4 +1,4 @@
--- The disk of a crashed state can be opened, and what is found there is what the state says of it.
+-- The disk of a crashed state can be opened, and what is found there is what the state says about it.
 use Rattle.std.proofs.Common.{refl, ◌∙◌}
 use Rattle.cc_core.specs.declared.contents.Phase.TheVariants.{Idle}
 use Rattle.cc_core.specs.Step.{Reopens}

@@ -1,5 +1,5 @@
 -- The maps that are compared are those to which the disks recover.
-use Rattle.std.proofs.Common.{IsTrue, sym, subst}
+use Rattle.std.proofs.Common.{◌≡◌, IsTrue, sym, subst}
 use Rattle.cc_library.specs.Apply.{Units}
 use Rattle.cc_library.specs.Recovered.{Recovers}
 use Rattle.cc_diff.proofs.disks.diff_disks.Goals.{in-Ok-diff_maps, in-Err-diff_maps}
@@ -21,3 +21,11 @@ returns-after-diff_maps-clause-lines g c =
       })
       | in-Err-diff_maps w ↦ rw w.lines-is tt
     ]
+
+pub returns-in-Err-open-clause-refused : goal.returns-in-Err-open-clause-refused
+returns-in-Err-open-clause-refused g c =
+    let D = g.D.Disk in (
+      subst (λ (d : g.row.D.Denot). D.failures d ≡ D.failures c.args.left) (sym c.into_disk-in-Err-open.ensures) c.in-Ok.ensures.sound,
+      λ h. (c.in-Ok.left.units, c.in-Ok.ensures.recovered h),
+      c.in-Err-open.ensures.refused,
+    )

@@ -1,13 +1,11 @@
 -- The steps so far are light.
-use Rattle.std.proofs.Common.{◌≡◌, ◌+◌, ◌-◌, ◌≤◌, drop, length}
-use Rattle.cc_emit.specs.Early.{lights}
+use Rattle.std.proofs.Common.{◌-◌, ◌≤◌, length}
 use Rattle.cc_emit.proofs.Ahead.{Light}
 use Rattle.cc_emit.proofs.early.light_count.Given as goal
 
 abbrev pub invariant-loop-count : goal.invariant-loop-count
 invariant-loop-count l = record {
   light : Light l.code l.count;
-  count : lights l.code ≡ l.count + lights (drop l.count l.code);
   within : l.count ≤ length l.code;
 }
 

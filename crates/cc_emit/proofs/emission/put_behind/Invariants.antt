@@ -1,4 +1,4 @@
--- What is put, and what is still to be.
+-- The items so far, and those still to be put.
 use Rattle.std.proofs.Common.{◌≡◌, ◌++◌, drop, map}
 use Rattle.cc_emit.specs.Function.{shifted}
 use Rattle.cc_emit.proofs.emission.put_behind.Given as goal

@@ -1,4 +1,4 @@
--- What is put, and what is still to be.
+-- The items so far, and those still to be put.
 use Rattle.cc_emit.specs.internal.Bases.{base_in}
 use Rattle.cc_emit.proofs.Bridging.{Emitting}
 use Rattle.cc_emit.proofs.emission.put_code.Given as goal

@@ -1,4 +1,4 @@
--- What is put, and what is still to be.
+-- The items so far, and those still to be put.
 use Rattle.std.proofs.Common.{◌≡◌, ◌<◌, ◌+◌, ◌*◌, ◌++◌, drop}
 use Rattle.std.specs.List.{AllByRecursion}
 use Rattle.cc_emit.specs.Emission.{restoring}

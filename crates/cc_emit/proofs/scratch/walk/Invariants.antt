@@ -1,4 +1,4 @@
--- What is noted and how many instructions its accesses take, and what is still to be looked at; there is room for it.
+-- The steps so far and how many instructions their accesses take, and the steps still to be looked at; there is room for them.
 use Rattle.std.proofs.Common.{◌≡◌, ◌≤◌, length, vec_len}
 use Rattle.std.specs.Vec.{vec_capacity}
 use Rattle.cc_emit.specs.internal.Bases.{base_in}

@@ -1,4 +1,4 @@
--- A sequence is left as its list is.
+-- Exits leave a sequence as they leave its list.
 use Rattle.std.proofs.Common.{◌∙◌, ap}
 use Rattle.cc_cminor.specs.Cminor as cminor
 use Rattle.cc_cminor.proofs.Codes.{if_ok}

@@ -5,6 +5,6 @@ use Rattle.cc_cminor.specs.internal.Statements.{statements_of}
 use Rattle.cc_guard.specs.Guard.{leaves}
 use Rattle.cc_guard.proofs.changed.+leaving.Given as goal
 
--- one before leaves it, or one of those that are left
+-- a statement before leaves the block, or one of the rest does
 abbrev pub invariant-any_leaves-loop-s : goal.invariant-any_leaves-loop-s
 invariant-any_leaves-loop-s l = (l.found || leaves l.outer (in_sequence (statements_of (drop l.s-index l.all)))) ≡ leaves l.outer (in_sequence (statements_of l.all))

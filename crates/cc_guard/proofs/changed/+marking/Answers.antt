@@ -1,4 +1,4 @@
--- A sequence sets what its list does.
+-- A sequence sets the same variables as its list.
 use Rattle.std.proofs.Common.{◌+◌, List, drop, sym, subst}
 use Rattle.std.proofs.lemmas.List.{drop_all}
 use Rattle.cc_types.proofs.SameTypes.{drop-item}

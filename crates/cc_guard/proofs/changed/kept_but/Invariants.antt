@@ -2,6 +2,6 @@ use Rattle.std.proofs.Common.{◌≡◌, ◌++◌, drop}
 use Rattle.cc_guard.specs.Guard.{sets_result, kept}
 use Rattle.cc_guard.proofs.changed.kept_but.Given as goal
 
--- with what is kept of those that are left it is all that is kept
+-- with those kept of the rest they are all that is kept
 abbrev pub invariant-loop-limit : goal.invariant-loop-limit
 invariant-loop-limit l = l.limits.items ++ kept l.first (sets_result l.to) (drop l.limit-index l.known) ≡ kept l.first (sets_result l.to) l.known

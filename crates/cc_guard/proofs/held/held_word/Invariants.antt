@@ -2,6 +2,6 @@ use Rattle.std.proofs.Common.{◌≡◌, drop}
 use Rattle.cc_guard.specs.Held.{held_word}
 use Rattle.cc_guard.proofs.held.held_word.Given as goal
 
--- it is in one of the variables that are left, if it is in one
+-- if the word is in a variable, it is in one of the rest
 abbrev pub invariant-loop-held : goal.invariant-loop-held
 invariant-loop-held l = held_word (drop l.held-index l.words) l.variable l.word ≡ held_word l.words l.first l.word

@@ -1,4 +1,4 @@
--- What puts the words into variables comes first.
+-- The statements that put the words into variables come first.
 use Rattle.std.proofs.Common.{◌≡◌, ℕ, suc, ◌+◌, ◌∙◌, List, [], ◌∷◌, ◌++◌, drop, get_or, sym, ap, append-nil, append_assoc, drop-cons, arith}
 use Rattle.std.proofs.lemmas.List.{drop_all}
 use Rattle.cc_cminor.specs.Cminor.{Expression, Constant, Set}

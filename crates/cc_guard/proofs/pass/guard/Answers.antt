@@ -1,4 +1,4 @@
--- What the pair's type keeps: of the pair that was handed in, and that guarded code keeps up.
+-- What the type of a pair guarantees: of the pair that was passed, and so of the guarded code.
 use Rattle.std.proofs.Common.{refl}
 use Rattle.std.specs.Arc.{arc_value}
 use Rattle.cc_c_laws.specs.declared.mode.Mode.TheVariants.{Checked}

@@ -1,4 +1,4 @@
--- Guarded code fits, and code without guards is as it was.
+-- Guarded code fits, and code without guards stays as it was.
 use Rattle.std.proofs.Common.{◌≤◌, ◌∙◌, [], sym, ap, subst, arith}
 use Rattle.std.proofs.Math.Nat.{le-max_right}
 use Rattle.cc_c_laws.specs.Numbered.{objects_in}

@@ -1,4 +1,4 @@
--- The bytes so far, and those of the words to come, are all of them.
+-- The bytes so far, with those of the words still to come, are all bytes.
 use Rattle.std.proofs.Common.{◌≡◌, ◌*◌, ◌++◌, drop, length}
 use Rattle.cc_hex.specs.Contents.{bytes_of_words}
 use Rattle.cc_hex.proofs.image.bytes_of.Given as goal

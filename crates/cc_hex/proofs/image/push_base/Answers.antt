@@ -1,4 +1,4 @@
--- The base address moves where it says so, and nothing is written elsewhere.
+-- The base address moves if a block of 65,536 addresses begins here; otherwise nothing is written.
 use Rattle.std.proofs.Common.{◌≡◌, ℕ, List, ◌++◌, ◌/◌, ◌%◌, Result, Ok, Err, OnOk, ap, sym, ◌∙◌}
 use Rattle.std.proofs.lemmas.List.{append-nil}
 use Rattle.std.specs.Int.{w16, to_be_bytes}

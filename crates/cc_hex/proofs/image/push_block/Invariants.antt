@@ -1,4 +1,4 @@
--- The rows so far, and those of the rest, are all of them.
+-- The rows so far, with those of the rest, are all rows.
 use Rattle.std.proofs.Common.{◌≡◌, ◌+◌, ◌-◌, ◌*◌, ◌/◌, ◌++◌, length}
 use Rattle.cc_hex.specs.Layout.{rows}
 use Rattle.cc_hex.proofs.image.push_block.Given as goal

@@ -1,4 +1,4 @@
--- The digits so far, and those of the bytes to come, are all of them.
+-- The digits so far, with those of the bytes still to come, are all digits.
 use Rattle.std.proofs.Common.{◌≡◌, ◌++◌, drop}
 use Rattle.std.specs.List.{flat_map}
 use Rattle.cc_hex.specs.Layout.{two_digits}

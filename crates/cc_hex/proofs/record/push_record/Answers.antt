@@ -1,4 +1,4 @@
--- The parts of a record, written one behind the other, are its line.
+-- The parts of a record, written one after another, are its line.
 use Rattle.std.proofs.Common.{[], ◌∷◌, ◌++◌, get_or, ap, refl, ◌<◌, ◌%◌, ◌+◌, arith}
 use Rattle.cc_hex.specs.Layout.{record_line}
 use Rattle.cc_hex.specs.internal.Types.{type_number}

@@ -1,5 +1,5 @@
 -- What is there is the length and the bytes.
-use Rattle.std.proofs.Common.{◌≡◌, ℕ, ◌+◌, ◌<◌, List, length, Some, sym, ap, subst, ◌∙◌, arith}
+use Rattle.std.proofs.Common.{◌≡◌, ℕ, ◌<◌, List, length, Some, sym, ap, subst, ◌∙◌, arith}
 use Rattle.cc_library.specs.Body.{IsCertificate, certificate_part}
 use Rattle.cc_library.proofs.Sizes.{certificate_long}
 use Rattle.cc_library.proofs.body.certificate_length.Goals as goal

@@ -1,5 +1,5 @@
 -- All but the certificate keeps its limits by its type.
-use Rattle.std.proofs.Common.{◌≡◌, ℕ, ◌+◌, ◌*◌, ◌<◌, ◌≤◌, List, length, ap, subst, arith}
+use Rattle.std.proofs.Common.{length, ap, subst, arith}
 use Rattle.cc_library.specs.Body.{AreBelow}
 use Rattle.cc_library.proofs.Sizes.{unit_parts}
 use Rattle.cc_library.proofs.body.unit_length.Goals as goal

@@ -1,4 +1,4 @@
--- Each turn reads one word more.
+-- Each turn reads one more word.
 use Rattle.std.proofs.Common.{◌≡◌, ◌*◌, Some, length, take, drop, ◌∙◌, arith}
 use Rattle.std.proofs.lemmas.List.{take_all}
 use Rattle.cc_library.specs.internal.Reading.{words_in}

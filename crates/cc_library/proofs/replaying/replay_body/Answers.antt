@@ -1,4 +1,4 @@
--- Bytes that are read as no command are spelled by none, and those that are read as one by no other.
+-- Bytes that cannot be read as a command are spelled by none, and those that are read as one are spelled by no other.
 use Rattle.std.proofs.Common.{◌≡◌, ℕ, List, Some, None, sym, subst}
 use Rattle.std.specs.Prelude.{Err, IsOk}
 use Rattle.std.proofs.lemmas.Option.{none-some}

@@ -1,4 +1,4 @@
--- By the least strongly live sets what is dropped is all that nobody needs.
+-- What is dropped by the least strongly live sets is all that nobody needs.
 use Rattle.std.proofs.Common.{◌≡◌, ◌∙◌, true, ap, sym, subst, List, ℕ, length}
 use Rattle.cc_rtl_language.specs.Rtl.{Rtl}
 use Rattle.cc_rtl_language.specs.Pair.{Pair}

@@ -1,4 +1,4 @@
--- The records of the log are what every image holds alone, and the commands are what they spell.
+-- Every image has the records of the log and no others, and the commands are what they spell.
 use Rattle.std.proofs.Common.{◌≡◌, ℕ, List, sym, ◌∙◌, subst}
 use Rattle.cc_journal.specs.Format.{HoldsAlone}
 use Rattle.cc_library.specs.Answers.{ReplayFaults}

@@ -1,4 +1,4 @@
--- A body that is read spells its command; one that is read as none spells none.
+-- A body that is read spells its command; one that cannot be read spells none.
 use Rattle.std.proofs.Common.{◌≡◌, ℕ, ◌+◌, List, Some, None, take, sym, subst}
 use Rattle.std.proofs.lemmas.List.{take_all}
 use Rattle.std.proofs.lemmas.Option.{none-some}

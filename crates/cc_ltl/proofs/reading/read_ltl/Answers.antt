@@ -1,4 +1,4 @@
--- What is read is spelled, and where nothing is read nothing is spelled.
+-- What is read is spelled; and if nothing is read, nothing is spelled.
 use Rattle.std.proofs.Common.{refl, arith}
 use Rattle.std.proofs.lemmas.Result.{err_from_is_err_and}
 use Rattle.cc_ltl.proofs.Fields.{from_index}

@@ -1,4 +1,4 @@
--- The commands among which `stored_among` looks are those of which the disk has the records.
+-- The commands among which `stored_among` looks are those whose records the disk has.
 use Rattle.std.proofs.Common.{IsTrue, List, sym, subst}
 use Rattle.cc_library.specs.declared.command.LibraryCommand.{LibraryCommand}
 use Rattle.cc_log.specs.Commands.{HasCommands}

@@ -1,4 +1,4 @@
--- There are as many definitions as names of them.
+-- There are as many definitions as names of definitions.
 use Rattle.std.proofs.Common.{◌≡◌, length, ap, ◌∙◌, arith}
 use Rattle.cc_ast.specs.Source.{source}
 use Rattle.cc_ast.specs.Erase.{external_trees}

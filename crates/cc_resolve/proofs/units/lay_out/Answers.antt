@@ -1,4 +1,4 @@
--- One external declaration more.
+-- One more external declaration.
 use Rattle.std.proofs.Common.{subst}
 use Rattle.cc_ast.specs.Erase.{external_tree, external_trees}
 use Rattle.cc_types.proofs.SameTypes.{drop-item}

@@ -3,6 +3,6 @@ use Rattle.cc_cminor.specs.Code.{expressions_of}
 use Rattle.cc_rtl.specs.Size.{operands_nodes}
 use Rattle.cc_rtl.proofs.size.room_behind_operands.Given as goal
 
--- what is left has room for the rest where the whole room has it for all
+-- there is room for the rest in what is left exactly if there is room for all in the whole
 abbrev pub invariant-loop-e : goal.invariant-loop-e
 invariant-loop-e l = l.left + operands_nodes (expressions_of l.es) ≡ l.fn.room + operands_nodes (expressions_of (drop l.e-index l.es))

@@ -1,4 +1,4 @@
--- Each turn makes a nop of one node.
+-- Each turn makes one node a nop.
 use Rattle.std.proofs.Common.{◌∙◌, ap, sym, subst, take, get_or}
 use Rattle.std.specs.Prelude.{IsSome}
 use Rattle.std.proofs.lemmas.List.{take_all}

@@ -1,4 +1,4 @@
--- The node under the label is replaced by its nop, or stays where it is one or is not pure.
+-- The node under the label is replaced by its nop, or stays if it is a nop already or is not pure.
 use Rattle.std.proofs.Common.{ap, sym, ◌∙◌}
 use Rattle.cc_rtl_language.specs.Code.{labelled_of}
 use Rattle.cc_rtl_language.specs.declared.node.Node.TheVariants.{Nop}

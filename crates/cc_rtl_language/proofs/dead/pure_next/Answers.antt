@@ -1,4 +1,4 @@
--- What stands under the label, and its nop.
+-- The node under the label, and its nop.
 use Rattle.std.proofs.Common.{◌≡◌, ◌∙◌, ap, sym, subst, refl, option_map}
 use Rattle.cc_rtl_language.specs.Rtl.{node_at}
 use Rattle.cc_rtl_language.specs.Code.{node_of, labelled_of}

@@ -1,4 +1,4 @@
--- The law is the lemma's, of the graph that the nodes are.
+-- The law is that of the lemma, for the graph of the nodes.
 use Rattle.cc_rtl_language.specs.Rtl.{node_at}
 use Rattle.cc_rtl_language.proofs.Layer.{rtl_layer}
 use Rattle.cc_rtl_language.proofs.laws.rtl_is_a_layer.Goals as goal

@@ -1,4 +1,4 @@
--- Two edges are put into one row.
+-- Two edges are added to one row.
 use Rattle.std.proofs.Common.{◌∷◌, [], ◌++◌, sym, ap, ◌∙◌, map, set, get_or}
 use Rattle.cc_rtl_language.specs.Code.{node_of}
 use Rattle.cc_rtl_language.specs.Rtl.{successors}

@@ -1,4 +1,4 @@
--- So many rows are made.
+-- This many rows are made.
 use Rattle.cc_rtl_language.specs.Positions.{graph_of}
 use Rattle.cc_rtl_language.proofs.Places.{Rows}
 use Rattle.cc_rtl_language.proofs.positions.graph.Given as goal

@@ -1,4 +1,4 @@
--- The machine is after the instructions that are done, and by fewer the run goes.
+-- The machine has done these instructions, and after fewer the run is going.
 use Rattle.std.proofs.Common.{◌≡◌, ◌+◌, ◌<◌, ℕ}
 use Rattle.cc_rv32.specs.declared.outcome.MachineOutcome.TheVariants.{Going}
 use Rattle.cc_rv32.specs.Machine.{machine_behavior}

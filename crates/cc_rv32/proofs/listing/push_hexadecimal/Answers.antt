@@ -1,4 +1,4 @@
--- Each digit goes behind the ones before it; after eight, all are written.
+-- Each digit comes after the ones before it; after eight, all are written.
 use Rattle.std.proofs.Common.{◌≡◌, arith}
 use Rattle.cc_rv32.proofs.Digits.{digit_written, digits_written}
 use Rattle.cc_rv32.proofs.listing.push_hexadecimal.Goals as goal

@@ -1,10 +1,10 @@
--- The parts of a line, written one behind the other, are the line.
+-- The parts of a line, written one after another, are the line.
 use Rattle.std.proofs.Common.{◌≡◌, List, ◌++◌, ℕ, ◌∙◌, append_assoc, Result, Ok, Err, is_ok, OnOk, if◌then◌else◌, string_bytes, codes}
 use Rattle.cc_rv32.specs.Table.{instruction_of}
 use Rattle.cc_rv32.specs.Listing.{line, hexadecimal, word_text}
 use Rattle.cc_rv32.proofs.listing.push_line.Goals as goal
 
--- six parts, written one behind the other, are one text
+-- six parts, written one after another, are one text
 gathered : (t a b c d e f t1 t2 t3 t4 t5 : List ℕ) →
     t1 ≡ t ++ a → t2 ≡ t1 ++ b → t3 ≡ t2 ++ c → t4 ≡ t3 ++ d → t5 ≡ t4 ++ e → t5 ++ f ≡ t ++ (a ++ b ++ c ++ d ++ e ++ f)
 gathered t a b c d e f t1 t2 t3 t4 t5 e1 e2 e3 e4 e5 =
@@ -12,7 +12,7 @@ gathered t a b c d e f t1 t2 t3 t4 t5 e1 e2 e3 e4 e5 =
     let grouped : t ++ a ++ b ++ c ++ d ++ e ++ f ≡ t ++ (a ++ b ++ c ++ d ++ e ++ f) = simp append_assoc in
     all ∙ grouped
 
--- where the last write succeeded, the text is the whole
+-- if the last write succeeded, the text is the whole
 ended : {T E : Type 0} (r : Result T E) (old tail new all : List ℕ) → new ≡ (if is_ok r then old ++ tail else old) → old ++ tail ≡ all → OnOk r (new ≡ all)
 ended (Ok x) old tail new all e f = e ∙ f
 ended (Err x) old tail new all e f = tt

@@ -1,4 +1,4 @@
--- What falls by declarations falls by functions.
+-- If declarations fall, so do functions.
 use Rattle.std.proofs.Common.{List, sym, subst}
 use Rattle.std.proofs.lemmas.List.{drop_all}
 use Rattle.cc_ast.specs.declared.ast.External.{External}

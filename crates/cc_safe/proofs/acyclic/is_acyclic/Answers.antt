@@ -1,4 +1,4 @@
--- Ranks by the table are ranks.
+-- The ranks of the table are ranks.
 use Rattle.std.proofs.Common.{ℕ, ◌<◌, List, subst, arith}
 use Rattle.std.specs.List.{AllByRecursion}
 use Rattle.cc_ast.specs.Tree.{External}

@@ -1,4 +1,4 @@
--- With those that are left all are so.
+-- If the rest pass, all pass.
 use Rattle.std.proofs.Common.{◌<◌, drop}
 use Rattle.cc_ast.specs.Erase.{statements_of}
 use Rattle.cc_depth.specs.Cycles.{InStatements}

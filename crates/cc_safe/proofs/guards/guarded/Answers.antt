@@ -1,4 +1,4 @@
--- One function more.
+-- One more function.
 use Rattle.std.proofs.Common.{◌∙◌, ap, sym, arith, length}
 use Rattle.std.specs.Arc.{arc_value}
 use Rattle.cc_ast.specs.Source.{source}

@@ -1,4 +1,4 @@
--- So far none needs a guard, if none is found.
+-- If none was found so far, no function so far needs a guard.
 use Rattle.std.proofs.Common.{◌≡◌, ◌<◌, ℕ, []}
 use Rattle.std.specs.Arc.{arc_value}
 use Rattle.cc_ast.specs.Source.{source}

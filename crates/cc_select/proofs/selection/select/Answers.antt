@@ -1,4 +1,4 @@
--- The pair's parts are those that the lemma on pairs of Linear speaks of.
+-- The pair's parts are those of the lemma on pairs of Linear.
 use Rattle.std.proofs.Common.{ap, ◌∙◌, subst}
 use Rattle.cc_ast.specs.Source.{source}
 use Rattle.cc_ast.specs.declared.unit.Unit as parsed

@@ -1,4 +1,4 @@
--- The steps from number `at` on fit, and what is live behind each is noted.
+-- The steps from number `at` on fit, and what is live after each is noted.
 use Rattle.cc_select.proofs.Sweeping.{Looking}
 use Rattle.cc_select.proofs.table.fits.Given as goal
 

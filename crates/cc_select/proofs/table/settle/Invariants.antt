@@ -1,4 +1,4 @@
--- So many sweeps more give the table.
+-- The sweeps that are left give the table.
 use Rattle.cc_select.specs.Table.{table}
 use Rattle.cc_select.proofs.Sweeping.{Settling}
 use Rattle.cc_select.proofs.table.settle.Given as goal

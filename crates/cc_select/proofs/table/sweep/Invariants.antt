@@ -1,4 +1,4 @@
--- The steps from number `at` on are swept.
+-- The steps from number `at` on have been swept.
 use Rattle.cc_select.proofs.Sweeping.{Sweeping}
 use Rattle.cc_select.proofs.table.sweep.Given as goal
 

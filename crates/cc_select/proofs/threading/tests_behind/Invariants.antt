@@ -1,4 +1,4 @@
--- The table has the tests behind the labels of the items from number `at` on.
+-- The table has the tests after the labels of the items from number `at` on.
 use Rattle.cc_select.specs.internal.Sets.{tests_in}
 use Rattle.cc_select.proofs.Gathering.{Gathered}
 use Rattle.cc_select.proofs.threading.tests_behind.Given as goal

@@ -1,4 +1,4 @@
--- The shares are the whole ledger, so the receipts are as many as the history is long; the rest is `receipts_count_up`.
+-- The shares are the whole ledger, so there are as many receipts as the history has entries; the rest is `receipts_count_up`.
 use Rattle.std.proofs.Common.{◌≡◌, List, length, sym, ap, subst, arith}
 use Rattle.cc_history.specs.declared.entry.Entry.{Entry}
 use Rattle.cc_history.specs.Closing.{ReceiptsStand, receipts_of}

@@ -1,4 +1,4 @@
--- The pass has sent the functions of one job, all or the first: those of the text's program, whose tree is the unit's.
+-- The pass has sent the functions of one job, all or the first ones: those of the text's program, whose tree is the unit's.
 use Rattle.std.proofs.Common.{◌≡◌, ◌++◌, ℕ, length, inr, List, ap, ◌∙◌, subst}
 use Rattle.std.specs.Arc.{arc_value}
 use Rattle.cc_ast.specs.Source.{source}

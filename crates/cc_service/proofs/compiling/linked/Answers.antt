@@ -1,4 +1,4 @@
--- There is one piece of each function, so linking refuses them for the size of the image alone.
+-- There is one piece for each function, so linking refuses them only for the size of the image.
 use Rattle.std.proofs.Common.{◌≡◌, ◌⊎◌, inl, inr, length, List, Err, sym, ap, ◌∙◌}
 use Rattle.std.specs.Arc.{arc_value}
 use Rattle.cc_ast.specs.Source.{source}

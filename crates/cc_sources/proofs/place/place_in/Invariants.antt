@@ -1,4 +1,4 @@
--- The byte lies as many bytes as are left after where the next text begins.
+-- The byte is `left` bytes after the beginning of the next text.
 use Rattle.std.proofs.Common.{◌≡◌, ◌+◌}
 use Rattle.cc_sources.specs.Places.{begin_of}
 use Rattle.cc_sources.proofs.place.place_in.Given as goal

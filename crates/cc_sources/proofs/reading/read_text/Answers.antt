@@ -1,4 +1,4 @@
--- The text is as long as may be, or the reader is at its end.
+-- The text is as long as it may be, or the reader is at its end.
 use Rattle.std.proofs.Common.{rules, ◌≡◌, ◌≤◌, ◌<◌, length, refl}
 use Rattle.cc_sources.proofs.Pieces.{at_end, read_full, read_whole}
 use Rattle.cc_sources.proofs.reading.read_text.Goals.{else-loop-piece-test, then-loop-piece-test+in-Ok+then-count-eq0}

@@ -1,4 +1,4 @@
--- A run that still goes.
+-- A run that is still going.
 use Rattle.std.proofs.Common.{rules, ◌≡◌}
 use Rattle.cc_ast.specs.Source.{source}
 use Rattle.cc_c_laws.specs.Meaning.{source_behavior}

@@ -1,4 +1,4 @@
--- The search by halves.
+-- The search by bisection.
 use Rattle.std.proofs.Common.{rules, arith, ◌≡◌, ◌+◌, ◌<◌, ◌≤◌, ℕ}
 use Rattle.cc_ast.specs.Source.{source}
 use Rattle.cc_c_laws.specs.Meaning.{source_behavior}

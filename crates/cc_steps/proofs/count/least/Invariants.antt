@@ -1,4 +1,4 @@
--- By fewer steps than the low number the run goes, and by the high number it does not.
+-- The run is going within any number of steps below the low number, and it has ended within the high number.
 use Rattle.std.proofs.Common.{◌≡◌, ◌≤◌, ◌<◌, ◌-◌, ℕ}
 use Rattle.cc_ast.specs.Source.{source}
 use Rattle.cc_c_laws.specs.Meaning.{source_behavior}

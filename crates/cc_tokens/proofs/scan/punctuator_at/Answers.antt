@@ -1,4 +1,4 @@
--- The few that begin with the first byte are enough.
+-- It is enough to search those that begin with the first byte.
 use Rattle.std.proofs.Common.{◌∙◌, ◌==◌, ap}
 use Rattle.std.specs.List.{find, starts_with}
 use Rattle.cc_tokens.specs.Spelling.{punctuator_bytes}

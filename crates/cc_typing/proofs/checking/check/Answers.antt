@@ -1,5 +1,5 @@
--- The first error is answered at its place; then a missing main; then the first call of an undefined function; then the
--- unit is typed.
+-- The first error is reported at its place; otherwise a missing main; otherwise the first call of an undefined function;
+-- otherwise the unit is typed.
 use Rattle.std.proofs.Common.{◌≡◌, ◌∙◌, inr, ap, sym, length, true, false, Some, None}
 use Rattle.cc_ast.specs.Source.{source}
 use Rattle.cc_ast.specs.Place.{place_of}

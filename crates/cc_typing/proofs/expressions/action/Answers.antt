@@ -1,4 +1,4 @@
--- What is written, and then the right side.
+-- The target, and then the right side.
 use Rattle.std.proofs.Common.{ap, sym, ◌∙◌}
 use Rattle.cc_ast.specs.Erase.{action_tree, target_tree, expression_tree}
 use Rattle.cc_ast.specs.Tree.{Assign}

@@ -1,4 +1,4 @@
--- Through the moves behind, the operation, and with the operands through the moves before.
+-- Through the moves after, the operation, and, with the operands, through the moves before.
 use Rattle.std.proofs.Common.{List, subst, sym}
 use Rattle.cc_flow.specs.Lattice.{Equivalent}
 use Rattle.cc_rtl_language.specs.Code.{node_of}

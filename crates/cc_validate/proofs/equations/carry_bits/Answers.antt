@@ -1,4 +1,4 @@
--- One move more: a move of locations is one of columns.
+-- One more move: a move between locations is a move between columns.
 use Rattle.std.proofs.Common.{◌≡◌, ◌∙◌, ◌-◌, ◌<◌, ◌∷◌, length, drop, get_or, sym, ap, subst, arith, ℕ}
 use Rattle.std.proofs.lemmas.List.{get_or_read}
 use Rattle.cc_ltl.specs.Ltl.{target, source}

@@ -1,4 +1,4 @@
--- One column more.
+-- One more column.
 use Rattle.std.proofs.Common.{◌∙◌, ◌+◌, ◌<◌, ◌≡◌, ◌⊎◌, sym, subst, IsTrue}
 use Rattle.cc_bits.specs.Rows.{has, Table}
 use Rattle.cc_validate.specs.internal.Origins.{AreSent}

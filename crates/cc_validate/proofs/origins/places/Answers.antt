@@ -1,4 +1,4 @@
--- One number more; all of them.
+-- One more number; all of them.
 use Rattle.std.proofs.Common.{◌≡◌, ◌∙◌, ◌++◌, ◌∷◌, [], List, ℕ, ap, sym, subst, arith}
 use Rattle.std.specs.List.{range_with_len}
 use Rattle.cc_validate.specs.internal.Origins.{AreOrigins}

@@ -1,4 +1,4 @@
--- The numbers so far stand at their own places.
+-- The numbers so far are at their own places.
 use Rattle.std.proofs.Common.{◌≡◌}
 use Rattle.std.specs.List.{range_with_len}
 use Rattle.cc_validate.proofs.origins.places.Given as goal

@@ -1,4 +1,4 @@
--- A formatted disk has no units, and each that was added is right.
+-- A formatted disk has no units, and each unit that is added is right.
 use Rattle.std.proofs.Common.{refl, sym, subst}
 use Rattle.cc_disk.specs.Model.{bytes_of}
 use Rattle.cc_disk.specs.Past.{DiskState}

@@ -1,4 +1,4 @@
--- Where the number is in, its bit is cleared and the other's is set.
+-- If the number is in, its bit is cleared and the other's is set.
 use Rattle.std.proofs.Common.{◌≡◌, ◌∙◌, ◌+◌, ◌*◌, ◌/◌, ◌%◌, ◌^◌, ◌<◌, ◌≤◌, ◌==◌, length, slice_set, get_or, ap, sym, subst, arith, List, ℕ, true, w64}
 use Rattle.std.specs.Int.{bit_at, bit_not}
 use Rattle.std.specs.Int.Bits.{bit_and}

@@ -1,4 +1,4 @@
--- One row more; where the words end, no row has the column.
+-- One more row. Past the last word, no row has the column.
 use Rattle.std.proofs.Common.{◌+◌, ◌≤◌, ◌<◌, List, ℕ, length, subst, arith}
 use Rattle.cc_bits.proofs.Lines.{still_few, row_moved_on, all_rows_moved}
 use Rattle.cc_bits.proofs.row.BitRow.move_column.Goals as goal

@@ -1,4 +1,4 @@
--- The bits of the rows before r have moved, and the next word to look at is one of row r.
+-- The bits of the rows before r have moved, and the next word to look at is in row r.
 use Rattle.std.proofs.Common.{ℕ, ◌-◌}
 use Rattle.cc_bits.specs.Rows.{most_words}
 use Rattle.cc_bits.proofs.Lines.{MovedTo}

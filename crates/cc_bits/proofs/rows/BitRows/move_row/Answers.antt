@@ -1,4 +1,4 @@
--- One word more.
+-- One more word.
 use Rattle.std.proofs.Common.{◌∙◌}
 use Rattle.cc_bits.specs.Rows.{has}
 use Rattle.cc_bits.proofs.Lines.{one_word_moved}

@@ -1,4 +1,4 @@
--- In the words before the bits have moved.
+-- The bits of the words so far have moved.
 use Rattle.std.proofs.Common.{◌≡◌}
 use Rattle.cc_bits.specs.Rows.{has}
 use Rattle.cc_bits.proofs.Lines.{WordsMoved}

@@ -1,4 +1,4 @@
--- The words say what the rows have.
+-- The words hold exactly the bits of the rows.
 use Rattle.std.proofs.Common.{◌≡◌, subst, ℕ}
 use Rattle.cc_bits.specs.Rows.{has, Table, column_moved}
 use Rattle.cc_bits.specs.internal.Holding.{bit}

@@ -1,4 +1,4 @@
--- The rows before are put in.
+-- The rows so far are copied.
 use Rattle.std.proofs.Common.{◌≡◌, ℕ, false}
 use Rattle.cc_bits.specs.Rows.{has}
 use Rattle.cc_bits.proofs.Lines.{PutBefore}

@@ -1,4 +1,4 @@
--- What the type keeps, and what comes of it.
+-- What the type guarantees, and what follows from it.
 use Rattle.std.proofs.Common.{subst}
 use Rattle.cc_cminor.specs.Pair.{Pair, tree_of, code_of, KeepsUp}
 use Rattle.cc_cminor.proofs.Layer.{follows_of}

@@ -1,4 +1,4 @@
--- What holds of whatever is reached holds of this state.
+-- What holds for whatever is reached holds for this state.
 use Rattle.std.proofs.Common.{◌≡◌, subst}
 use Rattle.std.specs.FinMap.{empty}
 use Rattle.cc_library.specs.Apply.{AreAccepted}

@@ -1,4 +1,4 @@
--- Nothing has happened there, and the disk is formatted.
+-- Nothing has happened yet, and the disk is formatted.
 use Rattle.std.proofs.Common.{inl, refl, sym, ap, subst, ◌∙◌}
 use Rattle.cc_core.specs.Run.{EachUnit}
 use Rattle.cc_core.proofs.Orders.{EachUnit-empty}

@@ -1,4 +1,4 @@
--- The new edge stands in both directions, or only its predecessor is known.
+-- The new edge is there in both directions, or only its predecessor is noted.
 use Rattle.std.proofs.Common.{◌<◌, length, sym, subst}
 use Rattle.cc_flow.specs.internal.Edges.{AreEdges}
 use Rattle.cc_flow.specs.Flow.{rows_of}

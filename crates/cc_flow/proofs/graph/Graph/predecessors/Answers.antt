@@ -1,4 +1,4 @@
--- Whoever leads to a node stands in its row.
+-- A node that leads to this one is in its row.
 use Rattle.std.proofs.Common.{sym, ap, ◌∙◌, subst, Contains}
 use Rattle.cc_flow.specs.Flow.{successors_of, rows_of}
 use Rattle.cc_flow.proofs.graph.Graph.predecessors.Goals as goal

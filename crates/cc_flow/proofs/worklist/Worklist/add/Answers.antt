@@ -1,4 +1,4 @@
--- The node that was pushed stands in the queue once.
+-- The node that was pushed is in the queue once.
 use Rattle.std.proofs.Common.{◌≡◌, ◌<◌, length, sym, ◌∙◌, heap_items, false, rules}
 use Rattle.std.proofs.lemmas.List.{get_or_default}
 use Rattle.cc_flow.specs.internal.Waiting.{waits}

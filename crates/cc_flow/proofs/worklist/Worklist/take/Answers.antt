@@ -1,4 +1,4 @@
--- The node that was popped waited, and stands in the queue no more.
+-- The node that was popped was waiting, and is no longer in the queue.
 use Rattle.std.proofs.Common.{heap_items, ◌<◌, length, rules}
 use Rattle.cc_flow.proofs.Queue.{queued_less, popped_waits, in_flags}
 use Rattle.cc_flow.proofs.worklist.Worklist.take.Goals as goal

@@ -1,4 +1,4 @@
--- Without a device call every image recovers to the old map; during the `append` to the old one or to the one after it.
+-- Without a device call every image recovers to the old map; during the `append`, to the old map or to the one after it.
 use Rattle.std.proofs.Common.{◌≡◌, ◌+◌, ◌≤◌, length, List, [], ◌∷◌, ◌++◌, ℕ, false, refl, sym, ◌∙◌, ap, subst}
 use Rattle.std.specs.Prelude.{IsOk, Result, Ok, Err}
 use Rattle.std.proofs.lemmas.Result.{err_from_is_err_and}
@@ -58,7 +58,7 @@ returns-in-Some g c =
           (λ h image left. g.met.D.Disk.only_now i.log.disk image h left) (g.met.D.Disk.counts_now old.disk) (λ p. cc p) answers;
     }
 
--- where the log would not take the record
+-- if the log would not take the record
 pub returns-in-Err : goal.returns-in-Err
 returns-in-Err g c =
     let D = g.D.Disk in
@@ -73,7 +73,7 @@ returns-in-Err g c =
           (λ h image left. g.met.D.Disk.only_now i.log.disk image h left) (g.met.D.Disk.counts_now old.disk) ok (λ failures. c.in-Err.ensures.answers (body_of command) failures long));
     }
 
--- where memory ran out
+-- if memory ran out
 pub returns-in_err-body : goal.returns-in_err-body
 returns-in_err-body g c =
     let D = g.D.Disk in

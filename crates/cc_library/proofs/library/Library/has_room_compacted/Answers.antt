@@ -1,4 +1,4 @@
--- The record has room behind the compacted ones exactly where these leave it; a `compact` leaves them.
+-- The record has room after the compacted ones exactly if these leave it; a `compact` leaves exactly these.
 use Rattle.std.proofs.Common.{◌≡◌, ℕ, ◌-◌, ◌≤◌, IsTrue, Bool, false, sym, ◌∙◌, ap, subst, arith}
 use Rattle.cc_library.specs.Answers.{room_with}
 use Rattle.cc_library.specs.Body.{body_of}
@@ -9,7 +9,7 @@ use Rattle.cc_library.proofs.Compacting.{no_room_left, room_left}
 use Rattle.cc_library.proofs.library.Library.has_room_compacted.Given.{Over}
 use Rattle.cc_library.proofs.library.Library.has_room_compacted.Goals as goal
 
--- what is said of the records and their room is said of the library that a `compact` leaves
+-- what holds for the records and their room holds for the library that a `compact` leaves
 of_compacted : {D : Type 0} (old new : View D) (command : LibraryCommand) (b : Bool) → new ≡ record { disk = new.disk; area = old.area; bodies = compacted old.units; units = old.units; closed = false }
     → (IsTrue b → room_compacted old.units command ≤ old.area) × (room_compacted old.units command ≤ old.area → IsTrue b)
     → (IsTrue b → room_with new command ≤ new.area) × (room_with new command ≤ new.area → IsTrue b)

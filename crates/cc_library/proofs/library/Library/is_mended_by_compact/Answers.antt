@@ -1,4 +1,4 @@
--- The log says whether the record fits now, the library whether it does behind compacted records.
+-- The log says whether the record fits now, and the library whether it fits after compacted records.
 use Rattle.std.proofs.Common.{◌<◌, ◌≤◌, sym, ◌∙◌, subst, arith}
 use Rattle.std.specs.Prelude.{IsOk}
 use Rattle.cc_library.specs.Answers.{IsAsked, IsMended, room_with}

@@ -1,4 +1,4 @@
--- The journal's records are what every image holds alone, and the map is what they stand for.
+-- Every image has the journal's records and no others, and the map is what they represent.
 use Rattle.std.proofs.Common.{◌≡◌, ℕ, List, [], sym, ◌∙◌, subst}
 use Rattle.cc_journal.specs.Format.{HoldsRecords, HoldsAlone}
 use Rattle.cc_library.specs.Recovered.{StandFor}

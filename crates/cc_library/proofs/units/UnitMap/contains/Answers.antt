@@ -1,4 +1,4 @@
--- A key is in the map of entries where it is in the finite map.
+-- A key is in the map of entries exactly if it is in the finite map.
 use Rattle.std.proofs.Common.{sym, ap, ◌∙◌}
 use Rattle.std.specs.Prelude.{is_some}
 use Rattle.std.specs.Cmp.Lexicographic.{nat_list_cmp_total}

@@ -1,4 +1,4 @@
--- It holds what either holds, and where it rose, a register more.
+-- It holds what either holds, and if it grew, one register more.
 use Rattle.std.proofs.Common.{◌∙◌, ap, subst, ◌||◌, ◌≤◌, List, ℕ, length, IsTrue, IsFalse}
 use Rattle.cc_bits.specs.Rows.{holds}
 use Rattle.cc_bits.specs.internal.Holding.{within_row}

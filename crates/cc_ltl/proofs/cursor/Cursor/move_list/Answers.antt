@@ -1,4 +1,4 @@
--- Each turn reads one move more; where none is read, the whole is none.
+-- Each turn reads one more move; if one cannot be read, the whole list cannot.
 use Rattle.std.proofs.Common.{◌+◌, ◌∷◌, [], ap, sym, ◌∙◌, length, length-append}
 use Rattle.cc_ltl.specs.declared.fault.LtlFault.TheVariants.{Damaged}
 use Rattle.cc_ltl.specs.internal.Reading.{times, move_in}

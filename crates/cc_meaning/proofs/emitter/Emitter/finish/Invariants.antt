@@ -1,7 +1,7 @@
 use Rattle.std.proofs.Common.{◌≡◌, ◌++◌, reverse, vec_len}
 use Rattle.cc_meaning.proofs.emitter.Emitter.finish.Given as goal
 
--- what is put, and then what is left, is what is to be put
+-- what has been appended, with what is left, is what is to be appended
 abbrev pub invariant-loop-instruction : goal.invariant-loop-instruction
 invariant-loop-instruction l = l.code.items ++ reverse l.self-inside.items.items ≡ l.initial.code.items ++ reverse l.initial.self-inside.items.items
 

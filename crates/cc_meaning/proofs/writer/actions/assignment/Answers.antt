@@ -1,4 +1,4 @@
--- The write takes the place of what stood for it.
+-- The write replaces its placeholder.
 use Rattle.std.proofs.Common.{◌≡◌, ◌∙◌, ◌++◌, ap}
 use Rattle.cc_tokens.specs.declared.scalar.Scalar.{Scalar}
 use Rattle.cc_ast.specs.Erase.{expression_tree, target_tree}

@@ -1,4 +1,4 @@
--- The calls of the library with its history say what the core and a crash see of them; the type keeps the rest from that alone.
+-- The calls of the library with its history say what the core and a crash see of them; the type keeps the rest by that alone.
 use Rattle.std.proofs.Common.{IsTrue, List, sym, subst}
 use Rattle.cc_headline.specs.Compiling.{compiling, Keeps}
 use Rattle.cc_recorded.specs.Book.{BookView}

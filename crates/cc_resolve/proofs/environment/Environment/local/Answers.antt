@@ -1,4 +1,4 @@
--- The locals' numbers depend on their names alone.
+-- The numbers of the locals depend only on their names.
 use Rattle.std.proofs.Common.{◌∙◌, ap}
 use Rattle.cc_resolve.specs.Environment.{Environment, number_in}
 use Rattle.cc_resolve.proofs.Numbers.{number_in-names}

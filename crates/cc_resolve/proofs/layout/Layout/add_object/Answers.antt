@@ -1,4 +1,4 @@
--- One object more, of its name and of where its words are.
+-- One more object, with its name and where its words are.
 use Rattle.std.proofs.Common.{◌∙◌, [], ◌∷◌, ◌++◌, ap, sym}
 use Rattle.cc_resolve.specs.Numberings.{laid_objects}
 use Rattle.cc_resolve.specs.Layout.{Layout}

@@ -1,4 +1,4 @@
--- The number of the name's first place, and of another name how many there are.
+-- The number of the name's first place, or how many functions there are.
 use Rattle.std.proofs.Common.{◌∙◌, Some, None, ap}
 use Rattle.cc_resolve.specs.Layout.{Layout, names_before}
 use Rattle.cc_resolve.proofs.Numbers.{names_before-is}

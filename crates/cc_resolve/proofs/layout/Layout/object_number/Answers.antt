@@ -1,4 +1,4 @@
--- The names alone say the number of an object.
+-- The number of an object depends only on the names.
 use Rattle.std.proofs.Common.{◌∙◌, ap}
 use Rattle.cc_resolve.specs.Layout.{Layout, object_number}
 use Rattle.cc_resolve.proofs.Numbers.{object_number-is}

@@ -1,4 +1,4 @@
--- The table has at the name's number where it stands first.
+-- The table has the name's first place at the name's number.
 use Rattle.std.proofs.Common.{◌∙◌, ap, nat_eq}
 use Rattle.indexmap.specs.IndexMap.{get}
 use Rattle.cc_types.specs.Numberings.{at_number}

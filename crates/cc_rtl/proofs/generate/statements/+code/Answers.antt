@@ -1,4 +1,4 @@
--- The statements of a list, from the last to the first.
+-- The statements of a list, from last to first.
 use Rattle.std.proofs.Common.{◌≡◌, ◌∙◌, ◌+◌, ◌≤◌, IfOk, OnOk, length, reverse, drop, refl, sym, ap, subst, arith, rules}
 use Rattle.std.proofs.lemmas.Iterator.Adapters.{YieldsList-from_rev_slice}
 use Rattle.std.proofs.lemmas.Iterator.Consumers.{YieldsList-turn, YieldsList-end}

@@ -1,4 +1,4 @@
--- A pair without dead nodes is one.
+-- A pair without its dead nodes is a pair.
 use Rattle.std.proofs.Common.{◌∙◌, ap, sym, subst}
 use Rattle.std.specs.Arc.{arc_value}
 use Rattle.std.specs.Prelude.{IsSome, All}

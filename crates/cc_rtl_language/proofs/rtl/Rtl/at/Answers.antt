@@ -1,4 +1,4 @@
--- The label that is a position has the position's node.
+-- The label that equals a position has the position's node.
 use Rattle.std.proofs.Common.{ap, subst, length, arith}
 use Rattle.cc_rtl_language.specs.Rtl.{Rtl}
 use Rattle.cc_rtl_language.specs.Positions.{AreNumbered}

@@ -1,4 +1,4 @@
--- There are as many nodes as the list keeps.
+-- There are as many nodes as the list has.
 use Rattle.std.proofs.Common.{◌∙◌, ap, sym, length, arith}
 use Rattle.cc_rtl_language.specs.Rtl.{Rtl}
 use Rattle.cc_rtl_language.proofs.Places.{length_labelled}

@@ -1,4 +1,4 @@
--- A function with nops in it is one.
+-- A function with nops in it is a function.
 use Rattle.std.proofs.Common.{◌∙◌, ap, sym, subst}
 use Rattle.std.specs.Prelude.{IsSome, All}
 use Rattle.cc_rtl_language.specs.Rtl.{Rtl, IsRtl, node_at}

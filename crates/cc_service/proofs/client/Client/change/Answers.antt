@@ -1,4 +1,4 @@
--- A change that compacts where this makes room is one, or comes behind a compaction.
+-- A change that compacts if this makes room is a plain change, or comes after a compaction.
 use Rattle.std.proofs.Common.{◌⊎◌, subst}
 use Rattle.cc_recorded.specs.Changed.{IsBookChanged}
 use Rattle.cc_recorded.specs.Compacting.{IsCompactedFor}

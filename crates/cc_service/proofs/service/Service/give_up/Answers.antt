@@ -1,4 +1,4 @@
--- What is said of the book that was under the lock.
+-- What the book under the lock says.
 use Rattle.std.proofs.Common.{List, subst, sym}
 use Rattle.cc_recorded.specs.Promise.{IsGivenUp}
 use Rattle.cc_service.specs.Client.{ClientView, members}

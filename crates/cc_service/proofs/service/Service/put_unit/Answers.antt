@@ -1,4 +1,4 @@
--- The unit is one of the text that was prepared.
+-- The unit is one of the prepared text.
 use Rattle.std.proofs.Common.{refl}
 use Rattle.cc_service.specs.Serving.{Puts}
 use Rattle.cc_service.proofs.Answering.{not_put, past_text, put}

@@ -1,11 +1,11 @@
 -- Each line is what it asks for.
 use Rattle.std.proofs.Common.{[], None, Some, refl}
 use Rattle.cc_answers.specs.Telling.{script_fault_text}
-use Rattle.cc_script.specs.Line.{Add, Replace, Withdraw, Names, Compact, Audit, Image, Source, AuditOne, Update, Call, asked_of}
+use Rattle.cc_script.specs.Line.{Add, Replace, Withdraw, Names, Compact, Audit, Image, Source, AuditOne, Update, Call, Space, asked_of}
 use Rattle.cc_script.specs.declared.fault.ScriptFault.TheVariants.{BadLine}
 use Rattle.cc_task.specs.declared.part.Part.TheVariants as part
 use Rattle.cc_service.specs.Serving.{GetAnswers, ListAnswers, WithdrawAnswers}
-use Rattle.cc_session.specs.Playing.{Audits, AuditsOne, CallsAndWrites, Compacts, Writes, talk}
+use Rattle.cc_session.specs.Playing.{Audits, AuditsOne, CallsAndWrites, Compacts, Measures, Writes, talk}
 use Rattle.cc_session.specs.Telling.{SaysChange, SaysNames, SaysShown}
 use Rattle.cc_session.proofs.Cutting.{obeyed_run, run_grows}
 use Rattle.cc_session.proofs.Growing.{audit_grows, audit_one_grows, get_grows, grows_same, list_grows, withdraw_grows}
@@ -84,6 +84,14 @@ returns-in-Some-Compact-clause-done g c =
 
 pub returns-in-Some-Compact-clause-grows : goal.returns-in-Some-Compact-clause-grows
 returns-in-Some-Compact-clause-grows g c = grows_same c.args.client.now.member c.args.client.now.member refl
+
+pub returns-in-Some-Space-clause-done : goal.returns-in-Some-Space-clause-done
+returns-in-Some-Space-clause-done g c =
+    called_as c.args.self.now.mode c.args.self.now.most c.space.result (asked_of c.args.dialect c.args.line.now) (Some Space) c.args.script.now (talk c.args.client.now.member (g.W.Write.contents c.args.answers.now)) (talk c.args.client.now.member (g.W.Write.contents c.space.new.answers))
+    Measures (rw c.in-Some-Space.field-0-is at c.in-Some-Space.ensures) (c.space.ensures c.args.client.now.member) (λ b n it. (refl, it))
+
+pub returns-in-Some-Space-clause-grows : goal.returns-in-Some-Space-clause-grows
+returns-in-Some-Space-clause-grows g c = grows_same c.args.client.now.member c.args.client.now.member refl
 
 pub returns-in-None-clause-done : goal.returns-in-None-clause-done
 returns-in-None-clause-done g c =

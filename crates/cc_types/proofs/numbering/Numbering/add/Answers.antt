@@ -1,4 +1,4 @@
--- A name that is there keeps its number, and a new one gets the next.
+-- A name that has a number keeps it, and a new one gets the next.
 use Rattle.std.proofs.Common.{◌≡◌, ◌∙◌, ◌+◌, if◌then◌else◌, is_some, Some, length, ap, sym, subst}
 use Rattle.cc_types.specs.Numberings.{IsNumbered, number_of_name, numbered_in}
 use Rattle.cc_types.proofs.NameNumbers.{get-numbered, IsNumbered-new, IsNumbered-again}

@@ -1,7 +1,7 @@
 use Rattle.std.proofs.Common.{◌≡◌, ◌≤◌, length, drop}
 use Rattle.cc_types.proofs.scope.Scope.close.Given as goal
 
--- what is left of the innermost scope stands before the names of the scopes around it
+-- what is left of the innermost scope precedes the names of the scopes around it
 abbrev pub invariant-loop-self : goal.invariant-loop-self
 invariant-loop-self l = record {
   fits : l.self-inside.inner ≤ length l.self-inside.bindings;

@@ -1,4 +1,4 @@
--- Nothing but file scope is in scope, so a name is declared there exactly where a new binding of it hides another.
+-- Only file scope is open, so a name is declared there exactly if a new binding of it hides another.
 use Rattle.std.proofs.Common.{◌≡◌, [], take, drop, true, false, ap, sym, ◌∙◌}
 use Rattle.cc_types.specs.Bindings.{scope_of, file_level}
 use Rattle.cc_types.specs.Entities.{entity_of}

@@ -1,4 +1,4 @@
--- What is in scope is what the innermost scope has, and what stands around it.
+-- The names in scope are those of the innermost scope and those around it.
 use Rattle.std.proofs.Common.{ap, sym, ◌∙◌}
 use Rattle.std.proofs.lemmas.List.{take-append-drop}
 use Rattle.cc_types.specs.Scope.{Visible, found, in_scope}

@@ -1,4 +1,4 @@
--- One error more.
+-- One more error.
 use Rattle.std.proofs.Common.{[], ◌∙◌, Some, ap}
 use Rattle.cc_typing.specs.internal.Findings.{Found, after}
 use Rattle.cc_types.specs.Rules.{broken}

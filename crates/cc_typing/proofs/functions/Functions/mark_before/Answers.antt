@@ -1,4 +1,4 @@
--- The name has its number, at which the table has its state.
+-- The table has the name's state at the name's number.
 use Rattle.std.proofs.Common.{◌∙◌, ◌++◌, ◌∷◌, [], List, ℕ, true, ap, subst, sym, refl, nat_eq}
 use Rattle.indexmap.specs.IndexMap.{get}
 use Rattle.cc_typing.specs.declared.functions.State.{State}

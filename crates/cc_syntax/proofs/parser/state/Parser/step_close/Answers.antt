@@ -1,4 +1,4 @@
--- What closes is the same of a full expression with more that waits: it looks at what stands around and at the count alone.
+-- A closing token does the same with more pending parts: it depends only on what the expression is a part of and on the count.
 use Rattle.std.proofs.Common.{◌≡◌, ◌∙◌, ◌∷◌, List, ap, sym, subst}
 use Rattle.cc_ast.specs.Tree.{Expr}
 use Rattle.cc_ast.specs.Erase.{expression_tree}

@@ -1,4 +1,4 @@
--- Without an `else` the statement is complete, and the token stands after what is left open.
+-- Without an `else` the statement is complete, and the token comes after the statements that stay open.
 use Rattle.std.proofs.Common.{◌≡◌, ◌∙◌, ap, sym, subst, Option, false, rules}
 use Rattle.cc_ast.specs.Erase.{expression_tree, statement_tree}
 use Rattle.cc_syntax.specs.internal.Parser.{Inside, Stage, State, settled, resting_step}

@@ -1,0 +1,2 @@
+-- Line after line.
+pub mod Turns

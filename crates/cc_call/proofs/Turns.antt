@@ -1,0 +1,185 @@
+-- Line after line: one line more that was answered, and what became of all.
+use Rattle.std.proofs.Common.{◌≡◌, ◌≢◌, inl, inr, ◌∙◌, ℕ, ◌+◌, ◌-◌, ◌^◌, Bool, true, false, ◌||◌, IsTrue, List, [], ◌∷◌, ◌++◌, length, Option, Some, None, refl, sym, ap, subst, arith}
+use Rattle.std.specs.Prelude.{IfSome}
+use Rattle.std.specs.List.{list_any}
+use Rattle.std.proofs.lemmas.List.Folds.{list_any-append}
+use Rattle.std.proofs.lemmas.Option.{none-some, same_Some}
+use Rattle.std.proofs.KnownBytes.{Appends-kept}
+use Rattle.std.specs.Io.KnownBytes.{Appends, Keeps}
+use Rattle.std.specs.Io.BufRead.{drop_through, first_piece, strip_last, take_through}
+use Rattle.cc_rv32.specs.declared.image.Image.{Image}
+use Rattle.cc_call.specs.Call.{AnswersLine}
+use Rattle.cc_call.specs.Lines.{AnswersLines, CallsLines, LineTurn, is_bad, is_bad_end, is_lack, is_lack_end}
+use Rattle.cc_call.specs.internal.Reading.{IsNextLine, IsToldUnread, end_after}
+use Rattle.cc_call.specs.declared.lines.LineEnd.{LineEnd}
+use Rattle.cc_call.specs.declared.lines.LineEnd.TheVariants as line
+use Rattle.cc_call.specs.declared.lines.LinesEnd.{LinesEnd}
+use Rattle.cc_call.specs.declared.lines.LinesEnd.TheVariants.{Answered, Refused, Unwritten}
+
+-- ---- one answer
+
+-- an answer that was flushed
+pub answered_on : (image : Image) (counted : Bool) (steps : ℕ) (bytes : List ℕ) (a b c : Option (List ℕ)) (end : LineEnd) → AnswersLine image counted steps bytes a b end → Keeps b c → AnswersLine image counted steps bytes a c end
+answered_on image counted steps bytes a b c line.Answered it kept = (it.0, it.1, (it.2.0, it.2.1, Appends-kept a b c _ it.2.2 kept))
+answered_on image counted steps bytes a b c line.BadLine it kept = (it.0, Appends-kept a b c _ it.1 kept)
+answered_on image counted steps bytes a b c line.OutOfMemory it kept = Appends-kept a b c _ it kept
+
+-- ---- lines so far
+
+-- how they ended
+abbrev pub AreSoFar : List LineTurn → LinesEnd → Type 0
+AreSoFar turns Answered = (list_any is_bad turns ≡ false) × (list_any is_lack turns ≡ false)
+AreSoFar turns Refused = IsTrue (list_any is_bad turns) × (list_any is_lack turns ≡ false)
+AreSoFar turns Unwritten = ⊥
+
+-- so many of an input were answered, and this is left of it
+pub record HasCalled (image : Image) (counted : Bool) (steps : ℕ) (input : List ℕ) (old : Option (List ℕ)) (number : ℕ) (end : LinesEnd) (remaining new : Option (List ℕ)) : Type 0 where
+  pub turns : List LineTurn
+  pub left : List ℕ
+  pub remains : remaining ≡ Some left
+  pub answers : AnswersLines image counted steps input old turns left new
+  pub so_far : AreSoFar turns end
+  pub number_is : length turns ≡ number
+
+either : (a b : Bool) → (a || b) ≡ false → (a ≡ false) × (b ≡ false)
+either true b e = absurd (cc e)
+either false b e = (refl, e)
+
+none_of_two : (a b : Bool) → a ≡ false → b ≡ false → (a || b) ≡ false
+none_of_two true b e f = absurd (cc e)
+none_of_two false b e f = f
+
+left_of : (a b : Bool) → a ≡ true → (a || b) ≡ true
+left_of true b e = refl
+left_of false b e = absurd (cc e)
+
+right_of : (a b : Bool) → b ≡ true → (a || b) ≡ true
+right_of true b e = refl
+right_of false b e = e
+
+or_none : (a : Bool) → (a || false) ≡ a
+or_none true = refl
+or_none false = refl
+
+-- of one more at the end
+any_push : (p : LineTurn → Bool) (turns : List LineTurn) (turn : LineTurn) → list_any p (turns ++ turn ∷ []) ≡ (list_any p turns || p turn)
+any_push p turns turn = list_any-append p turns (turn ∷ []) ∙ ap (λ (b : Bool). list_any p turns || b) (or_none (p turn))
+
+none_push : (p : LineTurn → Bool) (turns : List LineTurn) (turn : LineTurn) → list_any p turns ≡ false → p turn ≡ false → list_any p (turns ++ turn ∷ []) ≡ false
+none_push p turns turn none other = any_push p turns turn ∙ none_of_two (list_any p turns) (p turn) none other
+
+length_push : (turns : List LineTurn) (turn : LineTurn) → length (turns ++ turn ∷ []) ≡ length turns + 1
+length_push [] turn = refl
+length_push (t ∷ turns) turn = let e = length_push turns turn in omega (arith, e)
+
+module _ (image : Image) (counted : Bool) (steps : ℕ) where
+  -- one line more
+  answers_push : (input : List ℕ) (old : Option (List ℕ)) (turns : List LineTurn) (left : List ℕ) (mid : Option (List ℕ)) (turn : LineTurn) → AnswersLines image counted steps input old turns left mid
+      → list_any is_lack turns ≡ false → left ≢ [] → turn.rest ≡ drop_through 10 left → AnswersLine image counted steps (first_piece 10 left) mid turn.written turn.end
+      → AnswersLines image counted steps input old (turns ++ turn ∷ []) turn.rest turn.written
+  answers_push input old [] left mid turn before none some rest one =
+      subst (λ (l : List ℕ). (l ≢ []) × (turn.rest ≡ drop_through 10 l) × AnswersLine image counted steps (first_piece 10 l) old turn.written turn.end × (IsTrue (is_lack turn) → ◌≡◌ {A = List LineTurn} [] []) × ((turn.rest ≡ turn.rest) × (turn.written ≡ turn.written)))
+      before.0 (some, rest, subst (λ (m : Option (List ℕ)). AnswersLine image counted steps (first_piece 10 left) m turn.written turn.end) before.1 one, λ lack. refl, (refl, refl))
+  answers_push input old (t ∷ turns) left mid turn before none some rest one =
+      let both = either (is_lack t) (list_any is_lack turns) none in (
+        before.0,
+        before.1,
+        before.2,
+        λ lack. let no = sym lack ∙ both.0 in absurd (cc),
+        answers_push t.rest t.written turns left mid turn before.4 both.1 some rest one,
+      )
+
+  -- no line was answered at the beginning
+  pub called_none : (input : List ℕ) (old remaining : Option (List ℕ)) → remaining ≡ Some input → HasCalled image counted steps input old 0 Answered remaining old
+  called_none input old remaining is = record { turns = []; left = input; remains = is; answers = (refl, refl); so_far = (refl, refl); number_is = refl }
+
+  so_far_answered : (turns : List LineTurn) (turn : LineTurn) (end : LinesEnd) → turn.end ≡ line.Answered → AreSoFar turns end → AreSoFar (turns ++ turn ∷ []) end
+  so_far_answered turns turn Answered is before = (none_push is_bad turns turn before.0 (ap is_bad_end is), none_push is_lack turns turn before.1 (ap is_lack_end is))
+  so_far_answered turns turn Refused is before = (any_push is_bad turns turn ∙ left_of (list_any is_bad turns) (is_bad turn) before.0, none_push is_lack turns turn before.1 (ap is_lack_end is))
+  so_far_answered turns turn Unwritten is before = absurd before
+
+  no_lack : (turns : List LineTurn) (end : LinesEnd) → AreSoFar turns end → list_any is_lack turns ≡ false
+  no_lack turns Answered before = before.1
+  no_lack turns Refused before = before.1
+  no_lack turns Unwritten before = absurd before
+
+  so_far_bad : (turns : List LineTurn) (turn : LineTurn) (end : LinesEnd) → turn.end ≡ line.BadLine → AreSoFar turns end → AreSoFar (turns ++ turn ∷ []) Refused
+  so_far_bad turns turn end is before = (any_push is_bad turns turn ∙ right_of (list_any is_bad turns) (is_bad turn) (ap is_bad_end is), none_push is_lack turns turn (no_lack turns end before) (ap is_lack_end is))
+
+  module _ (input : List ℕ) (old : Option (List ℕ)) (number : ℕ) (end : LinesEnd) (before mid : Option (List ℕ)) (called : HasCalled image counted steps input old number end before mid) where
+    -- what is read of what is left
+    read_of : (after : Option (List ℕ)) (bytes : List ℕ) → IsNextLine before after bytes true → (called.left ≢ []) × (bytes ≡ take_through 10 called.left) × (after ≡ Some (drop_through 10 called.left))
+    read_of after bytes next = subst (λ (b : Option (List ℕ)). IsNextLine b after bytes true) called.remains next
+
+    pushed : (after new : Option (List ℕ)) (bytes : List ℕ) (ended : LineEnd) → IsNextLine before after bytes true → AnswersLine image counted steps (strip_last 10 bytes) mid new ended
+        → AnswersLines image counted steps input old (called.turns ++ record { rest = drop_through 10 called.left; written = new; end = ended } ∷ []) (drop_through 10 called.left) new
+    pushed after new bytes ended next one =
+        let read = read_of after bytes next in
+        answers_push input old called.turns called.left mid (record { rest = drop_through 10 called.left; written = new; end = ended }) called.answers (no_lack called.turns end called.so_far) read.0 refl
+        (subst (λ (l : List ℕ). AnswersLine image counted steps (strip_last 10 l) mid new ended) read.1 one)
+
+    called_answered : (after new : Option (List ℕ)) (bytes : List ℕ) → IsNextLine before after bytes true → AnswersLine image counted steps (strip_last 10 bytes) mid new line.Answered
+        → HasCalled image counted steps input old (number + 1) end after new
+    called_answered after new bytes next one = record {
+      turns = called.turns ++ record { rest = drop_through 10 called.left; written = new; end = line.Answered } ∷ [];
+      left = drop_through 10 called.left;
+      remains = (read_of after bytes next).2;
+      answers = pushed after new bytes line.Answered next one;
+      so_far = so_far_answered called.turns _ end refl called.so_far;
+      number_is = length_push called.turns _ ∙ ap (λ n. n + 1) called.number_is;
+    }
+
+    called_bad : (after new : Option (List ℕ)) (bytes : List ℕ) → IsNextLine before after bytes true → AnswersLine image counted steps (strip_last 10 bytes) mid new line.BadLine
+        → HasCalled image counted steps input old (number + 1) Refused after new
+    called_bad after new bytes next one = record {
+      turns = called.turns ++ record { rest = drop_through 10 called.left; written = new; end = line.BadLine } ∷ [];
+      left = drop_through 10 called.left;
+      remains = (read_of after bytes next).2;
+      answers = pushed after new bytes line.BadLine next one;
+      so_far = so_far_bad called.turns _ end refl called.so_far;
+      number_is = length_push called.turns _ ∙ ap (λ n. n + 1) called.number_is;
+    }
+
+    -- memory was refused for it
+    ends_in_lack : (after new : Option (List ℕ)) (bytes : List ℕ) → IsNextLine before after bytes true → AnswersLine image counted steps (strip_last 10 bytes) mid new line.OutOfMemory
+        → CallsLines image counted steps input old new Refused
+    ends_in_lack after new bytes next one =
+        let turn : LineTurn = record { rest = drop_through 10 called.left; written = new; end = line.OutOfMemory } in
+        (called.turns ++ turn ∷ [], drop_through 10 called.left, new, pushed after new bytes line.OutOfMemory next one, inr (inl (refl, any_push is_lack called.turns turn ∙ right_of (list_any is_lack called.turns) true refl)))
+
+    -- by how the lines end with it
+    pub called_more : (after new : Option (List ℕ)) (bytes : List ℕ) (ended : LineEnd) (next : LinesEnd) → IsNextLine before after bytes true → AnswersLine image counted steps (strip_last 10 bytes) mid new ended
+        → Some next ≡ end_after end ended → HasCalled image counted steps input old (number + 1) next after new
+    called_more after new bytes line.Answered next read one is = subst (λ (e : LinesEnd). HasCalled image counted steps input old (number + 1) e after new) (sym (same_Some next end is)) (called_answered after new bytes read one)
+    called_more after new bytes line.BadLine next read one is = subst (λ (e : LinesEnd). HasCalled image counted steps input old (number + 1) e after new) (sym (same_Some next Refused is)) (called_bad after new bytes read one)
+    called_more after new bytes line.OutOfMemory next read one is = absurd (none-some next (sym is))
+
+    pub ends_here : (after new : Option (List ℕ)) (bytes : List ℕ) (ended : LineEnd) → IsNextLine before after bytes true → AnswersLine image counted steps (strip_last 10 bytes) mid new ended → end_after end ended ≡ None
+        → CallsLines image counted steps input old new Refused
+    ends_here after new bytes line.Answered read one is = absurd (none-some end (sym is))
+    ends_here after new bytes line.BadLine read one is = absurd (none-some Refused (sym is))
+    ends_here after new bytes line.OutOfMemory read one is = ends_in_lack after new bytes read one
+
+    -- no line is left
+    ended_by : (it : LinesEnd) → it ≡ end → called.left ≡ [] → AreSoFar called.turns it → CallsLines image counted steps input old mid it
+    ended_by Answered is none so_far = (called.turns, subst (λ (l : List ℕ). AnswersLines image counted steps input old called.turns l mid) none called.answers, so_far.0, so_far.1)
+    ended_by Refused is none so_far = (called.turns, called.left, mid, called.answers, inl (none, refl, so_far.0))
+    ended_by Unwritten is none so_far = tt
+
+    pub ends : (after : Option (List ℕ)) (bytes : List ℕ) → IsNextLine before after bytes false → CallsLines image counted steps input old mid end
+    ends after bytes next = ended_by end refl (subst (λ (b : Option (List ℕ)). IsNextLine b after bytes false) called.remains next) called.so_far
+
+    -- the next one was not read
+    pub ends_unread : (new : Option (List ℕ)) (told : LinesEnd) → IsToldUnread mid new told → CallsLines image counted steps input old new told
+    ends_unread new Refused why = (called.turns, called.left, mid, called.answers, inr (inr (inl why)))
+    ends_unread new Unwritten why = tt
+    ends_unread new Answered why = absurd why
+
+    -- there were too many
+    pub ends_uncounted : number ≡ 2 ^ 64 - 1 → CallsLines image counted steps input old mid Refused
+    ends_uncounted all = (called.turns, called.left, mid, called.answers, inr (inr (inr (refl, called.number_is ∙ all))))
+
+-- of known bytes
+pub if_known : (known : Option (List ℕ)) (P Q : List ℕ → Type 0) → ((bytes : List ℕ) → known ≡ Some bytes → P bytes → Q bytes) → IfSome known P → IfSome known Q
+if_known None P Q step p = tt
+if_known (Some bytes) P Q step p = step bytes refl p

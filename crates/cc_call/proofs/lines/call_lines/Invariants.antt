@@ -1,0 +1,8 @@
+-- So many lines of the input were answered.
+use Rattle.std.specs.Prelude.{IfSome}
+use Rattle.cc_call.proofs.Turns.{HasCalled}
+use Rattle.cc_call.proofs.lines.call_lines.Given as goal
+
+abbrev pub invariant-loop : goal.invariant-loop
+invariant-loop g l = IfSome (g.R.Read.remaining l.initial.reader)
+    (λ input. HasCalled l.image l.is_counted l.steps input (g.W.Write.contents l.initial.writer) l.counter l.end (g.R.Read.remaining l.reader) (g.W.Write.contents l.writer))

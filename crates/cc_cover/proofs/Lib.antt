@@ -1,0 +1,2 @@
+-- A stop between what was seen.
+pub mod Stopping

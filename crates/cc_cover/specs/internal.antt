@@ -1,0 +1,2 @@
+-- A task that is traced.
+pub mod Watched

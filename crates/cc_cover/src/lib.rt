@@ -1,0 +1,18 @@
+//! The commands `trace` and `cover`: the newest things that a run does, and how often each line is reached.
+//!
+//! `trace` has the first, `cover` the second, over runs of `cc_trace`; `inputs` reads the inputs of several runs, `files` runs programs that are
+//! in files, `lines` says in which line of the whole a byte lies, `shown` writes places and words. What they print beside the answer is an
+//! explanation: no promise rests on it, and it is left out if the run is not the one that the interpreter answers.
+#![tactic(auto)]
+
+mod cover;
+mod files;
+mod inputs;
+mod lines;
+mod shown;
+mod trace;
+
+pub use cover::perform_cover;
+pub use files::{cover_files, cover_lines, trace_files};
+pub use inputs::{BadInput, inputs_of};
+pub use trace::perform_trace;

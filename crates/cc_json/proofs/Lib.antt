@@ -1,0 +1,2 @@
+-- Lines of values.
+pub mod Writing

@@ -1,0 +1,2 @@
+-- What is written of a value.
+pub mod Line

@@ -1,0 +1,182 @@
+// The object of a line of an answer.
+
+use super::numbers::{signed, unsigned};
+use super::object::Object;
+use std::alloc::{AllocError, Global};
+
+/// What a line says, as far as it may be explained.
+#[derive(Clone, Copy)]
+pub(crate) enum Said {
+    /// How a run ended.
+    End,
+    /// The fault with this number.
+    Fault(u64),
+    /// Something else.
+    Other,
+}
+
+/// The object of a line, and what it says.
+#[derive(Drop)]
+pub(crate) struct LineObject {
+    pub(crate) object: Object,
+    pub(crate) said: Said,
+}
+
+// What follows a word and a space.
+fn after<'a>(line: &'a [u8], word: &str) -> Option<&'a [u8]> {
+    line.strip_prefix(word.as_bytes())?.strip_prefix(b" ")
+}
+
+// An object of another kind than a fault and an end.
+fn other(object: Object) -> LineObject {
+    LineObject {
+        object,
+        said: Said::Other,
+    }
+}
+
+fn receipt(alloc: Global, number: u64) -> Result<LineObject, AllocError> {
+    let mut object = Object::new(alloc, "receipt")?;
+    object.count("number", number)?;
+    Ok(other(object))
+}
+
+fn unit(alloc: Global, name: &[u8]) -> Result<LineObject, AllocError> {
+    let mut object = Object::new(alloc, "unit")?;
+    object.bytes("name", name)?;
+    Ok(other(object))
+}
+
+fn word(alloc: Global, word: i32) -> Result<LineObject, AllocError> {
+    let mut object = Object::new(alloc, "word")?;
+    object.number("value", i64::from(word))?;
+    Ok(other(object))
+}
+
+/// The object of a line that has no other kind.
+pub(crate) fn plain_line(alloc: Global, line: &[u8]) -> Result<Object, AllocError> {
+    let mut object = Object::new(alloc, "line")?;
+    object.bytes("text", line)?;
+    Ok(object)
+}
+
+// How a run ended.
+#[derive(Clone, Copy)]
+enum End<'a> {
+    // So, without a word.
+    Bare(&'static str),
+    // So, with this word.
+    With(&'static str, i32),
+    // It went wrong, for this.
+    Wrong(&'a [u8]),
+}
+
+// The end that a line names; nothing if it says something else.
+fn end_in(line: &[u8]) -> Option<End<'_>> {
+    if line == b"going".as_slice() {
+        return Some(End::Bare("going"));
+    }
+    if line == b"trapped".as_slice() {
+        return Some(End::Bare("trapped"));
+    }
+    if let Some(why) = after(line, "wrong") {
+        return Some(End::Wrong(why));
+    }
+    if let Some(word) = after(line, "exited").and_then(signed) {
+        return Some(End::With("exited", word));
+    }
+    let word = after(line, "ended").and_then(signed)?;
+    Some(End::With("ended", word))
+}
+
+fn end_object(alloc: Global, end: End<'_>) -> Result<LineObject, AllocError> {
+    let mut object = Object::new(alloc, "end")?;
+    match end {
+        End::Bare(how) => object.words("how", how)?,
+        End::With(how, word) => {
+            object.words("how", how)?;
+            object.number("value", i64::from(word))?;
+        }
+        End::Wrong(why) => {
+            object.words("how", "wrong")?;
+            object.bytes("why", why)?;
+        }
+    }
+    Ok(LineObject {
+        object,
+        said: Said::End,
+    })
+}
+
+// What the line of a fault has after its name: its place, or its function and a label.
+fn add_position(object: &mut Object, rest: &[u8]) -> Result<(), AllocError> {
+    let mut parts = rest.split(|byte| *byte == b' ');
+    for _ in 0..2 {
+        let (Some(word), Some(value)) = (parts.next(), parts.next()) else {
+            return Ok(());
+        };
+        if word == b"in".as_slice() {
+            object.bytes("function", value)?;
+        } else if value == b"label".as_slice() {
+            if let Some(label) = parts.next().and_then(unsigned) {
+                object.count("label", label)?;
+            }
+        } else {
+            object.bytes("at", value)?;
+        }
+    }
+    Ok(())
+}
+
+// What is before the first space, and what is after it.
+fn split_word(text: &[u8]) -> (&[u8], &[u8]) {
+    match text.iter().position(|byte| *byte == b' ') {
+        Some(at) => {
+            let (word, rest) = text.split_at(at);
+            (word, rest.strip_prefix(b" ").unwrap_or(rest))
+        }
+        None => (text, b""),
+    }
+}
+
+// The object of the line of a fault with this number and this rest.
+fn fault(alloc: Global, number: u64, rest: &[u8]) -> Result<LineObject, AllocError> {
+    let (name, position) = split_word(rest);
+    let mut object = Object::new(alloc, "fault")?;
+    object.count("number", number)?;
+    object.bytes("name", name)?;
+    add_position(&mut object, position)?;
+    Ok(LineObject {
+        object,
+        said: Said::Fault(number),
+    })
+}
+
+// The number of the fault whose line this is, and what follows it; nothing if it is no such line.
+fn fault_in(line: &[u8]) -> Option<(u64, &[u8])> {
+    let (digits, rest) = split_word(after(line, "fault")?);
+    Some((unsigned(digits)?, rest))
+}
+
+/// The object of a line of an answer.
+pub(crate) fn object_of_line(alloc: Global, line: &[u8]) -> Result<LineObject, AllocError> {
+    if line == b"ok".as_slice() {
+        return Ok(other(Object::new(alloc, "ok")?));
+    }
+    if let Some(number) = after(line, "ok").and_then(unsigned) {
+        return receipt(alloc, number);
+    }
+    if let Some(name) = after(line, "unit") {
+        return unit(alloc, name);
+    }
+    if let Some(value) = signed(line) {
+        return word(alloc, value);
+    }
+    if let Some(how) = end_in(line) {
+        return end_object(alloc, how);
+    }
+    match fault_in(line) {
+        Some((number, rest)) => fault(alloc, number, rest),
+        None => Ok(other(plain_line(alloc, line)?)),
+    }
+}

@@ -1,0 +1,33 @@
+// Decimals as the program writes them: without a sign but `-`, and without zeros before others.
+
+use std::str;
+
+// Whether digits are a decimal so.
+fn is_plain(digits: &[u8]) -> bool {
+    match digits.split_first() {
+        Some((first, rest)) => {
+            digits.iter().all(|byte| byte.is_ascii_digit()) && (*first != b'0' || rest.is_empty())
+        }
+        None => false,
+    }
+}
+
+/// The number that a decimal means; nothing if it is no such number.
+pub(crate) fn unsigned(text: &[u8]) -> Option<u64> {
+    if !is_plain(text) {
+        return None;
+    }
+    str::from_utf8(text).ok()?.parse().ok()
+}
+
+/// The same of one that may have a `-`, for a number of 32 bits.
+pub(crate) fn signed(text: &[u8]) -> Option<i32> {
+    let is_number = match text.strip_prefix(b"-") {
+        Some(digits) => is_plain(digits) && digits != b"0".as_slice(),
+        None => is_plain(text),
+    };
+    if !is_number {
+        return None;
+    }
+    str::from_utf8(text).ok()?.parse().ok()
+}

@@ -1,0 +1,92 @@
+// The object of a line that a session writes for a person.
+
+use super::line::plain_line;
+use super::numbers::unsigned;
+use super::object::Object;
+use super::telling::add_message;
+use cc_answers::words_of;
+use std::alloc::{AllocError, Global};
+
+// A message about a place of a source that was sent, as `-:4:2: ..`.
+#[derive(Clone, Copy)]
+struct Placed<'a> {
+    line: u64,
+    column: u64,
+    message: &'a [u8],
+}
+
+// The message that a line has; nothing if it is another line.
+fn message_in(line: &[u8]) -> Option<Placed<'_>> {
+    let mut parts = line.strip_prefix(b"-:")?.splitn(3, |byte| *byte == b':');
+    let line = unsigned(parts.next()?)?;
+    let column = unsigned(parts.next()?)?;
+    let message = parts.next()?.strip_prefix(b" ")?;
+    Some(Placed {
+        line,
+        column,
+        message,
+    })
+}
+
+// The object of such a message.
+fn placed_object(alloc: Global, placed: Placed<'_>) -> Result<Object, AllocError> {
+    let message = String::from_utf8_lossy(alloc, placed.message)?;
+    let message = message.as_str();
+    let (kind, words) = match message.strip_prefix("warning: ") {
+        Some(words) => ("warning", words),
+        None => ("further", message),
+    };
+    let mut object = Object::new(alloc, kind)?;
+    object.words("file", "-")?;
+    object.count("line", placed.line)?;
+    object.count("column", placed.column)?;
+    add_message(&mut object, words)?;
+    Ok(object)
+}
+
+// How many bytes at the front of a line are spaces.
+fn spaces(line: &[u8]) -> usize {
+    line.iter().take_while(|byte| **byte == b' ').count()
+}
+
+// How many are digits.
+fn digits(line: &[u8]) -> usize {
+    line.iter().take_while(|byte| byte.is_ascii_digit()).count()
+}
+
+// Whether a line shows a line of a text, or a caret below one.
+fn is_excerpt(line: &[u8]) -> bool {
+    let number = line.get(spaces(line)..).unwrap_or(b"");
+    let rest = number.get(digits(number)..).unwrap_or(b"");
+    if rest.len() < number.len() {
+        rest.starts_with(b" | ")
+    } else {
+        number.len() < line.len() && rest.starts_with(b"| ")
+    }
+}
+
+// Whether a line says what the object of a fault says already.
+fn is_said(line: &[u8]) -> bool {
+    let Some(words) = line.strip_prefix(b"cclib: ") else {
+        return false;
+    };
+    for number in 1..100 {
+        if let Some(said) = words_of(number)
+            && said.as_bytes() == words
+        {
+            return true;
+        }
+    }
+    false
+}
+
+/// The object of a line of explanations; nothing if the object of a fault has it already, or if it only shows the text.
+pub(crate) fn told_object(alloc: Global, line: &[u8]) -> Result<Option<Object>, AllocError> {
+    if is_excerpt(line) || is_said(line) {
+        return Ok(None);
+    }
+    match message_in(line) {
+        Some(placed) => Ok(Some(placed_object(alloc, placed)?)),
+        None => Ok(Some(plain_line(alloc, line)?)),
+    }
+}

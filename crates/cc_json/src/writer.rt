@@ -1,0 +1,119 @@
+// A writer of lines. Each line becomes an object of JSON.
+
+use super::line::{LineObject, Said, object_of_line};
+use super::object::{Object, write_object};
+use super::place::told_object;
+use super::telling::add_message;
+use cc_answers::words_of;
+use std::alloc::{AllocError, Global};
+use std::io::{self, Write};
+
+/// The most bytes of a line that are held: a longer one becomes several objects.
+const MOST_LINE: usize = 65_536;
+
+/// What lines are.
+#[derive(Clone, Copy)]
+pub enum LineKind {
+    /// Answers.
+    Answers,
+    /// Explanations beside them.
+    Told,
+}
+
+/// A writer of lines. Each line becomes an object of JSON on a line of its own. What is no whole line becomes one when it is flushed.
+#[derive(Drop)]
+pub struct InJson<W: Drop> {
+    alloc: Global,
+    writer: W,
+    lines: LineKind,
+    line: Vec<u8>,
+}
+
+// The words that explain a fault with this number.
+fn words_of_fault(number: u64) -> Option<&'static str> {
+    match u32::try_from(number) {
+        Ok(number) => words_of(number),
+        Err(_) => None,
+    }
+}
+
+// The object of a line of an answer, with the words of a fault.
+fn answer_object(alloc: Global, line: &[u8]) -> Result<Object, AllocError> {
+    let LineObject { mut object, said } = object_of_line(alloc, line)?;
+    if let Said::Fault(number) = said
+        && let Some(words) = words_of_fault(number)
+    {
+        add_message(&mut object, words)?;
+    }
+    Ok(object)
+}
+
+// The object of a line; nothing if the line is left out.
+fn object_of(alloc: Global, lines: LineKind, line: &[u8]) -> Result<Option<Object>, AllocError> {
+    match lines {
+        LineKind::Answers => Ok(Some(answer_object(alloc, line)?)),
+        LineKind::Told => told_object(alloc, line),
+    }
+}
+
+impl<W: Write + Drop> InJson<W> {
+    /// Before this writer, for lines of this kind.
+    pub fn new(alloc: Global, writer: W, lines: LineKind) -> InJson<W> {
+        InJson {
+            alloc,
+            writer,
+            lines,
+            line: Vec::new(alloc),
+        }
+    }
+
+    /// The writer of the objects. What is no whole line, and was not flushed, is left out.
+    pub fn into_writer(self) -> W {
+        let InJson {
+            alloc: _,
+            writer,
+            lines: _,
+            line,
+        } = self;
+        drop(line);
+        writer
+    }
+
+    // Writes the object of the line that is there.
+    fn finish_line(&mut self) -> io::Result<()> {
+        let object = object_of(self.alloc, self.lines, self.line.as_slice())?;
+        self.line.clear();
+        match object {
+            Some(object) => write_object(self.alloc, object, &mut self.writer),
+            None => Ok(()),
+        }
+    }
+
+    // Takes a byte.
+    fn take(&mut self, byte: u8) -> io::Result<()> {
+        if byte == b'\n' {
+            return self.finish_line();
+        }
+        if self.line.len() >= MOST_LINE {
+            self.finish_line()?;
+        }
+        self.line.push(byte)?;
+        Ok(())
+    }
+}
+
+impl<W: Write + Drop> Write for InJson<W> {
+    fn write(&mut self, bytes: &[u8]) -> io::Result<usize> {
+        for byte in bytes {
+            self.take(*byte)?;
+        }
+        Ok(bytes.len())
+    }
+
+    fn flush(&mut self) -> io::Result<()> {
+        if !self.line.is_empty() {
+            self.finish_line()?;
+        }
+        self.writer.flush()
+    }
+}

@@ -1,0 +1,2 @@
+-- Answers that are written and then flushed.
+pub mod Settled

@@ -1,0 +1,14 @@
+// How much of its area a library takes.
+
+/// How much of an area the records of a library take, in bytes, and how many units it has.
+#[derive(Clone, Copy, Drop)]
+pub struct SpaceUse {
+    /// The size of an area.
+    pub area: usize,
+    /// What the records take. The closed gate after the last one takes one byte more.
+    pub used: usize,
+    /// What they would take after a compaction.
+    pub compacted: usize,
+    /// How many names have a unit.
+    pub units: usize,
+}

@@ -1,0 +1,69 @@
+// The source of a function's allocation, and who watches the function go through the passes.
+
+use cc_cminor::CminorPair;
+use cc_linear_language::LinearPair;
+use cc_ltl::Ltl;
+use cc_rtl::Rtl;
+use cc_select::SelectedPair;
+use std::alloc::AllocError;
+
+/// The source of a function's allocation. Nothing is believed of any: the validator judges each.
+#[derive(Drop)]
+pub enum Allocation {
+    /// Registers, and a slot for each value if the validator refuses these.
+    Chosen,
+    /// A slot for each value.
+    Spilled,
+    /// This one, as the certificate of a stored unit has it.
+    Given(Ltl),
+}
+
+/// Who made LTL.
+#[derive(Clone, Copy)]
+pub enum Allocator {
+    /// It has values in registers.
+    Colour,
+    /// It has a slot for each value.
+    Spill,
+    /// It was given.
+    Given,
+}
+
+/// What is seen of a function: what a pass made of it, in the order of the passes.
+#[derive(Clone, Copy)]
+pub enum Seen<'a> {
+    /// Cminor.
+    Cminor(&'a CminorPair),
+    /// Cminor with guards, of a checked function alone.
+    Guarded(&'a CminorPair),
+    /// RTL as it is generated.
+    Rtl(&'a Rtl),
+    /// RTL in which the nodes that nobody needs are nops.
+    Pruned(&'a Rtl),
+    /// LTL that the validator has not judged.
+    Allocated(Allocator, &'a Ltl),
+    /// The validator refuses it, at this label.
+    Refused(u32),
+    /// The validator accepts it.
+    Validated(&'a Ltl),
+    /// Linear.
+    Linear(&'a LinearPair),
+    /// The steps that selection gives.
+    Selected(&'a SelectedPair),
+}
+
+/// Who watches a function go through the passes.
+pub trait Watch {
+    /// Sees what a pass made. After an `Err` the function goes no further, and is refused as if memory had run out (40).
+    fn see(&mut self, seen: Seen<'_>) -> Result<(), AllocError>;
+}
+
+/// Nobody watches.
+#[derive(Drop)]
+pub struct Unwatched;
+
+impl Watch for Unwatched {
+    fn see(&mut self, _seen: Seen<'_>) -> Result<(), AllocError> {
+        Ok(())
+    }
+}

@@ -1,0 +1,127 @@
+// How each line of a script was answered, as its answer is written: by the line that ends the answer to it.
+
+use std::alloc::Global;
+
+/// The most bytes of a line that matter.
+const LINE_BYTES: usize = 64;
+
+/// The last record of an image.
+const LAST_RECORD: &[u8] = b":00000001FF";
+
+/// How a line was answered.
+#[derive(Clone, Copy, Debug, Drop, PartialEq, Eq)]
+pub(crate) enum Word {
+    Ok,
+    Fault(u32),
+    Going,
+    Exited,
+    Trapped,
+    Source,
+    Image,
+}
+
+/// How the lines were answered whose answers were written.
+#[derive(Drop)]
+pub(crate) struct AnswerWords {
+    // The line that is being written, as far as it matters.
+    line: Vec<u8>,
+    // How many bytes of a source, with its newline, are to come.
+    within: u64,
+    words: Vec<Word>,
+    // Whether all words so far were kept.
+    is_whole: bool,
+}
+
+// The number that a word is, as far as it is one.
+fn number_of(word: &[u8]) -> u32 {
+    let mut number = 0u32;
+    for byte in word {
+        if byte.is_ascii_digit() {
+            let digit = u32::from(byte.saturating_sub(b'0'));
+            number = number.saturating_mul(10).saturating_add(digit);
+        }
+    }
+    number
+}
+
+// How a line of the script was answered, if this line ends its answer.
+fn word_of(line: &[u8]) -> Option<Word> {
+    if line == LAST_RECORD {
+        return Some(Word::Image);
+    }
+    let mut words = line.split(|byte| *byte == b' ');
+    let first = words.next()?;
+    if first == b"ok".as_slice() {
+        Some(Word::Ok)
+    } else if first == b"fault".as_slice() {
+        Some(Word::Fault(number_of(words.next().unwrap_or(b""))))
+    } else if first == b"going".as_slice() {
+        Some(Word::Going)
+    } else if first == b"exited".as_slice() {
+        Some(Word::Exited)
+    } else if first == b"trapped".as_slice() {
+        Some(Word::Trapped)
+    } else if first == b"source".as_slice() {
+        Some(Word::Source)
+    } else {
+        None
+    }
+}
+
+// How many bytes of a source come after a line, with the newline after them.
+fn source_after(line: &[u8]) -> u64 {
+    let mut words = line.split(|byte| *byte == b' ');
+    if words.next().unwrap_or(b"") != b"source".as_slice() {
+        return 0;
+    }
+    match words.next() {
+        Some(digits) => u64::from(number_of(digits)).saturating_add(1),
+        None => 0,
+    }
+}
+
+impl AnswerWords {
+    /// Nothing of the answer was written yet.
+    pub(crate) fn new(alloc: Global) -> AnswerWords {
+        AnswerWords {
+            line: Vec::new(alloc),
+            within: 0,
+            words: Vec::new(alloc),
+            is_whole: true,
+        }
+    }
+
+    /// How the lines were answered, in turn.
+    pub(crate) fn words(&self) -> &[Word] {
+        self.words.as_slice()
+    }
+
+    // A line has ended.
+    fn end_line(&mut self) {
+        if let Some(word) = word_of(self.line.as_slice())
+            && self.is_whole
+        {
+            self.is_whole = self.words.push(word).is_ok();
+        }
+        self.within = source_after(self.line.as_slice());
+        self.line.clear();
+    }
+
+    // Takes a byte of the answer.
+    fn take_byte(&mut self, byte: u8) {
+        if self.within > 0 {
+            self.within -= 1;
+        } else if byte == b'\n' {
+            self.end_line();
+        } else if self.line.len() < LINE_BYTES && self.line.push(byte).is_err() {
+            self.is_whole = false;
+        }
+    }
+
+    /// Takes bytes that were written.
+    pub(crate) fn take(&mut self, bytes: &[u8]) {
+        for byte in bytes {
+            self.take_byte(*byte);
+        }
+    }
+}

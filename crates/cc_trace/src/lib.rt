@@ -1,0 +1,18 @@
+//! The way that a run goes: which calls, turns, values and words there are, how often each instruction runs, and which calls are open.
+//!
+//! `running` runs the instructions that `cc_diagnostic` writes of a tree once more, `marks` says where each comes from, `events` has what is
+//! watched; `tree` makes what is run of a tree.
+//!
+//! The answer itself is that of `cc_meaning`: what is seen here rests on the text, the input and the answer alone, and no promise rests on it.
+//! Each call is safe, ends, and refuses nothing but for lack of memory.
+#![tactic(auto)]
+
+mod events;
+mod marks;
+mod running;
+mod tree;
+
+pub use events::{Arguments, Counts, Event, Watch};
+pub use marks::{Mark, NOWHERE, marks_of};
+pub use running::{OpenCall, Program, Replay, Trouble, Wrong};
+pub use tree::{Traced, traced_unit, words_of};
