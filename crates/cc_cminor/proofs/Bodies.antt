@@ -7,18 +7,18 @@ use Rattle.cc_resolve.specs.Layout.{Layout, LaidObject, layout_of, callee}
 use Rattle.cc_resolve.specs.Environment.{Environment, parameter_names}
 use Rattle.cc_resolve.specs.declared.layout.Callee.{Callee}
 use Rattle.cc_resolve.specs.declared.layout.Callee.TheVariants.{WriteWord, ReadWord, Defined}
-use Rattle.cc_c_laws.specs.Meaning as meaning
-use Rattle.cc_c_laws.specs.Meaning.{Global, State, Run, Gives, Flow, Falls, Breaks, Continues, Returns, then_do, execute_all, Function, functions, calls, bound, result_of, run_optional, initial_globals, text_of}
-use Rattle.cc_c_laws.specs.Function.{Shared, effect_of, state_within, call_function}
-use Rattle.cc_c_laws.specs.Resolved as resolved
-use Rattle.cc_c_laws.specs.Resolved.{arities, IsResolved}
-use Rattle.cc_c_laws.specs.Calls.{NamedSize, size, sizes, laid_size, laid_sizes, shared_of, called, CallsAreEffects, CallsKeepObjects, FunctionsAreNumbered, ObjectsAreNumbered, ObjectsAreSized}
-use Rattle.cc_c_laws.specs.Checked.{stays}
-use Rattle.cc_c_laws.specs.declared.cause.Cause.{Cause}
-use Rattle.cc_c_laws.specs.declared.mode.Mode.{Mode}
-use Rattle.cc_c_laws.specs.declared.mode.Mode.TheVariants.{Plain, Checked}
-use Rattle.cc_c_laws.specs.Numbered as by_number
-use Rattle.cc_c_laws.specs.Numbered.{objects_of, world_of, named, shared_in, gone_wrong, numbered, call_in, body_in, arity_in, IsMeaning, CallsAreNumbered}
+use Rattle.cc_c_semantics.specs.Meaning as meaning
+use Rattle.cc_c_semantics.specs.Meaning.{Global, State, Run, Gives, Flow, Falls, Breaks, Continues, Returns, then_do, execute_all, Function, functions, calls, bound, result_of, run_optional, initial_globals, text_of}
+use Rattle.cc_c_semantics.specs.Function.{Shared, effect_of, state_within, call_function}
+use Rattle.cc_c_semantics.specs.Resolved as resolved
+use Rattle.cc_c_semantics.specs.Resolved.{arities, IsResolved}
+use Rattle.cc_c_semantics.specs.Calls.{NamedSize, size, sizes, laid_size, laid_sizes, shared_of, called, CallsAreEffects, CallsKeepObjects, FunctionsAreNumbered, ObjectsAreNumbered, ObjectsAreSized}
+use Rattle.cc_c_semantics.specs.Checked.{stays}
+use Rattle.cc_c_semantics.specs.declared.cause.Cause.{Cause}
+use Rattle.cc_c_semantics.specs.declared.mode.Mode.{Mode}
+use Rattle.cc_c_semantics.specs.declared.mode.Mode.TheVariants.{Plain, Checked}
+use Rattle.cc_c_semantics.specs.Numbered as by_number
+use Rattle.cc_c_semantics.specs.Numbered.{objects_of, world_of, named, shared_in, gone_wrong, numbered, call_in, body_in, arity_in, IsMeaning, CallsAreNumbered}
 use Rattle.cc_types.specs.Typed.{IsTyped}
 use Rattle.cc_simulation.specs.Behavior.{Ended}
 use Rattle.cc_simulation.specs.World as world

@@ -8,8 +8,8 @@ use Rattle.cc_ast.specs.Tree as tree
 use Rattle.cc_ast.specs.Tree.{Name, Expr, Action, Declarator, Beginning, Declares, Performs, Stmt, Stmts, end, next, Perform, Break, Continue, IfElse, While, DoWhile, For}
 use Rattle.cc_resolve.specs.Layout.{Layout}
 use Rattle.cc_resolve.specs.Environment.{Environment, types_in, inner, with_local, with_locals, behind, behind_beginning}
-use Rattle.cc_c_laws.specs.Meaning as meaning
-use Rattle.cc_c_laws.specs.Meaning.{State, Run, Gives, Flow, Falls, Breaks, Continues, Returns, then_do, choose, evaluate, evaluate_or, perform_optional, start, spend_of, behind_flow, behind_body, begin_body, turns, left_scope, in_block, execute, execute_all}
+use Rattle.cc_c_semantics.specs.Meaning as meaning
+use Rattle.cc_c_semantics.specs.Meaning.{State, Run, Gives, Flow, Falls, Breaks, Continues, Returns, then_do, choose, evaluate, evaluate_or, perform_optional, start, spend_of, behind_flow, behind_body, begin_body, turns, left_scope, in_block, execute, execute_all}
 use Rattle.cc_simulation.specs.Run.{tried, Returns as Ret}
 use Rattle.cc_cminor.specs.Cminor.{Expression, Constant, value, Statement, Skip, Sequence, Loop, Block, Exit, Return, Continuation, Then, Again, Leaving, Config, config}
 use Rattle.cc_cminor.specs.Code.{in_sequence}

@@ -9,17 +9,17 @@ use Rattle.cc_ast.specs.declared.ast.AssignmentOperator.{AssignmentOperator}
 use Rattle.cc_ast.specs.declared.ast.AssignmentOperator.TheVariants as assignment
 use Rattle.cc_ast.specs.declared.ast.StepOperator.{StepOperator}
 use Rattle.cc_ast.specs.declared.ast.StepOperator.TheVariants as steps
-use Rattle.cc_c_laws.specs.declared.cause.Cause.TheVariants.{Index}
+use Rattle.cc_c_semantics.specs.declared.cause.Cause.TheVariants.{Index}
 use Rattle.cc_types.specs.Operators.{binary_word, working_type, applied_operator, step_operator}
 use Rattle.cc_types.specs.Types.{value_type, target_type}
 use Rattle.cc_ast.specs.Tree.{Expr, Target, AtVariable, AtElement, Action, Assign, Step, Evaluate, Declarator, Beginning, Declares, Performs}
 use Rattle.cc_types.specs.Names.{same_name}
 use Rattle.cc_resolve.specs.Layout.{Layout}
 use Rattle.cc_resolve.specs.Environment.{Environment, types_in, number_in, with_local, with_locals, behind_beginning}
-use Rattle.cc_c_laws.specs.Meaning as meaning
-use Rattle.cc_c_laws.specs.Calls.{NamedSize, size, sizes, laid_sizes}
-use Rattle.cc_c_laws.specs.Checked.{stays}
-use Rattle.cc_c_laws.specs.Meaning.{Global, State, Run, Gives, Flow, Falls, then_do, given, read_element, write_element, evaluate, evaluate_or, Destination, ToVariable, ToElement, destination, old_value, write, new_value, perform, perform_optional, stored, declare, start, global_words, local_word, with_local_word, with_element, variable_word}
+use Rattle.cc_c_semantics.specs.Meaning as meaning
+use Rattle.cc_c_semantics.specs.Calls.{NamedSize, size, sizes, laid_sizes}
+use Rattle.cc_c_semantics.specs.Checked.{stays}
+use Rattle.cc_c_semantics.specs.Meaning.{Global, State, Run, Gives, Flow, Falls, then_do, given, read_element, write_element, evaluate, evaluate_or, Destination, ToVariable, ToElement, destination, old_value, write, new_value, perform, perform_optional, stored, declare, start, global_words, local_word, with_local_word, with_element, variable_word}
 use Rattle.cc_simulation.specs.World as world
 use Rattle.cc_simulation.specs.World.{World}
 use Rattle.cc_simulation.specs.Run.{Goes, Fails, tried}

@@ -13,12 +13,12 @@ use Rattle.cc_resolve.specs.Layout.{Layout, callee}
 use Rattle.cc_resolve.specs.Environment.{Environment, types_in}
 use Rattle.cc_resolve.specs.declared.layout.Callee.{Callee}
 use Rattle.cc_resolve.specs.declared.layout.Callee.TheVariants.{WriteWord, ReadWord, Defined}
-use Rattle.cc_c_laws.specs.Meaning as meaning
-use Rattle.cc_c_laws.specs.Meaning.{State, Run, Gives, then_do, choose, given, unless_decided, read_element, read_input, evaluate, evaluate_all, variable_word}
-use Rattle.cc_c_laws.specs.Function as by_name
-use Rattle.cc_c_laws.specs.Calls.{sizes, laid_sizes, shared_of, after_call, KeepsObjects}
-use Rattle.cc_c_laws.specs.Checked.{stays}
-use Rattle.cc_c_laws.specs.Numbered.{world_of, numbered}
+use Rattle.cc_c_semantics.specs.Meaning as meaning
+use Rattle.cc_c_semantics.specs.Meaning.{State, Run, Gives, then_do, choose, given, unless_decided, read_element, read_input, evaluate, evaluate_all, variable_word}
+use Rattle.cc_c_semantics.specs.Function as by_name
+use Rattle.cc_c_semantics.specs.Calls.{sizes, laid_sizes, shared_of, after_call, KeepsObjects}
+use Rattle.cc_c_semantics.specs.Checked.{stays}
+use Rattle.cc_c_semantics.specs.Numbered.{world_of, numbered}
 use Rattle.cc_simulation.specs.World as world
 use Rattle.cc_simulation.specs.World.{World, Question, Answer, Effect, first_or_zero, rest_of}
 use Rattle.cc_simulation.specs.Run as layer

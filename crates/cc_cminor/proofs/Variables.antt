@@ -9,7 +9,7 @@ use Rattle.cc_ast.specs.declared.ast.BinaryOperator.{BinaryOperator}
 use Rattle.cc_ast.specs.declared.ast.BinaryOperator.TheVariants as source
 use Rattle.cc_ast.specs.declared.ast.UnaryOperator.{UnaryOperator}
 use Rattle.cc_ast.specs.declared.ast.UnaryOperator.TheVariants as prefix
-use Rattle.cc_c_laws.specs.declared.cause.Cause.TheVariants.{Index}
+use Rattle.cc_c_semantics.specs.declared.cause.Cause.TheVariants.{Index}
 use Rattle.cc_types.specs.Names.{same_name}
 use Rattle.cc_types.specs.Operators.{unary_word, binary_word, decided, is_true, working_type}
 use Rattle.cc_types.specs.Types.{value_type}
@@ -21,10 +21,10 @@ use Rattle.cc_words.specs.declared.operators.Binary as binary
 use Rattle.cc_words.specs.declared.operators.Binary.TheVariants as two
 use Rattle.cc_ast.specs.Tree as tree
 use Rattle.cc_ast.specs.Tree.{Name, Expr, Exprs, none, more, Number, Variable, Element, Parenthesised, Cast, Conditional}
-use Rattle.cc_c_laws.specs.Meaning as meaning
-use Rattle.cc_c_laws.specs.Meaning.{Global, State, Run, Gives, then_do, given, unless_decided, read_element, Calls, evaluate, evaluate_all, local_word, with_local_word, variable_word, global_words, with_element}
-use Rattle.cc_c_laws.specs.Calls.{NamedSize, sizes, laid_sizes}
-use Rattle.cc_c_laws.specs.Numbered.{objects_of}
+use Rattle.cc_c_semantics.specs.Meaning as meaning
+use Rattle.cc_c_semantics.specs.Meaning.{Global, State, Run, Gives, then_do, given, unless_decided, read_element, Calls, evaluate, evaluate_all, local_word, with_local_word, variable_word, global_words, with_element}
+use Rattle.cc_c_semantics.specs.Calls.{NamedSize, sizes, laid_sizes}
+use Rattle.cc_c_semantics.specs.Numbered.{objects_of}
 use Rattle.cc_simulation.specs.World.{Object, World, element, object_with, stored}
 use Rattle.cc_resolve.specs.Layout.{LaidObject, Layout, object_number, extent_of}
 use Rattle.cc_resolve.specs.Environment.{Environment, types_in, number_in}

@@ -7,7 +7,7 @@ ghost use Rattle.std.specs.Prelude.{◌≡◌, ◌<◌, length, IfOk};
 ghost use Rattle.std.specs.Arc.{arc_value};
 ghost use Rattle.cc_ast.specs.Source.{source};
 ghost use Rattle.cc_types.specs.Typed.{defined_names};
-ghost use Rattle.cc_c_laws.specs.declared.mode.Mode.TheVariants.{Plain};
+ghost use Rattle.cc_c_semantics.specs.declared.mode.Mode.TheVariants.{Plain};
 ghost use Rattle.cc_cminor.specs.Code.{statement_of};
 ghost use Rattle.cc_cminor.specs.Pair.{tree_of, code_of, FailsAlike, GoesWrong};
 ghost use Rattle.cc_cminor.specs.Exits.{ExitsFit};
@@ -19,7 +19,7 @@ use super::code::Statement;
 use super::fault::CminorFault;
 use super::pair::CminorPair;
 use super::statements::body;
-use cc_c_laws::{
+use cc_c_semantics::{
     Mode, calls_are_effects, calls_keep_objects, functions_are_resolved, names_have_numbers,
     units_have_meanings,
 };

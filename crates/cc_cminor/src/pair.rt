@@ -2,13 +2,13 @@
 
 ghost use Rattle.std.specs.Prelude.{◌≡◌, ◌<◌, length};
 ghost use Rattle.std.specs.Arc.{arc_value};
-ghost use Rattle.cc_c_laws.specs.Meaning.{functions};
+ghost use Rattle.cc_c_semantics.specs.Meaning.{functions};
 ghost use Rattle.cc_types.specs.Typed.{IsTyped};
 ghost use Rattle.cc_cminor.specs.Numbers.{StatementFits};
 ghost use Rattle.cc_cminor.specs.Pair.{Pair, tree_of, code_of, AreCalls, KeepsUp, FollowsFunction, IsPair};
 
 use super::code::Statement;
-use cc_c_laws::Mode;
+use cc_c_semantics::Mode;
 use cc_types::TypedUnit;
 use std::marker::Model;
 use std::sync::Arc;
@@ -38,7 +38,7 @@ impl Model for CminorPair {
     ghost use Rattle.std.specs.Arc.{arc_value};
     ghost use Rattle.std.specs.Coded.{codes};
     ghost use Rattle.cc_ast.specs.contracts.unit.Unit as parsed;
-    ghost use Rattle.cc_c_laws.specs.contracts.mode.Mode as modes;
+    ghost use Rattle.cc_c_semantics.specs.contracts.mode.Mode as modes;
     ghost use Rattle.cc_cminor.specs.contracts.code.Statement as written;
     ghost use Rattle.cc_cminor.specs.Pair.{Pair, IsPair};
 

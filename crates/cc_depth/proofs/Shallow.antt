@@ -15,10 +15,10 @@ use Rattle.cc_types.specs.Operators.{working_type, unary_word, binary_word, deci
 use Rattle.cc_types.specs.Scope as scope
 use Rattle.cc_types.specs.Scope.{Binding, Visible, in_scope, opened, declared, scope_behind, scope_behind_beginning}
 use Rattle.cc_types.specs.Types.{value_type, target_type}
-use Rattle.cc_c_laws.specs.Outcome as outcome
-use Rattle.cc_c_laws.specs.Meaning.{Local, Global, State, Run, Gives, Going, Wrong, Flow, Falls, Breaks, Continues, Returns, then_do, choose, Calls, global_words, with_element, variable_word, stored, read_element, write_element, cause_of, given, unless_decided, evaluate, evaluate_all, evaluate_or, Destination, ToVariable, ToElement, destination, old_value, write, new_value, perform, perform_optional, spend_of, spend, behind_flow, behind_body, begin_body, turns, with_local, declare, start, left_scope, in_block, return, execute, execute_all, Function, functions, function_named, bound, result_of, run_body, run_optional, read_input, most_open, calls, initial_globals, outcome_of, source_behavior}
-use Rattle.cc_c_laws.specs.declared.cause.Cause.{Cause}
-use Rattle.cc_c_laws.specs.declared.cause.Cause.TheVariants.{Division, Shift, Index, Depth}
+use Rattle.cc_c_semantics.specs.Outcome as outcome
+use Rattle.cc_c_semantics.specs.Meaning.{Local, Global, State, Run, Gives, Going, Wrong, Flow, Falls, Breaks, Continues, Returns, then_do, choose, Calls, global_words, with_element, variable_word, stored, read_element, write_element, cause_of, given, unless_decided, evaluate, evaluate_all, evaluate_or, Destination, ToVariable, ToElement, destination, old_value, write, new_value, perform, perform_optional, spend_of, spend, behind_flow, behind_body, begin_body, turns, with_local, declare, start, left_scope, in_block, return, execute, execute_all, Function, functions, function_named, bound, result_of, run_body, run_optional, read_input, most_open, calls, initial_globals, outcome_of, source_behavior}
+use Rattle.cc_c_semantics.specs.declared.cause.Cause.{Cause}
+use Rattle.cc_c_semantics.specs.declared.cause.Cause.TheVariants.{Division, Shift, Index, Depth}
 use Rattle.cc_depth.specs.Cycles.{InExpression, InExpressions, InOptional, InTarget, InAction, InOptionalAction, InDeclarators, InBeginning, InStatement, InStatements, CallsLower, HasNoCycle}
 use Rattle.cc_depth.specs.Laws.{AcyclicProgramsAreNeverDeep}
 

@@ -3,7 +3,7 @@ use Rattle.std.specs.Prelude.{ℕ, ◌<◌, List, [], ◌∷◌, Option, None, S
 use Rattle.std.specs.List.{AllByRecursion}
 use Rattle.cc_ast.specs.Tree as tree
 use Rattle.cc_ast.specs.Tree.{Expr, Exprs, none, more, Number, Variable, Element, Call, Parenthesised, Unary, Cast, Binary, Conditional, Target, AtVariable, AtElement, Action, Assign, Step, Evaluate, Declarator, Beginning, Declares, Performs, Stmt, Stmts, end, next, Block, Perform, Return, Break, Continue, If, IfElse, While, DoWhile, For, External}
-use Rattle.cc_c_laws.specs.Meaning.{Function, functions, most_open}
+use Rattle.cc_c_semantics.specs.Meaning.{Function, functions, most_open}
 
 -- `Is` holds of each function that an expression calls, by its name
 abbrev mutual

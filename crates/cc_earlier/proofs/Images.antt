@@ -6,7 +6,7 @@ use Rattle.cc_rv32.specs.declared.image.Image.{Image}
 use Rattle.cc_tokens.specs.Tokens.{TokensAreOne}
 use Rattle.cc_ast.specs.Tree.{External}
 use Rattle.cc_types.specs.Verdict.{source_with}
-use Rattle.cc_c_laws.specs.Numbered.{without_cause}
+use Rattle.cc_c_semantics.specs.Numbered.{without_cause}
 use Rattle.cc_simulation.specs.Behavior.{Outcome, Follows}
 use Rattle.cc_link.specs.Agree.{image_behavior, program_behavior, Agreement}
 use Rattle.cc_earlier.specs.Texts.{HasNoChar, ArePlain, EarlierText, EarlierTreesStay, NoTreeIsNew, EarlierRulesStay, EarlierMeaningStays}

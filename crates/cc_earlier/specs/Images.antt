@@ -12,8 +12,8 @@ use Rattle.cc_types.specs.Scope.{first_file_scope}
 use Rattle.cc_types.specs.Rules.{defines_main, undefined_calls}
 use Rattle.cc_types.specs.Checked.{IsChecked}
 use Rattle.cc_types.specs.Verdict.{source_with}
-use Rattle.cc_c_laws.specs.Meaning.{source_behavior}
-use Rattle.cc_c_laws.specs.Numbered.{without_cause}
+use Rattle.cc_c_semantics.specs.Meaning.{source_behavior}
+use Rattle.cc_c_semantics.specs.Numbered.{without_cause}
 use Rattle.cc_simulation.specs.Behavior.{AreWords, Outcome, Follows}
 use Rattle.cc_link.specs.Agree.{image_behavior, Agree}
 use Rattle.cc_earlier.specs.Texts.{HasNoChar, EarlierText, earlier_externals_errors, earlier_excesses}

@@ -1,4 +1,4 @@
--- What a program did before there were arrays of `unsigned char`: each clause of `cc_c_laws/specs/Meaning` that has the state of a run, as
+-- What a program did before there were arrays of `unsigned char`: each clause of `cc_c_semantics/specs/Meaning` that has the state of a run, as
 -- it was then, over objects that have only words (`EarlierGlobal` of `Texts`). Clauses without a state are not repeated: none of them has
 -- another text now, except those on arrays of `unsigned char` themselves. The numbers in parentheses are clauses of ISO/IEC 9899:1999.
 use Rattle.std.specs.Prelude.{ℕ, zero, suc, ◌+◌, ◌-◌, true, false, List, [], ◌∷◌, ◌++◌, length, drop, nat_lt, if◌then◌else◌, Option, Some, None, is_some, unwrap_or, slice_get, codes}
@@ -12,11 +12,11 @@ use Rattle.cc_types.specs.Operators.{working_type, unary_word, binary_word, deci
 use Rattle.cc_types.specs.Scope as scope
 use Rattle.cc_types.specs.Scope.{Binding, Visible, in_scope, opened, declared, scope_behind, scope_behind_beginning}
 use Rattle.cc_types.specs.Types.{value_type, target_type}
-use Rattle.cc_c_laws.specs.Outcome as outcome
-use Rattle.cc_c_laws.specs.Outcome.{Outcome}
-use Rattle.cc_c_laws.specs.Meaning.{Local, Flow, Falls, Breaks, Continues, Returns, local_word, with_local_word, cause_of, Destination, ToVariable, ToElement, Function, functions, function_named, bound, result_of, most_open}
-use Rattle.cc_c_laws.specs.declared.cause.Cause.{Cause}
-use Rattle.cc_c_laws.specs.declared.cause.Cause.TheVariants.{Index, Depth}
+use Rattle.cc_c_semantics.specs.Outcome as outcome
+use Rattle.cc_c_semantics.specs.Outcome.{Outcome}
+use Rattle.cc_c_semantics.specs.Meaning.{Local, Flow, Falls, Breaks, Continues, Returns, local_word, with_local_word, cause_of, Destination, ToVariable, ToElement, Function, functions, function_named, bound, result_of, most_open}
+use Rattle.cc_c_semantics.specs.declared.cause.Cause.{Cause}
+use Rattle.cc_c_semantics.specs.declared.cause.Cause.TheVariants.{Index, Depth}
 use Rattle.cc_earlier.specs.Texts.{EarlierGlobal, earlier_words_of, earlier_with_element, earlier_initial_globals}
 
 -- ---- the state of a run, and what a part of a run results in

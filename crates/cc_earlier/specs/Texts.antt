@@ -22,8 +22,8 @@ use Rattle.cc_types.specs.Rules.{broken_if, optional_constant_errors, constants_
 use Rattle.cc_types.specs.Limits.{most_words, most_functions, too_many, past, function_names, objects, object_name, externals_excesses, excesses}
 use Rattle.cc_types.specs.declared.rule.RuleError.{RuleError}
 use Rattle.cc_types.specs.declared.rule.Rule.TheVariants.{Redeclared}
-use Rattle.cc_c_laws.specs.Meaning.{Global, global_words, with_element, initial_globals}
-use Rattle.cc_c_laws.specs.Function.{Shared, Effect, Answer, Answers, Unfinished, Failed, call_function, body_of_function}
+use Rattle.cc_c_semantics.specs.Meaning.{Global, global_words, with_element, initial_globals}
+use Rattle.cc_c_semantics.specs.Function.{Shared, Effect, Answer, Answers, Unfinished, Failed, call_function, body_of_function}
 
 -- ---- earlier texts
 

@@ -7,8 +7,8 @@ use Rattle.cc_types.specs.Limits.{too_many, most_parameters, parameter_excesses,
 use Rattle.cc_types.specs.Typed.{IsTyped, IsWithinLimits}
 use Rattle.cc_types.specs.Scope.{FileScope, file_scope_behind, first_file_scope}
 use Rattle.cc_types.specs.declared.rule.RuleError.{RuleError}
-use Rattle.cc_c_laws.specs.Meaning.{Function, functions, functions_from, text_of}
-use Rattle.cc_c_laws.specs.Numbered.{arity_in, objects_in}
+use Rattle.cc_c_semantics.specs.Meaning.{Function, functions, functions_from, text_of}
+use Rattle.cc_c_semantics.specs.Numbered.{arity_in, objects_in}
 use Rattle.cc_simulation.specs.World.{Size}
 use Rattle.cc_simulation.specs.Meaning.{Meaning}
 use Rattle.cc_simulation.specs.Tracks.{TracksForAll}

@@ -1,6 +1,6 @@
 -- The code of a whole function: its steps, each with how much of its address is known, in their frame.
 use Rattle.std.specs.Prelude.{ℕ, ◌+◌, Bool, false, Option, Some, None, List, ◌++◌, length, map}
-use Rattle.cc_c_laws.specs.Numbered.{objects_in}
+use Rattle.cc_c_semantics.specs.Numbered.{objects_in}
 use Rattle.cc_select.specs.Pair as above
 use Rattle.cc_select.specs.declared.step.Step.{Step}
 use Rattle.cc_emit.specs.declared.item.PieceItem.{PieceItem}

@@ -5,13 +5,13 @@ ghost use Rattle.cc_ast.specs.Erase.{object_trees, external_tree, external_trees
 ghost use Rattle.cc_ast.specs.Tree.{External as Tree};
 ghost use Rattle.cc_types.specs.Limits.{objects};
 ghost use Rattle.cc_types.specs.Typed.{IsTyped, IsWithinLimits};
-ghost use Rattle.cc_c_laws.specs.Numbered.{objects_in};
+ghost use Rattle.cc_c_semantics.specs.Numbered.{objects_in};
 ghost use Rattle.cc_rv32.specs.Machine.{globals_to};
 ghost use Rattle.cc_emit.specs.Objects.{object_address};
 ghost use Rattle.cc_emit.specs.internal.Bases.{base_in, bases_from, address_behind};
 
 use cc_ast::{External, Object};
-use cc_c_laws::names_have_numbers;
+use cc_c_semantics::names_have_numbers;
 use cc_rv32::map::GLOBALS_FROM;
 use cc_types::object_words;
 use std::alloc::{AllocError, Global};

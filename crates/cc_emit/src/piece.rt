@@ -2,14 +2,14 @@
 
 ghost use Rattle.std.specs.Prelude.{◌≡◌, ◌<◌, ◌≤◌, length};
 ghost use Rattle.std.specs.Arc.{arc_value};
-ghost use Rattle.cc_c_laws.specs.Meaning.{functions};
+ghost use Rattle.cc_c_semantics.specs.Meaning.{functions};
 ghost use Rattle.cc_ltl.specs.Ltl.{IsLtl};
 ghost use Rattle.cc_linear_language.specs.Pair.{most_blocks, LtlKeepsUp};
 ghost use Rattle.cc_emit.specs.Contract.{largest_frame};
 ghost use Rattle.cc_emit.specs.Piece.{Piece as Shown, tree_of, IsPieceOfUnit};
 
 use crate::item::PieceItem;
-use cc_c_laws::Mode;
+use cc_c_semantics::Mode;
 use cc_ltl::Ltl;
 use cc_types::TypedUnit;
 use std::marker::Model;
@@ -45,7 +45,7 @@ impl Model for Piece {
     ghost use Rattle.std.specs.Arc.{arc_value};
     ghost use Rattle.std.specs.Coded.{codes};
     ghost use Rattle.cc_ast.specs.contracts.unit.Unit as parsed;
-    ghost use Rattle.cc_c_laws.specs.contracts.mode.Mode as modes;
+    ghost use Rattle.cc_c_semantics.specs.contracts.mode.Mode as modes;
     ghost use Rattle.cc_emit.specs.Piece.{Piece as Shown, IsPieceOfUnit};
 
     ghost Value = { Shown };

@@ -4,7 +4,7 @@ use Rattle.std.specs.Arc.{arc_value}
 use Rattle.cc_ast.specs.Source.{source}
 use Rattle.cc_ast.specs.Tree.{Source}
 use Rattle.cc_types.specs.Typed.{defined_names}
-use Rattle.cc_c_laws.specs.declared.mode.Mode.{Mode}
+use Rattle.cc_c_semantics.specs.declared.mode.Mode.{Mode}
 use Rattle.cc_size.specs.Sized.{IsSizedIn}
 use Rattle.cc_size.specs.declared.recursion.Recursion.{Recursion}
 use Rattle.cc_size.specs.declared.size.FunctionSize.{FunctionSize}

@@ -5,7 +5,7 @@ use Rattle.std.proofs.Common.{◌≡◌, ℕ, zero, suc, ◌+◌, ◌<◌, ◌�
 use Rattle.std.specs.Prelude.{if◌then◌else◌}
 use Rattle.std.proofs.lemmas.Bool.Decides.{nat_tests, eqb_tells}
 use Rattle.cc_ast.specs.Tree.{External}
-use Rattle.cc_c_laws.specs.declared.mode.Mode.{Mode}
+use Rattle.cc_c_semantics.specs.declared.mode.Mode.{Mode}
 use Rattle.cc_words.specs.Operators.{apply_binary}
 use Rattle.cc_simulation.specs.World.{World, stored, next_word, after_read, after_write}
 use Rattle.cc_simulation.specs.Run.{Move, Goes, Calls, Returns, tried, run, work}

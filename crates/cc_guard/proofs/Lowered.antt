@@ -4,14 +4,14 @@
 use Rattle.std.proofs.Common.{◌≡◌, ℕ, suc, ◌≤◌, ◌<◌, List, [], ◌∷◌, ◌++◌, length, map, Option, Some, None, refl, sym, ap, ◌∙◌, Bool, true, false, if◌then◌else◌, subst, arith}
 use Rattle.std.proofs.lemmas.Bool.Decides.{nat_tests}
 use Rattle.cc_ast.specs.Tree.{External}
-use Rattle.cc_c_laws.specs.Meaning.{Global, initial_globals}
-use Rattle.cc_c_laws.specs.Function as by_name
-use Rattle.cc_c_laws.specs.Function.{call_function}
-use Rattle.cc_c_laws.specs.Calls.{NamedSize, sizes, KeepsObjects, CallsKeepObjects}
-use Rattle.cc_c_laws.specs.Checked.{stays}
-use Rattle.cc_c_laws.specs.declared.mode.Mode.{Mode}
-use Rattle.cc_c_laws.specs.declared.mode.Mode.TheVariants.{Checked}
-use Rattle.cc_c_laws.specs.Numbered.{names_of, objects_of, named, shared_in, objects_in, numbered, IsMeaning}
+use Rattle.cc_c_semantics.specs.Meaning.{Global, initial_globals}
+use Rattle.cc_c_semantics.specs.Function as by_name
+use Rattle.cc_c_semantics.specs.Function.{call_function}
+use Rattle.cc_c_semantics.specs.Calls.{NamedSize, sizes, KeepsObjects, CallsKeepObjects}
+use Rattle.cc_c_semantics.specs.Checked.{stays}
+use Rattle.cc_c_semantics.specs.declared.mode.Mode.{Mode}
+use Rattle.cc_c_semantics.specs.declared.mode.Mode.TheVariants.{Checked}
+use Rattle.cc_c_semantics.specs.Numbered.{names_of, objects_of, named, shared_in, objects_in, numbered, IsMeaning}
 use Rattle.cc_simulation.specs.World.{Object, Size, size_of, World, Answer, Effect, Gives, Unfinished, Failed}
 use Rattle.cc_simulation.specs.Meaning.{Meaning}
 use Rattle.cc_simulation.specs.Tracks.{Tracks}

@@ -6,18 +6,18 @@ use Rattle.std.proofs.Common.{◌≡◌, ℕ, zero, suc, ◌+◌, ◌-◌, ◌<�
 use Rattle.std.specs.Prelude.{if◌then◌else◌}
 use Rattle.std.proofs.lemmas.Bool.{cases_lt}
 use Rattle.cc_ast.specs.Tree.{External}
-use Rattle.cc_c_laws.specs.Outcome as outcome
-use Rattle.cc_c_laws.specs.Outcome.{Wrong}
-use Rattle.cc_c_laws.specs.Meaning.{functions}
-use Rattle.cc_c_laws.specs.Function as by_name
-use Rattle.cc_c_laws.specs.Function.{body_of_function}
-use Rattle.cc_c_laws.specs.Calls.{WithMoreSteps, BodiesGoOn, main_of, first_shared, HasMain, TypedUnitsHaveMain}
-use Rattle.cc_c_laws.specs.Checked.{stays, checked_stop, behavior}
-use Rattle.cc_c_laws.specs.declared.cause.Cause.{Cause}
-use Rattle.cc_c_laws.specs.declared.cause.Cause.TheVariants.{Division, Shift, Index, Depth}
-use Rattle.cc_c_laws.specs.declared.mode.Mode.{Mode}
-use Rattle.cc_c_laws.specs.declared.mode.Mode.TheVariants.{Plain, Checked}
-use Rattle.cc_c_laws.specs.Numbered.{world_of, shared_in, numbered, call_in, IsMeaning, TypedUnitsHaveMeanings, stop_without_cause, without_cause, outcome_by_number, ProgramsAreNumbered}
+use Rattle.cc_c_semantics.specs.Outcome as outcome
+use Rattle.cc_c_semantics.specs.Outcome.{Wrong}
+use Rattle.cc_c_semantics.specs.Meaning.{functions}
+use Rattle.cc_c_semantics.specs.Function as by_name
+use Rattle.cc_c_semantics.specs.Function.{body_of_function}
+use Rattle.cc_c_semantics.specs.Calls.{WithMoreSteps, BodiesGoOn, main_of, first_shared, HasMain, TypedUnitsHaveMain}
+use Rattle.cc_c_semantics.specs.Checked.{stays, checked_stop, behavior}
+use Rattle.cc_c_semantics.specs.declared.cause.Cause.{Cause}
+use Rattle.cc_c_semantics.specs.declared.cause.Cause.TheVariants.{Division, Shift, Index, Depth}
+use Rattle.cc_c_semantics.specs.declared.mode.Mode.{Mode}
+use Rattle.cc_c_semantics.specs.declared.mode.Mode.TheVariants.{Plain, Checked}
+use Rattle.cc_c_semantics.specs.Numbered.{world_of, shared_in, numbered, call_in, IsMeaning, TypedUnitsHaveMeanings, stop_without_cause, without_cause, outcome_by_number, ProgramsAreNumbered}
 use Rattle.cc_simulation.specs.Behavior as runs
 use Rattle.cc_simulation.specs.Behavior.{IsRight, Follows}
 use Rattle.cc_simulation.specs.World.{World, Question, Answer, Effect, Gives, Unfinished, Failed, IsWorld}

@@ -3,13 +3,13 @@ use Rattle.std.specs.Prelude.{◌≡◌, ℕ, ◌^◌, ◌<◌, List, [], ◌∷
 use Rattle.cc_ast.specs.Tree.{External, Source}
 use Rattle.cc_types.specs.Typed.{IsTyped}
 use Rattle.cc_simulation.specs.World.{IsWorld}
-use Rattle.cc_c_laws.specs.Outcome.{Wrong}
-use Rattle.cc_c_laws.specs.Meaning.{functions, source_behavior}
-use Rattle.cc_c_laws.specs.Calls.{first_shared}
-use Rattle.cc_c_laws.specs.Numbered.{world_of, objects_in}
-use Rattle.cc_c_laws.specs.declared.cause.Cause.{Cause}
-use Rattle.cc_c_laws.specs.declared.cause.Cause.TheVariants.{Depth}
-use Rattle.cc_c_laws.specs.declared.mode.Mode.TheVariants.{Checked}
+use Rattle.cc_c_semantics.specs.Outcome.{Wrong}
+use Rattle.cc_c_semantics.specs.Meaning.{functions, source_behavior}
+use Rattle.cc_c_semantics.specs.Calls.{first_shared}
+use Rattle.cc_c_semantics.specs.Numbered.{world_of, objects_in}
+use Rattle.cc_c_semantics.specs.declared.cause.Cause.{Cause}
+use Rattle.cc_c_semantics.specs.declared.cause.Cause.TheVariants.{Depth}
+use Rattle.cc_c_semantics.specs.declared.mode.Mode.TheVariants.{Checked}
 use Rattle.cc_cminor.specs.Cminor.{Expression, Constant, Local, Unary, Binary, Load, Statement, Skip, Set, Store, Call, Read, Write, Sequence, If, Loop, Block, Exit, Return}
 use Rattle.cc_cminor.specs.Pair.{AreCalls, KeepsUp, GoesWrong}
 

@@ -3,7 +3,7 @@
 ghost use Rattle.cc_guard.specs.Laws.{GuardsSetFew, UnguardedStays};
 ghost use Rattle.cc_guard.specs.Safe.{OnlyDepthIsLeft};
 
-use cc_c_laws::{calls_go_on, programs_call_main, units_have_meanings};
+use cc_c_semantics::{calls_go_on, programs_call_main, units_have_meanings};
 
 /// Shows that guards set at most two variables for each operation that may have no value.
 pub fn guards_set_few()

@@ -1,8 +1,8 @@
 // The pass: Cminor in which a test comes before each operation that may have no value.
 
 ghost use Rattle.std.specs.Prelude.{◌≡◌, ◌<◌, ◌≤◌, true, false, not, IfOk, OnOk, IfErr};
-ghost use Rattle.cc_c_laws.specs.Numbered.{objects_in};
-ghost use Rattle.cc_c_laws.specs.declared.mode.Mode.TheVariants.{Checked};
+ghost use Rattle.cc_c_semantics.specs.Numbered.{objects_in};
+ghost use Rattle.cc_c_semantics.specs.declared.mode.Mode.TheVariants.{Checked};
 ghost use Rattle.cc_cminor.specs.Code.{statement_of};
 ghost use Rattle.cc_cminor.specs.Exits.{ExitsFit};
 ghost use Rattle.cc_cminor.specs.Numbers.{most_variables};
@@ -20,7 +20,7 @@ use crate::guards::{Seen, with_loop};
 use crate::held::{MOST_VARIABLES, held};
 use crate::sizes::object_sizes;
 use crate::statements::{Done, statement};
-use cc_c_laws::{Mode, calls_keep_objects};
+use cc_c_semantics::{Mode, calls_keep_objects};
 use cc_cminor::{CminorPair, Statement, variables_above};
 use cc_types::TypedUnit;
 use std::alloc::{AllocError, Global};

@@ -7,12 +7,12 @@ ghost use Rattle.cc_types.specs.Limits.{objects};
 ghost use Rattle.cc_types.specs.Typed.{IsTyped};
 ghost use Rattle.cc_types.specs.Types.{object_elements, object_width};
 ghost use Rattle.cc_words.specs.declared.operators.Width.{Width};
-ghost use Rattle.cc_c_laws.specs.Numbered.{objects_in};
+ghost use Rattle.cc_c_semantics.specs.Numbered.{objects_in};
 ghost use Rattle.cc_guard.specs.Guard.{elements_in};
 ghost use Rattle.cc_guard.specs.internal.Written.{sizes_of, declared_sizes, is_byte};
 
 use cc_ast::{External, Object};
-use cc_c_laws::names_have_numbers;
+use cc_c_semantics::names_have_numbers;
 use cc_resolve::object_width;
 use cc_types::object_elements;
 use cc_words::Width;

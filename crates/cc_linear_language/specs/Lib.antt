@@ -3,5 +3,5 @@ pub mod Linear
 -- what a pair keeps
 pub mod Pair
 -- Pages of lower crates that clauses here cite, handed on.
-pub use Rattle.cc_c_laws.specs.Meaning
-pub use Rattle.cc_c_laws.specs.Numbered
+pub use Rattle.cc_c_semantics.specs.Meaning
+pub use Rattle.cc_c_semantics.specs.Numbered

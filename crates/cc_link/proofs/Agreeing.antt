@@ -4,10 +4,10 @@ use Rattle.cc_ast.specs.Tree.{External}
 use Rattle.cc_types.specs.Typed.{IsTyped, IsWithinLimits}
 use Rattle.cc_types.specs.Limits.{objects}
 use Rattle.cc_types.specs.Verdict.{source_with}
-use Rattle.cc_c_laws.specs.Meaning.{functions, initial_globals}
-use Rattle.cc_c_laws.specs.declared.mode.Mode.{Mode}
-use Rattle.cc_c_laws.specs.Calls.{HasMain, main_of, first_shared, TypedUnitsHaveMain, ObjectsAreSized}
-use Rattle.cc_c_laws.specs.Numbered.{IsMeaning, objects_of, world_of, outcome_by_number, TypedUnitsHaveMeanings, ProgramsAreNumbered}
+use Rattle.cc_c_semantics.specs.Meaning.{functions, initial_globals}
+use Rattle.cc_c_semantics.specs.declared.mode.Mode.{Mode}
+use Rattle.cc_c_semantics.specs.Calls.{HasMain, main_of, first_shared, TypedUnitsHaveMain, ObjectsAreSized}
+use Rattle.cc_c_semantics.specs.Numbered.{IsMeaning, objects_of, world_of, outcome_by_number, TypedUnitsHaveMeanings, ProgramsAreNumbered}
 use Rattle.cc_simulation.specs.Behavior.{Outcome, AreWords, Follows}
 use Rattle.cc_simulation.specs.Meaning.{Meaning}
 use Rattle.cc_simulation.specs.World.{Size}

@@ -10,10 +10,10 @@ use Rattle.cc_ast.specs.Limits.{TreesAreOne}
 use Rattle.cc_ast.specs.Parse.{SpellsText}
 use Rattle.cc_types.specs.Typed.{IsTyped, IsWithinLimits, defined_names}
 use Rattle.cc_types.specs.Checked.{IsChecked}
-use Rattle.cc_c_laws.specs.declared.mode.Mode.{Mode}
-use Rattle.cc_c_laws.specs.Meaning.{functions}
-use Rattle.cc_c_laws.specs.Calls.{ObjectsAreSized}
-use Rattle.cc_c_laws.specs.Numbered.{TypedUnitsHaveMeanings}
+use Rattle.cc_c_semantics.specs.declared.mode.Mode.{Mode}
+use Rattle.cc_c_semantics.specs.Meaning.{functions}
+use Rattle.cc_c_semantics.specs.Calls.{ObjectsAreSized}
+use Rattle.cc_c_semantics.specs.Numbered.{TypedUnitsHaveMeanings}
 use Rattle.cc_unit.specs.declared.unit.StoredUnit.{StoredUnit}
 use Rattle.cc_emit.specs.declared.item.PieceItem.{PieceItem}
 use Rattle.cc_emit.specs.Piece.{Piece, IsPieceOfUnit}

@@ -12,9 +12,9 @@ use Rattle.cc_tokens.specs.Tokens.{TokensAreOne}
 use Rattle.cc_ast.specs.Tree.{External}
 use Rattle.cc_ast.specs.Limits.{TreesAreOne}
 use Rattle.cc_ast.specs.Parse.{SpellsText}
-use Rattle.cc_c_laws.specs.declared.mode.Mode.{Mode}
-use Rattle.cc_c_laws.specs.declared.mode.Mode.TheVariants.{Plain}
-use Rattle.cc_c_laws.specs.Meaning.{functions}
+use Rattle.cc_c_semantics.specs.declared.mode.Mode.{Mode}
+use Rattle.cc_c_semantics.specs.declared.mode.Mode.TheVariants.{Plain}
+use Rattle.cc_c_semantics.specs.Meaning.{functions}
 use Rattle.cc_unit.specs.declared.unit.StoredUnit.{StoredUnit}
 use Rattle.cc_ltl.specs.Bytes.{word_bytes, ltl_bytes}
 use Rattle.cc_ltl.specs.Ltl.{Ltl, IsLtl}

@@ -13,10 +13,10 @@ use Rattle.cc_ast.specs.Parse.{SpellsText}
 use Rattle.cc_types.specs.Scope.{FileScope, first_file_scope, file_scope_behind}
 use Rattle.cc_types.specs.Limits.{function_names}
 use Rattle.cc_types.specs.Typed.{IsTyped, IsWithinLimits, defined_names}
-use Rattle.cc_c_laws.specs.declared.mode.Mode.{Mode}
-use Rattle.cc_c_laws.specs.Meaning.{functions, functions_from}
-use Rattle.cc_c_laws.specs.Calls.{ObjectsAreSized}
-use Rattle.cc_c_laws.specs.Numbered.{TypedUnitsHaveMeanings}
+use Rattle.cc_c_semantics.specs.declared.mode.Mode.{Mode}
+use Rattle.cc_c_semantics.specs.Meaning.{functions, functions_from}
+use Rattle.cc_c_semantics.specs.Calls.{ObjectsAreSized}
+use Rattle.cc_c_semantics.specs.Numbered.{TypedUnitsHaveMeanings}
 use Rattle.cc_simulation.specs.World.{Size}
 use Rattle.cc_emit.specs.declared.item.PieceItem.{PieceItem}
 use Rattle.cc_emit.specs.declared.item.PieceItem.TheVariants.{Plain, Call, Go}

@@ -12,7 +12,7 @@ use Rattle.cc_emit.specs.declared.item.PieceItem.{PieceItem}
 use Rattle.cc_emit.specs.Board.{executed_above, run_above}
 use Rattle.cc_emit.specs.declared.item.PieceItem.TheVariants.{Plain, Call, Go}
 use Rattle.cc_emit.specs.Contract.{Code, EachCalled, ObjectLayout, Path, Placed, Enters, ComesBack, IsEnough, Meets, IsPiece}
-use Rattle.cc_c_laws.specs.Numbered.{outcome_by_number}
+use Rattle.cc_c_semantics.specs.Numbered.{outcome_by_number}
 use Rattle.cc_link.specs.Agree.{shown, image_behavior}
 use Rattle.cc_link.specs.Link.{size_of, head, place_of, linked_code, encoded}
 use Rattle.cc_link.proofs.Counting.{Matched, follows}

@@ -15,11 +15,11 @@ use Rattle.cc_ast.specs.Limits.{TreesAreOne}
 use Rattle.cc_ast.specs.Parse.{SpellsText}
 use Rattle.cc_types.specs.Limits.{objects}
 use Rattle.cc_link.proofs.Sizes.{AllKept}
-use Rattle.cc_c_laws.specs.declared.mode.Mode.{Mode}
-use Rattle.cc_c_laws.specs.declared.mode.Mode.TheVariants.{Plain, Checked}
-use Rattle.cc_c_laws.specs.Meaning.{functions}
-use Rattle.cc_c_laws.specs.Calls.{TypedUnitsHaveMain, ObjectsAreSized}
-use Rattle.cc_c_laws.specs.Numbered.{TypedUnitsHaveMeanings, ProgramsAreNumbered, CheckedFollows}
+use Rattle.cc_c_semantics.specs.declared.mode.Mode.{Mode}
+use Rattle.cc_c_semantics.specs.declared.mode.Mode.TheVariants.{Plain, Checked}
+use Rattle.cc_c_semantics.specs.Meaning.{functions}
+use Rattle.cc_c_semantics.specs.Calls.{TypedUnitsHaveMain, ObjectsAreSized}
+use Rattle.cc_c_semantics.specs.Numbered.{TypedUnitsHaveMeanings, ProgramsAreNumbered, CheckedFollows}
 use Rattle.cc_unit.specs.declared.unit.StoredUnit.{StoredUnit}
 use Rattle.cc_emit.specs.declared.item.PieceItem.{PieceItem}
 use Rattle.cc_emit.specs.Piece.{Piece, tree_of, AreOf, IsPieceOfUnit}

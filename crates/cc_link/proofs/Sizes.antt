@@ -7,10 +7,10 @@ use Rattle.cc_types.specs.Types.{object_elements, object_width, object_words, in
 use Rattle.cc_types.specs.Limits.{most_words, too_many, past, function_names, objects, object_name, word_excesses, externals_excesses}
 use Rattle.cc_types.specs.Typed.{IsTyped, IsWithinLimits}
 use Rattle.cc_resolve.specs.Layout.{laid_from}
-use Rattle.cc_c_laws.specs.Meaning.{Global, initial_global, initial_globals}
-use Rattle.cc_c_laws.specs.Calls as calls
-use Rattle.cc_c_laws.specs.Calls.{sizes, laid_sizes, ObjectsAreSized}
-use Rattle.cc_c_laws.specs.Numbered.{objects_of, objects_in}
+use Rattle.cc_c_semantics.specs.Meaning.{Global, initial_global, initial_globals}
+use Rattle.cc_c_semantics.specs.Calls as calls
+use Rattle.cc_c_semantics.specs.Calls.{sizes, laid_sizes, ObjectsAreSized}
+use Rattle.cc_c_semantics.specs.Numbered.{objects_of, objects_in}
 use Rattle.cc_simulation.specs.Behavior.{AreWords}
 use Rattle.cc_simulation.specs.World.{Size, size_of}
 use Rattle.cc_emit.specs.Contract.{size_words}

@@ -2,9 +2,9 @@
 use Rattle.std.specs.Prelude.{◌≡◌, ℕ, ◌<◌, ◌⊎◌, List, length, Option, Some, None}
 use Rattle.cc_ast.specs.Tree.{External}
 use Rattle.cc_ast.specs.Parse.{SpellsText}
-use Rattle.cc_c_laws.specs.Meaning.{functions}
-use Rattle.cc_c_laws.specs.declared.mode.Mode.{Mode}
-use Rattle.cc_c_laws.specs.declared.mode.Mode.TheVariants.{Plain}
+use Rattle.cc_c_semantics.specs.Meaning.{functions}
+use Rattle.cc_c_semantics.specs.declared.mode.Mode.{Mode}
+use Rattle.cc_c_semantics.specs.declared.mode.Mode.TheVariants.{Plain}
 use Rattle.cc_rv32.specs.declared.image.Image.{Image}
 use Rattle.cc_link.specs.Agree.{Agree, AgreeIn}
 use Rattle.cc_link.specs.Certificate.{SpellsAll, EachKeepsUpIn}

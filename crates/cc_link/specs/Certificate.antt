@@ -6,7 +6,7 @@ use Rattle.cc_ltl.specs.Ltl.{Ltl, IsLtl}
 use Rattle.cc_ltl.specs.Bytes.{word_bytes, ltl_bytes}
 use Rattle.cc_ast.specs.Tree.{External}
 use Rattle.cc_linear_language.specs.Pair.{LtlKeepsUp}
-use Rattle.cc_c_laws.specs.declared.mode.Mode.{Mode}
+use Rattle.cc_c_semantics.specs.declared.mode.Mode.{Mode}
 
 -- how many bytes the LTL of a function takes, and these
 abbrev pub ltl_field : Ltl → List ℕ

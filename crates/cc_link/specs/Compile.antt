@@ -5,9 +5,9 @@ use Rattle.cc_ast.specs.Tree.{Name, External}
 use Rattle.cc_ast.specs.Source.{source}
 use Rattle.cc_types.specs.Limits.{function_names}
 use Rattle.cc_types.specs.Verdict.{source_with}
-use Rattle.cc_c_laws.specs.Meaning.{functions}
-use Rattle.cc_c_laws.specs.declared.mode.Mode.{Mode}
-use Rattle.cc_c_laws.specs.declared.mode.Mode.TheVariants.{Plain}
+use Rattle.cc_c_semantics.specs.Meaning.{functions}
+use Rattle.cc_c_semantics.specs.declared.mode.Mode.{Mode}
+use Rattle.cc_c_semantics.specs.declared.mode.Mode.TheVariants.{Plain}
 use Rattle.cc_mode.specs.Long.{IsLongIn}
 use Rattle.cc_emit.specs.Piece as emit
 use Rattle.cc_link.specs.Fault.{link_fault_number}

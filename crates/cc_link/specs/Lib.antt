@@ -29,4 +29,4 @@ pub mod Compile
 -- no promise rests on these
 pub mod internal
 -- Pages of crates below that clauses here cite, handed on.
-pub use Rattle.cc_c_laws.specs.Meaning
+pub use Rattle.cc_c_semantics.specs.Meaning

@@ -7,10 +7,10 @@ use Rattle.cc_ast.specs.Tree.{External, Source}
 use Rattle.cc_ast.specs.Source.{source}
 use Rattle.cc_types.specs.Limits.{objects}
 use Rattle.cc_link.specs.Packed.{image_words}
-use Rattle.cc_c_laws.specs.declared.mode.Mode.{Mode}
-use Rattle.cc_c_laws.specs.declared.mode.Mode.TheVariants.{Plain, Checked}
-use Rattle.cc_c_laws.specs.Meaning.{functions}
-use Rattle.cc_c_laws.specs.Calls.{main_of}
+use Rattle.cc_c_semantics.specs.declared.mode.Mode.{Mode}
+use Rattle.cc_c_semantics.specs.declared.mode.Mode.TheVariants.{Plain, Checked}
+use Rattle.cc_c_semantics.specs.Meaning.{functions}
+use Rattle.cc_c_semantics.specs.Calls.{main_of}
 use Rattle.cc_rv32.specs.declared.image.Image.{Image}
 use Rattle.cc_unit.specs.declared.unit.StoredUnit.{StoredUnit}
 use Rattle.cc_emit.specs.declared.item.PieceItem.{PieceItem}

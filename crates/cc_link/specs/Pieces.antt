@@ -1,7 +1,7 @@
 -- Whose pieces some pieces are.
 use Rattle.std.specs.Prelude.{ℕ, List, [], ◌∷◌, ◌≡◌, suc}
 use Rattle.cc_ast.specs.Source.{source}
-use Rattle.cc_c_laws.specs.declared.mode.Mode.{Mode}
+use Rattle.cc_c_semantics.specs.declared.mode.Mode.{Mode}
 use Rattle.cc_emit.specs.Piece.{Piece}
 
 -- pieces of a text in a mode, one of each function from this one on

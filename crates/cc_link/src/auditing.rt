@@ -7,7 +7,7 @@
 
 ghost use Rattle.std.specs.Prelude.{◌≡◌, ◌↔◌, ℕ, List, Some, MatchOption, IfOk, IfErr, IfSome, IsTrue};
 ghost use Rattle.std.specs.Option.{option_map};
-ghost use Rattle.cc_c_laws.specs.declared.mode.Mode.{Mode};
+ghost use Rattle.cc_c_semantics.specs.declared.mode.Mode.{Mode};
 ghost use Rattle.cc_rv32.specs.declared.image.Image.{Image};
 ghost use Rattle.cc_link.specs.Audit.{AuditSays, AuditSaysIn, IsConfirmedIn, IsFailedPartIn};
 ghost use Rattle.cc_link.specs.Compile.{IsBuildRefusalIn, IsFirstWithoutIn};
@@ -21,7 +21,7 @@ use crate::compiling::compile_by;
 use crate::fault::LinkFault;
 use crate::laws::linked_units_follow;
 use crate::piece_fault::PieceFault;
-use cc_c_laws::Mode;
+use cc_c_semantics::Mode;
 use cc_rv32::image::Image;
 use cc_unit::StoredUnit;
 use std::alloc::{AllocError, Global};

@@ -4,14 +4,14 @@ ghost use Rattle.std.specs.Prelude.{◌≡◌, ◌<◌, length, IfOk, IfErr};
 ghost use Rattle.std.specs.Arc.{arc_value};
 ghost use Rattle.cc_ast.specs.Source.{source};
 ghost use Rattle.cc_types.specs.Typed.{defined_names};
-ghost use Rattle.cc_c_laws.specs.declared.mode.Mode.TheVariants.{Plain};
+ghost use Rattle.cc_c_semantics.specs.declared.mode.Mode.TheVariants.{Plain};
 ghost use Rattle.cc_link.specs.Compile.{IsNameAt, IsPieceRefusal, IsPieceRefusalIn};
 
 use crate::allocations::Allocations;
 use crate::passes::{finished, prepared};
 use crate::piece_fault::PieceFault;
 use crate::watching::{Allocation, Unwatched, Watch};
-use cc_c_laws::Mode;
+use cc_c_semantics::Mode;
 use cc_emit::Piece;
 use cc_rtl::RtlFault;
 use cc_types::TypedUnit;

@@ -24,7 +24,7 @@ mod words;
 pub use audit_answer::{Audit, FailedPart};
 pub use auditing::{audit, audit_in, compile_along_in, failed_part_in};
 pub use build_fault::BuildFault;
-pub use cc_c_laws::Mode;
+pub use cc_c_semantics::Mode;
 pub use cc_unit::{Certificate, MOST_SOURCE, Source, StoredUnit};
 pub use compiled::{Compilation, CompiledUnit};
 pub use compiling::{compile, compile_functions_in, compile_in, compile_whole_in};

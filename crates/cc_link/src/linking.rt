@@ -6,7 +6,7 @@
 ghost use Rattle.std.specs.Prelude.{◌≡◌, ◌⊎◌, ◌≤◌, ◌<◌, ◌^◌, Some, Ok, Err, All, length, IfOk, IfErr};
 ghost use Rattle.std.specs.Arc.{arc_value};
 ghost use Rattle.cc_ast.specs.Source.{source};
-ghost use Rattle.cc_c_laws.specs.Meaning.{functions};
+ghost use Rattle.cc_c_semantics.specs.Meaning.{functions};
 ghost use Rattle.cc_link.specs.declared.fault.LinkFault.TheVariants.{OutOfMemory};
 ghost use Rattle.cc_link.specs.Agree.{Agree, AgreeIn};
 ghost use Rattle.cc_link.specs.Made.{IsCompiled, IsMadeIn};
@@ -23,7 +23,7 @@ use crate::globals::image_words;
 use crate::laws::{linked_units_are_backed, linked_units_follow, unit_laws};
 use crate::order::{all_items, doubled, in_order, stranger};
 use crate::words::{code, fits};
-use cc_c_laws::Mode;
+use cc_c_semantics::Mode;
 use cc_emit::{Piece, PieceItem};
 use cc_resolve::lay_out;
 use cc_rv32::image::{Globals, Image};

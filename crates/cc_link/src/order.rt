@@ -11,7 +11,7 @@ ghost use Rattle.cc_link.specs.internal.Filling.{lent};
 ghost use Rattle.cc_link.specs.internal.Lent.{functions_of};
 
 use crate::fault::LinkFault;
-use cc_c_laws::Mode;
+use cc_c_semantics::Mode;
 use cc_emit::{Piece, PieceItem};
 use cc_types::TypedUnit;
 use std::alloc::{AllocError, Global};

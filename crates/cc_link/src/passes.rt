@@ -11,7 +11,7 @@ ghost use Rattle.cc_rtl.specs.Size.{function_nodes};
 ghost use Rattle.cc_rtl.specs.declared.fault.RtlFault.TheVariants.{FunctionTooLarge, OutOfMemory};
 
 use crate::watching::{Allocation, Allocator, Seen, Watch};
-use cc_c_laws::Mode;
+use cc_c_semantics::Mode;
 use cc_cminor::{CminorPair, to_cminor};
 use cc_colour::{colour, spill_all};
 use cc_emit::{Piece, emit};

@@ -14,18 +14,18 @@ use Rattle.cc_meaning.specs.internal.Form.{FormTree, store_of, store_element_of,
 use Rattle.cc_resolve.specs.Environment.{Environment, number_in}
 use Rattle.cc_resolve.specs.Layout.{extent_of}
 use Rattle.cc_resolve.specs.Operations.{operation}
-use Rattle.cc_c_laws.specs.Outcome as outcome
-use Rattle.cc_c_laws.specs.declared.cause.Cause.TheVariants.{Index}
-use Rattle.cc_c_laws.specs.Meaning as meaning
-use Rattle.cc_c_laws.specs.Meaning.{State, Run, Gives, Wrong, Flow, Falls, then_do, global_words, with_element, variable_word, stored, write_element, cause_of, given, ToVariable, ToElement, write, new_value}
-use Rattle.cc_c_laws.specs.Resolved.{IsOneWord}
+use Rattle.cc_c_semantics.specs.Outcome as outcome
+use Rattle.cc_c_semantics.specs.declared.cause.Cause.TheVariants.{Index}
+use Rattle.cc_c_semantics.specs.Meaning as meaning
+use Rattle.cc_c_semantics.specs.Meaning.{State, Run, Gives, Wrong, Flow, Falls, then_do, global_words, with_element, variable_word, stored, write_element, cause_of, given, ToVariable, ToElement, write, new_value}
+use Rattle.cc_c_semantics.specs.Resolved.{IsOneWord}
 use Rattle.cc_meaning.specs.internal.FormMeaning.{Activation, Configuration, Move, Goes, Stops, instruction_move, binary_result, cause_of_operation, only_if, with_word, operated}
-use Rattle.cc_c_laws.proofs.Named.{there}
-use Rattle.cc_c_laws.proofs.Held.{reads_local, no_local, all_of, get_past}
+use Rattle.cc_c_semantics.proofs.Named.{there}
+use Rattle.cc_c_semantics.proofs.Held.{reads_local, no_local, all_of, get_past}
 use Rattle.cc_meaning.proofs.Moves.{Leads, leads_then, conf, Meets, meets_after, meets_same, instructed, instructed_last}
 use Rattle.cc_meaning.proofs.Plain.{IsPlain, IsPlainIfAny}
 use Rattle.cc_meaning.proofs.Fits.{Fits, found_object, Sets, sets_local, Puts, puts_element, stored_object}
-use Rattle.cc_c_laws.proofs.Scoped.{Readable}
+use Rattle.cc_c_semantics.proofs.Scoped.{Readable}
 
 -- an action falls through, and leaves no operand
 pub record Acted (form : FormTree) (cs : List Activation) (total : ℕ) (c : Configuration) (v : Environment) (most q : ℕ) (flow : Flow) (t : State) : Type 0 where

@@ -5,9 +5,9 @@ use Rattle.cc_meaning.specs.declared.form.Instruction.TheVariants as instruction
 use Rattle.cc_meaning.specs.internal.Form.{FormTree}
 use Rattle.cc_resolve.specs.Environment.{Environment}
 use Rattle.cc_resolve.specs.Layout.{Layout}
-use Rattle.cc_c_laws.specs.Meaning.{Local, State, Run, Gives, Flow, Falls, Breaks, Continues, Returns, left_scope, in_block}
+use Rattle.cc_c_semantics.specs.Meaning.{Local, State, Run, Gives, Flow, Falls, Breaks, Continues, Returns, left_scope, in_block}
 use Rattle.cc_meaning.specs.internal.FormMeaning.{Activation, Configuration}
-use Rattle.cc_c_laws.proofs.Held.{names_of, words_in, layout_from}
+use Rattle.cc_c_semantics.proofs.Held.{names_of, words_in, layout_from}
 use Rattle.cc_meaning.proofs.Moves.{Leads, leads_then, conf, Meets, meets_after, meets_then}
 use Rattle.cc_meaning.proofs.Fits.{Fits}
 

@@ -17,12 +17,12 @@ use Rattle.cc_meaning.specs.internal.Form.{FormTree, unary_code, call_of, joined
 use Rattle.cc_resolve.specs.Environment.{Environment}
 use Rattle.cc_resolve.specs.Layout.{Layout, extent_of}
 use Rattle.cc_resolve.specs.Operations.{operation}
-use Rattle.cc_c_laws.specs.Outcome as outcome
-use Rattle.cc_c_laws.specs.declared.cause.Cause.TheVariants.{Index}
-use Rattle.cc_c_laws.specs.Meaning.{State, Run, Gives, Wrong, then_do, choose, Calls, global_words, read_element, cause_of, given, unless_decided}
+use Rattle.cc_c_semantics.specs.Outcome as outcome
+use Rattle.cc_c_semantics.specs.declared.cause.Cause.TheVariants.{Index}
+use Rattle.cc_c_semantics.specs.Meaning.{State, Run, Gives, Wrong, then_do, choose, Calls, global_words, read_element, cause_of, given, unless_decided}
 use Rattle.cc_meaning.specs.internal.FormMeaning.{Activation, Configuration, Move, Goes, Stops, instruction_move, cause_of_operation, with_word}
-use Rattle.cc_c_laws.proofs.Named.{there}
-use Rattle.cc_c_laws.proofs.Held.{all_of, get_past}
+use Rattle.cc_c_semantics.proofs.Named.{there}
+use Rattle.cc_c_semantics.proofs.Held.{all_of, get_past}
 use Rattle.cc_meaning.proofs.Moves.{Leads, leads_refl, leads_then, conf, Meets, meets_then, meets_after, meets_same, Stands, stands_end, stands_left, stands_right, instructed, instructed_last, may_jump, jumps}
 use Rattle.cc_meaning.proofs.Plain.{IsPlain, Kind, IsAnd, IsOr, IsOther}
 use Rattle.cc_meaning.proofs.Fits.{Fits, found_object}

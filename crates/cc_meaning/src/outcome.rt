@@ -2,7 +2,7 @@
 
 ghost use Rattle.std.specs.Prelude.{◌≡◌};
 
-use cc_c_laws::Cause;
+use cc_c_semantics::Cause;
 use std::marker::Model;
 
 /// How a run stops.

@@ -1,7 +1,7 @@
 // The Cminor of a function in a mode.
 
 ghost use Rattle.std.specs.Prelude.{◌≡◌, ◌<◌, IfOk, IfErr};
-ghost use Rattle.cc_c_laws.specs.declared.mode.Mode.TheVariants.{Plain, Checked};
+ghost use Rattle.cc_c_semantics.specs.declared.mode.Mode.TheVariants.{Plain, Checked};
 ghost use Rattle.cc_cminor.specs.Exits.{ExitsFit};
 ghost use Rattle.cc_cminor.specs.Numbers.{most_lowered, StatementBelow};
 ghost use Rattle.cc_cminor.specs.Pair.{tree_of, code_of, FailsAlike};
@@ -11,7 +11,7 @@ ghost use Rattle.cc_rtl.specs.Size.{function_nodes};
 ghost use Rattle.cc_rtl.specs.declared.fault.RtlFault.TheVariants.{FunctionTooLarge};
 ghost use Rattle.cc_mode.specs.Long.{IsLongIn};
 
-use cc_c_laws::Mode;
+use cc_c_semantics::Mode;
 use cc_cminor::CminorPair;
 use cc_guard::{GuardFault, guard, guards_set_few};
 use cc_rtl::RtlFault;

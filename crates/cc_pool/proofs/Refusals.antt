@@ -7,7 +7,7 @@ use Rattle.cc_types.specs.Scope.{FileScope, first_file_scope, file_scope_behind}
 use Rattle.cc_types.specs.Limits.{function_names}
 use Rattle.cc_types.specs.Typed.{IsTyped, IsWithinLimits, defined_names}
 use Rattle.cc_link.specs.Meaning.{functions, functions_from}
-use Rattle.cc_c_laws.specs.declared.mode.Mode.{Mode}
+use Rattle.cc_c_semantics.specs.declared.mode.Mode.{Mode}
 use Rattle.cc_link.specs.Compile.{IsBlamedIn, IsPieceRefusalIn}
 use Rattle.cc_link.specs.declared.piece_fault.PieceFault.{PieceFault}
 

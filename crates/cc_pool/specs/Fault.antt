@@ -1,6 +1,6 @@
 -- The faults of the pool.
 use Rattle.std.specs.Prelude.{◌≢◌, ℕ, ◌<◌, List}
-use Rattle.cc_c_laws.specs.declared.mode.Mode.{Mode}
+use Rattle.cc_c_semantics.specs.declared.mode.Mode.{Mode}
 use Rattle.cc_link.specs.Compile.{IsBlamedIn, HasPieceIn, piece_fault_number}
 use Rattle.cc_link.specs.declared.piece_fault.PieceFault.{PieceFault}
 use Rattle.cc_link.specs.declared.piece_fault.PieceFault.TheVariants as piece

@@ -2,7 +2,7 @@
 use Rattle.std.specs.Prelude.{◌≡◌, ℕ, ◌≤◌, false, IsTrue, List, [], ◌∷◌, length, Some, slice_get, refl}
 use Rattle.std.specs.Coded.{Coded, code_by, coded×, coded_list}
 use Rattle.cc_disk.specs.declared.disk.Disk.{Ghosts}
-use Rattle.cc_history.specs.Agree.{Agree}
+use Rattle.cc_link.specs.Agree.{Agree}
 use Rattle.cc_library.specs.declared.command.LibraryCommand.{LibraryCommand}
 use Rattle.cc_library.specs.declared.command.LibraryCommand.TheVariants as change
 use Rattle.cc_library.specs.Apply.{Units, after}

@@ -6,8 +6,8 @@ use Rattle.cc_ast.specs.Tree.{Name, Stmts, Parameter, Signature, External, Decla
 use Rattle.cc_types.specs.Limits.{too_many, most_parameters, parameter_excesses, external_excesses, externals_excesses, function_names}
 use Rattle.cc_types.specs.Typed.{IsTyped, IsWithinLimits, definitions, defined_names}
 use Rattle.cc_types.specs.declared.rule.RuleError.{RuleError}
-use Rattle.cc_c_laws.specs.Meaning.{Function, functions, text_of}
-use Rattle.cc_c_laws.specs.Resolved.{arities, IsResolved, FunctionsAreResolved}
+use Rattle.cc_c_semantics.specs.Meaning.{Function, functions, text_of}
+use Rattle.cc_c_semantics.specs.Resolved.{arities, IsResolved, FunctionsAreResolved}
 use Rattle.cc_ast.specs.Erase.{parameter_tree, signature_tree, statements_of}
 use Rattle.cc_ast.specs.Source.{source}
 use Rattle.cc_ast.specs.declared.unit.Unit as parsed

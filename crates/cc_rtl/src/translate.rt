@@ -1,7 +1,7 @@
 // From Cminor to RTL.
 
 ghost use Rattle.std.specs.Prelude.{◌≡◌, ◌≤◌, ◌<◌, length, Some, slice_get, IfOk, IfErr};
-ghost use Rattle.cc_c_laws.specs.Resolved.{arities};
+ghost use Rattle.cc_c_semantics.specs.Resolved.{arities};
 ghost use Rattle.cc_cminor.specs.Pair.{tree_of as cminor_tree, code_of};
 ghost use Rattle.cc_cminor.specs.Size.{statement_size};
 ghost use Rattle.cc_rtl_language.specs.Rtl.{most_nodes};
@@ -11,7 +11,7 @@ ghost use Rattle.cc_rtl.specs.declared.fault.RtlFault.TheVariants.{FunctionTooLa
 use crate::fault::RtlFault;
 use crate::generate::generate;
 use crate::size::fits;
-use cc_c_laws::functions_are_resolved;
+use cc_c_semantics::functions_are_resolved;
 use cc_cminor::{CminorPair, variables_above};
 use cc_rtl_language::{Rtl, RtlPair};
 use cc_types::TypedUnit;

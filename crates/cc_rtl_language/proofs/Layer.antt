@@ -11,7 +11,7 @@ use Rattle.cc_simulation.proofs.Following.{tracks_follow}
 use Rattle.cc_ast.specs.Tree.{External}
 use Rattle.cc_rtl_language.specs.Rtl as rtl
 use Rattle.cc_rtl_language.specs.Rtl.{Configuration, Registers, Rtl, node_at, node_move, rtl_output, rtl_start}
-use Rattle.cc_c_laws.specs.declared.mode.Mode.{Mode}
+use Rattle.cc_c_semantics.specs.declared.mode.Mode.{Mode}
 use Rattle.cc_rtl_language.specs.Pair.{KeepsUp, FollowsFunction}
 use Rattle.cc_rtl_language.specs.internal.Moves.{Graph, graph_move}
 

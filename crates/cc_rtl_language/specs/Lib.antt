@@ -11,6 +11,6 @@ pub mod Pair
 -- Definitions for the proofs.
 pub mod internal
 -- Modules of the crates below that clauses here use, passed on.
-pub use Rattle.cc_c_laws.specs.Meaning
-pub use Rattle.cc_c_laws.specs.Numbered
-pub use Rattle.cc_c_laws.specs.Resolved
+pub use Rattle.cc_c_semantics.specs.Meaning
+pub use Rattle.cc_c_semantics.specs.Numbered
+pub use Rattle.cc_c_semantics.specs.Resolved

@@ -7,8 +7,8 @@ use Rattle.cc_types.specs.Typed.{IsWithinLimits}
 use Rattle.cc_types.specs.Scope.{FileScope, file_scope_behind, first_file_scope}
 use Rattle.cc_types.specs.declared.rule.RuleError.{RuleError}
 use Rattle.cc_linear_language.specs.Meaning.{Function, functions_from, text_of}
-use Rattle.cc_c_laws.specs.Numbered.{IsMeaning, arity_in}
-use Rattle.cc_c_laws.specs.declared.mode.Mode.{Mode}
+use Rattle.cc_c_semantics.specs.Numbered.{IsMeaning, arity_in}
+use Rattle.cc_c_semantics.specs.declared.mode.Mode.{Mode}
 use Rattle.cc_simulation.specs.Meaning.{Meaning}
 
 prefix_none : (xs ys : List RuleError) → xs ++ ys ≡ [] → xs ≡ []

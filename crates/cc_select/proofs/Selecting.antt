@@ -4,7 +4,7 @@ use Rattle.std.proofs.Common.{ℕ, ◌≤◌, List, length, None}
 use Rattle.cc_ast.specs.Tree.{External}
 use Rattle.cc_types.specs.Typed.{IsWithinLimits}
 use Rattle.cc_linear_language.specs.Meaning.{functions}
-use Rattle.cc_c_laws.specs.declared.mode.Mode.{Mode}
+use Rattle.cc_c_semantics.specs.declared.mode.Mode.{Mode}
 use Rattle.cc_simulation.specs.Meaning.{Meaning}
 use Rattle.cc_simulation.specs.Tracks.{TracksForAll}
 use Rattle.cc_simulation.proofs.Simulating.{coarser}

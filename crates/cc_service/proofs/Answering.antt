@@ -16,7 +16,7 @@ use Rattle.cc_history.specs.declared.reply.Reply.TheVariants as reply
 use Rattle.cc_history.specs.History.{Chronicle, MemberView, IsAnswered, IsRecorded}
 use Rattle.cc_recorded.specs.Answers.{CommitAnswers, LookAnswers}
 use Rattle.cc_recorded.specs.Book.{BookView, chronicle_of}
-use Rattle.cc_c_laws.specs.declared.mode.Mode.{Mode}
+use Rattle.cc_c_semantics.specs.declared.mode.Mode.{Mode}
 use Rattle.cc_service.specs.Compiling.{IsCompileRefusal, IsNotPrepared, IsPastText, IsProgram}
 use Rattle.cc_service.specs.Serving.{IsEntered, IsTurnedDown, PutAnswers, refusal_of}
 use Rattle.cc_service.specs.internal.Under.{IsSeen, MakesAnswers}

@@ -28,7 +28,7 @@ use Rattle.cc_recorded.specs.Promise.{IsSound}
 use Rattle.cc_recorded.specs.Since.{BookSince}
 use Rattle.cc_recorded.specs.declared.fault.BookFault.{BookFault}
 use Rattle.cc_recorded.specs.declared.fault.BookFault.TheVariants as book
-use Rattle.cc_c_laws.specs.declared.mode.Mode.{Mode}
+use Rattle.cc_c_semantics.specs.declared.mode.Mode.{Mode}
 use Rattle.cc_service.specs.Compiling.{IsCompileRefusal, IsProgram}
 use Rattle.cc_service.specs.Serving.{IsEntered, IsOf, IsTurnedDown, Replaces}
 use Rattle.cc_service.specs.Stored.{IsStored}

@@ -1,7 +1,7 @@
 -- What is answered to how much of its area the library takes.
 use Rattle.std.specs.Prelude.{◌≡◌, ℕ, IsTrue, List, Result, Ok, Err}
 use Rattle.cc_disk.specs.declared.disk.Disk.{Ghosts}
-use Rattle.cc_library.specs.Format.{AllHold}
+use Rattle.cc_journal.specs.Format.{AllHold}
 use Rattle.cc_library.specs.Apply.{Units}
 use Rattle.cc_library.specs.Space.{IsSpace}
 use Rattle.cc_library.specs.declared.space.SpaceUse.{SpaceUse}

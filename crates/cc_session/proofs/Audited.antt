@@ -10,7 +10,7 @@ use Rattle.cc_script.specs.declared.fault.ScriptFault.TheVariants.{WriteFault}
 use Rattle.cc_history.specs.declared.entry.Receipt.{Receipt}
 use Rattle.cc_history.specs.declared.reply.Reply.TheVariants as reply
 use Rattle.cc_history.specs.History.{MemberView}
-use Rattle.cc_c_laws.specs.declared.mode.Mode.{Mode}
+use Rattle.cc_c_semantics.specs.declared.mode.Mode.{Mode}
 use Rattle.cc_service.specs.Serving.{GetAnswers, ListAnswers}
 use Rattle.cc_service.specs.declared.fault.ServiceFault.{ServiceFault}
 use Rattle.cc_session.specs.Playing.{Audits, AuditsEach, AuditsOne, CallsAndWrites, Talk, talk}

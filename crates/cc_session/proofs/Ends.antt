@@ -8,14 +8,14 @@ use Rattle.cc_library.specs.Apply.{Units}
 use Rattle.cc_library.specs.Recovered.{Recovers, View}
 use Rattle.cc_library.specs.declared.fault.LibraryFault.{LibraryFault}
 use Rattle.cc_library.specs.declared.fault.LibraryFault.TheVariants as library
-use Rattle.cc_library.specs.Format.{HasHeader}
+use Rattle.cc_journal.specs.Format.{HasHeader}
 use Rattle.cc_history.specs.declared.entry.Entry.{Entry}
 use Rattle.cc_history.specs.Closing.{AreOwn, IsClosed, IsNotWhole}
 use Rattle.cc_history.specs.History.{MemberView}
-use Rattle.cc_service.specs.Book.{BookView}
+use Rattle.cc_recorded.specs.Book.{BookView}
 use Rattle.cc_service.specs.Fault.{fault_number}
-use Rattle.cc_service.specs.Promise.{FailedByDevice, IsGivenUp, IsSound}
-use Rattle.cc_service.specs.Since.{IsPast}
+use Rattle.cc_recorded.specs.Promise.{FailedByDevice, IsGivenUp, IsSound}
+use Rattle.cc_recorded.specs.Since.{IsPast}
 use Rattle.cc_service.specs.Serving.{IsNotOpened, IsNotStarted}
 use Rattle.cc_service.specs.declared.fault.ServiceFault.{ServiceFault}
 use Rattle.cc_service.specs.declared.fault.ServiceFault.TheVariants as service

@@ -9,7 +9,7 @@ use Rattle.cc_history.specs.declared.entry.Receipt.{Receipt}
 use Rattle.cc_history.specs.declared.reply.Reply.{Reply}
 use Rattle.cc_history.specs.declared.reply.Reply.TheVariants as reply
 use Rattle.cc_history.specs.History.{IsAnswered, MemberView}
-use Rattle.cc_c_laws.specs.declared.mode.Mode.{Mode}
+use Rattle.cc_c_semantics.specs.declared.mode.Mode.{Mode}
 use Rattle.cc_service.specs.Serving.{GetAnswers, IsNotFound, IsTurnedAway, IsTurnedDown, ListAnswers, PutAnswers, WithdrawAnswers, Withdraws}
 use Rattle.cc_service.specs.book_fault.BookFault.{BookFault}
 use Rattle.cc_service.specs.book_fault.BookFault.TheVariants as book

@@ -7,7 +7,7 @@ use Rattle.cc_answers.specs.Telling.{Tells, script_fault_text}
 use Rattle.cc_script.specs.Reading.{Ahead, Between, IsLine, IsNotRead, IsNoSource}
 use Rattle.cc_script.specs.declared.fault.ScriptFault.{ScriptFault}
 use Rattle.cc_script.specs.declared.fault.ScriptFault.TheVariants.{BadLine, EndOfScript, ScriptTooLong, ReadFault, WriteFault, Stopped}
-use Rattle.cc_c_laws.specs.declared.mode.Mode.{Mode}
+use Rattle.cc_c_semantics.specs.declared.mode.Mode.{Mode}
 use Rattle.cc_service.specs.Updating.{UpdateAnswers}
 use Rattle.cc_session.specs.Playing.{CallsAndWrites, IsBegun, IsSentTo, IsSentTwice, IsShortOfTwo, IsUnended, IsUnendedOfTwo, Talk, Writes, talk}
 use Rattle.cc_session.specs.Telling.{SaysChange, no_memory_text}

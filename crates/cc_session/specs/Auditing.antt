@@ -3,7 +3,7 @@ use Rattle.cc_link.specs.Audit.{AuditSaysIn}
 use Rattle.cc_link.specs.declared.audit_answer.Audit.{Audit}
 use Rattle.cc_history.specs.declared.reply.Reply.{Reply}
 use Rattle.cc_history.specs.declared.reply.Reply.TheVariants.{Done, Exists, Absent, Unit, Names}
-use Rattle.cc_c_laws.specs.declared.mode.Mode.{Mode}
+use Rattle.cc_c_semantics.specs.declared.mode.Mode.{Mode}
 
 -- of the unit of a reply an audit in a mode says this
 abbrev pub IsSaidOf : Mode → Reply → Audit → Type 0

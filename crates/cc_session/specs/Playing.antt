@@ -18,7 +18,7 @@ use Rattle.cc_history.specs.History.{MemberView}
 use Rattle.cc_service.specs.Serving.{IsNotCompacted}
 use Rattle.cc_service.specs.book_fault.BookFault.{BookFault}
 use Rattle.cc_service.specs.declared.fault.ServiceFault.TheVariants.{Book}
-use Rattle.cc_c_laws.specs.declared.mode.Mode.{Mode}
+use Rattle.cc_c_semantics.specs.declared.mode.Mode.{Mode}
 use Rattle.cc_service.specs.Serving.{Adds, Replaces, GetAnswers, ListAnswers, PutAnswers, WithdrawAnswers}
 use Rattle.cc_service.specs.Updating.{UpdateAnswers}
 use Rattle.cc_service.specs.Space.{SpaceAnswers}

@@ -7,10 +7,10 @@ use Rattle.cc_library.specs.Recovered.{Recovers}
 use Rattle.cc_history.specs.declared.entry.Entry.{Entry}
 use Rattle.cc_history.specs.Closing.{AreOwn, IsClosed, IsNotWhole}
 use Rattle.cc_history.specs.History.{MemberView}
-use Rattle.cc_c_laws.specs.declared.mode.Mode.{Mode}
-use Rattle.cc_service.specs.Book.{BookView}
+use Rattle.cc_c_semantics.specs.declared.mode.Mode.{Mode}
+use Rattle.cc_recorded.specs.Book.{BookView}
 use Rattle.cc_service.specs.Fault.{fault_number}
-use Rattle.cc_service.specs.Promise.{FailedByDevice, IsSound}
+use Rattle.cc_recorded.specs.Promise.{FailedByDevice, IsSound}
 use Rattle.cc_service.specs.Serving.{IsNotOpened}
 use Rattle.cc_service.specs.declared.fault.ServiceFault.{ServiceFault}
 use Rattle.cc_script.specs.Fault as faults

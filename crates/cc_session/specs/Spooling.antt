@@ -6,7 +6,7 @@ use Rattle.cc_script.specs.Fault as faults
 use Rattle.cc_script.specs.declared.command.Dialect.TheVariants.{Served}
 use Rattle.cc_script.specs.declared.fault.ScriptFault.{ScriptFault}
 use Rattle.cc_spool.specs.Spool.{Delivered, Taken}
-use Rattle.cc_c_laws.specs.declared.mode.Mode.{Mode}
+use Rattle.cc_c_semantics.specs.declared.mode.Mode.{Mode}
 use Rattle.cc_session.specs.Playing.{Grows, IsPlayed, IsStopped, Talk, talk}
 use Rattle.cc_session.specs.Session.{ServiceEnds}
 use Rattle.cc_session.specs.declared.end.SessionEnd.{SessionEnd}

@@ -15,7 +15,7 @@ use Rattle.cc_answers.specs.Run.{IsRunOf}
 use Rattle.cc_answers.specs.Text.{fault_line, function_text, line, place_text, run_text}
 use Rattle.cc_answers.specs.Telling.{audit_text, names_text, number_text, space_text}
 use Rattle.cc_answers.specs.declared.run.ImageRun.{ImageRun}
-use Rattle.cc_c_laws.specs.declared.mode.Mode.{Mode}
+use Rattle.cc_c_semantics.specs.declared.mode.Mode.{Mode}
 use Rattle.cc_service.specs.Fault.{fault_number}
 use Rattle.cc_service.specs.declared.fault.ServiceFault.{ServiceFault}
 use Rattle.cc_service.specs.declared.fault.ServiceFault.TheVariants as service

@@ -1,7 +1,7 @@
 // A script done by a client of a service, and the scripts of a spool, done so one after another.
 
 ghost use Rattle.std.specs.Prelude.{◌≡◌, ◌++◌, ◌∷◌, []};
-ghost use Rattle.cc_c_laws.specs.declared.mode.Mode.TheVariants.{Plain};
+ghost use Rattle.cc_c_semantics.specs.declared.mode.Mode.TheVariants.{Plain};
 ghost use Rattle.cc_spool.specs.Spool.{Delivered, taken_as};
 ghost use Rattle.cc_session.specs.Playing.{Grows, IsPlayedBy, talk};
 ghost use Rattle.cc_session.specs.Spooling.{HasDone, IsDoneBy, given_by};

@@ -5,13 +5,13 @@
 
 ghost use Rattle.std.specs.Prelude.{◌≡◌, ◌≤◌, ◌<◌, ℕ, All, List, [], IsTrue, IfOk, IfErr, OnOk, length, map, slice_index_or, vec_len};
 ghost use Rattle.std.specs.Vec.{vec_capacity};
-ghost use Rattle.cc_c_laws.specs.declared.mode.Mode.TheVariants.{Plain};
+ghost use Rattle.cc_c_semantics.specs.declared.mode.Mode.TheVariants.{Plain};
 ghost use Rattle.cc_library.specs.Apply.{Units};
 ghost use Rattle.cc_library.specs.Recovered.{Recovers};
 ghost use Rattle.cc_service.specs.Client.{members};
 ghost use Rattle.cc_service.specs.Fault.{fault_number};
-ghost use Rattle.cc_service.specs.Opened.{IsOpened};
-ghost use Rattle.cc_service.specs.Since.{IsPast};
+ghost use Rattle.cc_recorded.specs.Opened.{IsOpened};
+ghost use Rattle.cc_recorded.specs.Since.{IsPast};
 ghost use Rattle.cc_service.specs.declared.fault.ServiceFault.TheVariants.{TooManyClients};
 ghost use Rattle.cc_session.specs.Session.{EndsSince, HasEnded};
 ghost use Rattle.cc_session.specs.declared.end.SessionEnd.TheVariants.{Fault, Finished};

@@ -1,7 +1,7 @@
 -- What the functions of a unit take, and its image.
 use Rattle.std.specs.Prelude.{◌≡◌, ℕ, suc, ◌*◌, List, [], ◌∷◌, length, map}
 use Rattle.cc_ast.specs.Tree.{External}
-use Rattle.cc_c_laws.specs.Calls.{main_of}
+use Rattle.cc_c_semantics.specs.Calls.{main_of}
 use Rattle.cc_rv32.specs.declared.image.Image.{Image}
 use Rattle.cc_emit.specs.Contract.{most_open}
 use Rattle.cc_emit.specs.Piece.{Piece}

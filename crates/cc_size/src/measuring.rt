@@ -3,7 +3,7 @@
 ghost use Rattle.std.specs.Prelude.{◌≡◌, Some, IfOk, IfErr, IfSome};
 ghost use Rattle.std.specs.Arc.{arc_value};
 ghost use Rattle.cc_ast.specs.Source.{source};
-ghost use Rattle.cc_c_laws.specs.Calls.{main_of};
+ghost use Rattle.cc_c_semantics.specs.Calls.{main_of};
 ghost use Rattle.cc_link.specs.Compile.{IsBuildRefusalIn};
 ghost use Rattle.cc_link.specs.Linked.{lent_pieces};
 ghost use Rattle.cc_size.specs.Size.{IsSize};

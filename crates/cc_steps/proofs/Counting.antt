@@ -1,9 +1,9 @@
 -- A run within two numbers of steps: if it is going within the larger one it is going within the smaller one, and what has ended stays so.
 use Rattle.std.proofs.Common.{◌≡◌, ◌⊎◌, inl, inr, ℕ, ◌+◌, ◌-◌, ◌<◌, ◌≤◌, List, refl, sym, ap, subst, ◌∙◌, arith}
 use Rattle.cc_ast.specs.Tree.{Source}
-use Rattle.cc_c_laws.specs.Function.{GoesOn, RunsGoOn}
-use Rattle.cc_c_laws.specs.Meaning.{source_behavior}
-use Rattle.cc_c_laws.specs.Outcome as outcome
+use Rattle.cc_c_semantics.specs.Function.{GoesOn, RunsGoOn}
+use Rattle.cc_c_semantics.specs.Meaning.{source_behavior}
+use Rattle.cc_c_semantics.specs.Outcome as outcome
 use Rattle.cc_steps.specs.Count.{IsStepCount}
 
 going_or_not : (s : outcome.Stop ℕ) → (s ≡ outcome.Going) ⊎ (s ≡ outcome.Going → ⊥)

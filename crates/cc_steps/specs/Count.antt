@@ -1,8 +1,8 @@
 -- The number of steps of a run.
 use Rattle.std.specs.Prelude.{◌≡◌, ◌≤◌, ◌<◌, ℕ, List}
 use Rattle.cc_ast.specs.Tree.{Source}
-use Rattle.cc_c_laws.specs.Meaning.{source_behavior}
-use Rattle.cc_c_laws.specs.Outcome as outcome
+use Rattle.cc_c_semantics.specs.Meaning.{source_behavior}
+use Rattle.cc_c_semantics.specs.Outcome as outcome
 
 -- the least number of steps with the result that the run has within the bound; the bound, if the run is still going then
 pub record IsStepCount (source : Source) (bound : ℕ) (input : List ℕ) (count : ℕ) : Type 0 where

@@ -5,9 +5,9 @@
 // is known to go on. So a search costs some runs of twice the length, and never one of the whole bound.
 
 ghost use Rattle.std.specs.Prelude.{◌≡◌, ◌≢◌, ◌↔◌, IsTrue, IfOk};
-ghost use Rattle.cc_c_laws.specs.Outcome as outcome;
+ghost use Rattle.cc_c_semantics.specs.Outcome as outcome;
 ghost use Rattle.cc_ast.specs.Source.{source};
-ghost use Rattle.cc_c_laws.specs.Meaning.{source_behavior};
+ghost use Rattle.cc_c_semantics.specs.Meaning.{source_behavior};
 ghost use Rattle.cc_meaning.specs.Erase.{outcome_tree};
 ghost use Rattle.cc_steps.specs.Count.{IsStepCount};
 

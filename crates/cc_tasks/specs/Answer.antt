@@ -1,9 +1,9 @@
 -- What the program answers of a text.
 use Rattle.std.specs.Prelude.{ℕ, ◌≡◌, true, List, []}
 use Rattle.cc_ast.specs.Tree.{Source}
-use Rattle.cc_c_laws.specs.Meaning.{source_behavior}
-use Rattle.cc_c_laws.specs.declared.mode.Mode.{Mode}
-use Rattle.cc_c_laws.specs.declared.mode.Mode.TheVariants as mode
+use Rattle.cc_c_semantics.specs.Meaning.{source_behavior}
+use Rattle.cc_c_semantics.specs.declared.mode.Mode.{Mode}
+use Rattle.cc_c_semantics.specs.declared.mode.Mode.TheVariants as mode
 use Rattle.cc_meaning.specs.Erase.{outcome_tree}
 use Rattle.cc_rv32.specs.declared.image.Image.{Image}
 use Rattle.cc_rv32.specs.Listing.{listing}

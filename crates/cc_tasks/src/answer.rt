@@ -1,7 +1,7 @@
 // The answer to a task for a text.
 
 ghost use Rattle.std.specs.Prelude.{◌≡◌, ℕ, List, IfOk, IfErr};
-ghost use Rattle.cc_c_laws.specs.declared.mode.Mode.{Mode};
+ghost use Rattle.cc_c_semantics.specs.declared.mode.Mode.{Mode};
 ghost use Rattle.cc_link.specs.Agree.{Agree, AgreeIn};
 ghost use Rattle.cc_link.specs.Compile.{IsBuildRefusalIn};
 ghost use Rattle.cc_tasks.specs.Answer.{IsAccepted, IsRan, IsExecuted, IsListed, IsImage, IsJudged, IsMeasured, Answers, HasNoImage, HasNoProgram, IsRefused, mode_of};

@@ -2,7 +2,7 @@
 use Rattle.std.specs.Prelude.{ℕ, ◌≡◌, ◌⊎◌, ◌<◌, ◌≤◌, true, false, List, [], ◌∷◌, ◌++◌, length, map, Contains, Option, Some, None}
 use Rattle.std.specs.List.{AllByRecursion}
 use Rattle.cc_ast.specs.Tree.{Name, External, Declaration, Definition, Objects, Source}
-use Rattle.cc_ast.specs.Place.{place_of}
+use Rattle.cc_tokens.specs.Place.{place_of}
 use Rattle.cc_types.specs.Rules.{errors, defines_main, undefined_calls}
 use Rattle.cc_types.specs.Limits.{excesses, function_names}
 use Rattle.cc_types.specs.Fault.{fault_of, rule_number}

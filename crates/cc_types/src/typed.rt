@@ -4,7 +4,7 @@ ghost use Rattle.std.specs.Prelude.{◌≡◌, ◌<◌, ◌≤◌, [], ◌∷◌
 ghost use Rattle.cc_ast.specs.Source.{source};
 ghost use Rattle.cc_ast.specs.Erase.{external_tree, external_trees};
 ghost use Rattle.cc_ast.specs.Parse.{SpellsText};
-ghost use Rattle.cc_ast.specs.Tokens.{most_bytes};
+ghost use Rattle.cc_tokens.specs.Tokens.{most_bytes};
 ghost use Rattle.cc_types.specs.internal.Externals.{defines};
 ghost use Rattle.cc_types.specs.Typed.{IsTyped, IsWithinLimits, defined_names, definitions};
 ghost use Rattle.cc_types.specs.Checked.{IsChecked};

@@ -4,7 +4,7 @@ use Rattle.std.specs.List.{AllByRecursion}
 use Rattle.std.proofs.lemmas.Bool.{false≢true}
 use Rattle.cc_ast.specs.Tree.{External, Source}
 use Rattle.cc_ast.specs.fault.SyntaxFault.{SyntaxFault}
-use Rattle.cc_ast.specs.Place.{place_of}
+use Rattle.cc_tokens.specs.Place.{place_of}
 use Rattle.cc_ast.specs.Parse.{IsParseAnswer, ParseAnswersAreOne, TextsHaveAnswers}
 use Rattle.cc_types.specs.Fault.{fault_of, rule_number}
 use Rattle.cc_types.specs.Limits.{excesses}

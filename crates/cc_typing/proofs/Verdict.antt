@@ -1,7 +1,7 @@
 -- What is found in a whole unit decides whether it is typed.
 use Rattle.std.proofs.Common.{◌≡◌, inl, inr, true, false, List, [], ◌∷◌, ◌++◌, length, Option, Some, None, refl, sym, ap, ◌∙◌}
 use Rattle.cc_ast.specs.Tree.{Source, External}
-use Rattle.cc_ast.specs.Place.{place_of}
+use Rattle.cc_tokens.specs.Place.{place_of}
 use Rattle.cc_types.specs.Checked.{IsChecked}
 use Rattle.cc_typing.specs.internal.Counts.{all_defined}
 use Rattle.cc_types.specs.Fault.{fault_of}

@@ -2,7 +2,7 @@
 
 ghost use Rattle.std.specs.Prelude.{◌≡◌, ◌⊎◌, ◌++◌, [], None, IfOk, IfErr, OnOk};
 ghost use Rattle.cc_ast.specs.Source.{source};
-ghost use Rattle.cc_ast.specs.Place.{place_of};
+ghost use Rattle.cc_tokens.specs.Place.{place_of};
 ghost use Rattle.cc_ast.specs.Erase.{external_tree, external_trees};
 ghost use Rattle.cc_typing.specs.internal.Counts.{all_defined};
 ghost use Rattle.cc_types.specs.internal.Externals.{defined_in};

@@ -1,7 +1,7 @@
 -- Which piece is a function's, and the fault for a function whose piece did not come.
 use Rattle.std.specs.Prelude.{◌≡◌, ℕ, List}
 use Rattle.cc_ast.specs.Source.{source}
-use Rattle.cc_c_laws.specs.declared.mode.Mode.{Mode}
+use Rattle.cc_c_semantics.specs.declared.mode.Mode.{Mode}
 use Rattle.cc_emit.specs.Piece as emit
 use Rattle.cc_pool.specs.Fault.{IsRefusedAt}
 use Rattle.cc_pool.specs.declared.fault.PoolFault.{PoolFault}

@@ -12,7 +12,7 @@ use Rattle.cc_script.specs.declared.command.Dialect.{Dialect}
 use Rattle.cc_history.specs.Held.{at_most_told, receipts_bytes}
 use Rattle.cc_history.specs.History.{MemberView}
 use Rattle.cc_history.specs.declared.entry.Receipt.{Receipt}
-use Rattle.cc_c_laws.specs.declared.mode.Mode.{Mode}
+use Rattle.cc_c_semantics.specs.declared.mode.Mode.{Mode}
 use Rattle.cc_session.specs.Playing.{CutsLine, HasUnended, IsBegun, IsBounded, IsCutShort, IsEnding, IsLight, IsPlayed, IsStoppedBy, Obeys, Talk, held_since, talk}
 use Rattle.cc_session.specs.declared.held.Held.{Held}
 use Rattle.cc_session.specs.declared.end.SessionEnd.{SessionEnd}

@@ -1,5 +1,5 @@
 -- Of code that is too large the definition is long.
-use Rattle.cc_c_laws.specs.Numbered.{objects_in}
+use Rattle.cc_c_semantics.specs.Numbered.{objects_in}
 use Rattle.cc_cminor.specs.Pair.{tree_of, code_of}
 use Rattle.cc_cminor.specs.Variables.{above_statement}
 use Rattle.cc_mode.proofs.Tokens.{nodes_long, variables_long}

@@ -2,7 +2,7 @@
 use Rattle.std.proofs.Common.{ℕ, ◌<◌, List, subst, arith}
 use Rattle.std.specs.List.{AllByRecursion}
 use Rattle.cc_ast.specs.Tree.{External}
-use Rattle.cc_c_laws.specs.Meaning.{functions, most_open}
+use Rattle.cc_c_semantics.specs.Meaning.{functions, most_open}
 use Rattle.cc_depth.specs.Cycles.{CallsLower}
 use Rattle.cc_safe.specs.internal.Ranks.{rank_by}
 use Rattle.cc_safe.proofs.acyclic.is_acyclic.Goals as goal

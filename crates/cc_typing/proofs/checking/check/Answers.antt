@@ -2,7 +2,7 @@
 -- otherwise the unit is typed.
 use Rattle.std.proofs.Common.{◌≡◌, ◌∙◌, inr, ap, sym, length, true, false, Some, None}
 use Rattle.cc_ast.specs.Source.{source}
-use Rattle.cc_ast.specs.Place.{place_of}
+use Rattle.cc_tokens.specs.Place.{place_of}
 use Rattle.cc_types.specs.Fault.{fault_of}
 use Rattle.cc_typing.specs.internal.Findings.{noted}
 use Rattle.cc_types.specs.Rules.{defines_main, undefined_calls}

@@ -1,7 +1,7 @@
 -- A text that is handed in is put as its text; one that cannot be handed in is refused as one that was not compiled.
 use Rattle.std.proofs.Common.{ℕ, IsTrue, List, refl, sym, ap, subst}
 use Rattle.cc_library.specs.Name.{is_name}
-use Rattle.cc_c_laws.specs.declared.mode.Mode.{Mode}
+use Rattle.cc_c_semantics.specs.declared.mode.Mode.{Mode}
 use Rattle.cc_pool.specs.declared.item.Item.{Item}
 use Rattle.cc_service.specs.Client.{ClientView}
 use Rattle.cc_service.specs.Compiling.{HasSentFor}
