@@ -28,7 +28,7 @@ module _ (old new : List ℕ) where
       ap length is ∙ length-append (take offset old) (bytes ++ drop (offset + length bytes) old)
       ∙ omega (arith, fits, length-append bytes (drop (offset + length bytes) old), length-take-le offset old (omega (arith, fits)), length-drop (offset + length bytes) old)
 
-  -- it leaves what stands before its range and behind it
+  -- it leaves what is before its range and after it
   pub written_differs : (offset : ℕ) (bytes : List ℕ) → offset + length bytes ≤ length old → IsWritten old offset bytes new → DiffersWithin offset (length bytes) old new
   written_differs offset bytes fits is =
       let Z = drop (offset + length bytes) old in

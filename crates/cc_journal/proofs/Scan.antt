@@ -23,7 +23,7 @@ record_on bytes start used bodies body rest so_far is =
     let pushed = sym (records_push bodies body) in
     so_far ∙ ap (λ (l : List ℕ). records bodies ++ l) is ∙ sym (append_assoc (records bodies) (record_bytes body) rest) ∙ (λ i. pushed i ++ tail i)
 
--- an open gate before a record that does not fit: no list of records stands there
+-- an open gate before a record that does not fit: no list of records is there
 pub none_ends : (bytes : List ℕ) (start used area : ℕ) (bodies others : List (List ℕ)) → area ≤ 2 ^ 30 → used ≡ length (records bodies) → used + 1 ≤ area → drop start bytes ≡ records bodies ++ drop (start + used) bytes
     → (rest : List ℕ) → drop (start + used) bytes ≡ open_gate ∷ rest → ((body rest : List ℕ) → drop (start + used) bytes ≡ record_bytes body ++ rest → length body < 2 ^ 32 → area - used < length body + 6)
     → EndsClosed (drop start bytes) others → room_of others ≤ area → ⊥

@@ -166,7 +166,7 @@ module _ {Disk : Type 0} (D : Ghosts Disk) where
       subst (λ (d : Disk). EndsSince D (D.moment d) (D.may_leave d) Untouched HaveDone a after end) is
       (on_first (D.moment first) (D.may_leave first) Untouched HaveDone a b after end sound reads it)
 
-  -- none was opened, for this reason, which is told
+  -- none was opened, for this reason, which is reported
   pub unserved_by : (from : ℕ) (begins : List ℕ → Type 0) (Untouched : Type 0) (HaveDone : List MemberView → SessionEnd → Type 0) (base : Units)
       (fault : ServiceFault) (a b after : Disk) (end : SessionEnd) → after ≡ b → end ≡ Fault (fault_number fault) → IsNotOpened D.honest (D.seen a) base (D.failures a) (D.failures b) fault
       → (IsTrue D.honest → OnlyReads D.seen D.may_leave D.moment D.left_since a b) → Untouched

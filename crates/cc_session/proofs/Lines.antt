@@ -1,4 +1,4 @@
--- The lines of a script are its steps, each of one byte at least, and where it stopped its client is as they left it.
+-- The lines of a script are its steps, each of at least one byte. If it stopped, its client is as these steps left it.
 use Rattle.std.proofs.Common.{◌≡◌, ℕ, ◌+◌, ◌<◌, ◌≤◌, List, [], ◌∷◌, ◌++◌, length, take, Option, Some, None, ap, refl, sym, ◌∙◌, subst, arith, inl, inr}
 use Rattle.std.specs.Prelude.{◌⊎◌, ◌≢◌, IfSome}
 use Rattle.std.specs.Io.KnownBytes.{Appends}
@@ -32,7 +32,7 @@ within_none : (most : Option ℕ) → IsWithin most 0
 within_none None = tt
 within_none (Some most) = omega arith
 
--- one line more may be done where that were not all
+-- one line more may be done if those were not all
 within_more : (most : Option ℕ) (count : ℕ) → IsWithin most count → most ≢ Some count → IsWithin most (count + 1)
 within_more None count few more = tt
 within_more (Some most) count few more =

@@ -76,7 +76,7 @@ or_this None d = d
 from_some : {A : Type 0} (a b : A) → Some a ≡ Some b → a ≡ b
 from_some {A} a b same = ap (λ (o : Option A). or_this o a) same
 
--- what stands at an index of a mapped list
+-- what is at an index of a mapped list
 at : {P B : Type 0} (xs : List P) (f : P → B) (i : ℕ) (d : P) (b : B) → i < length xs → slice_get (map f xs) i ≡ Some b → f (get_or xs i d) ≡ b
 at {P} {B} xs f i d b within is =
     from_some (f (get_or xs i d)) b (sym (slice_get-map f xs i ∙ ap (λ (o : Option P). option_map f o) (slice_get-get_or xs i d within)) ∙ is)

@@ -4,9 +4,9 @@ pub mod Names
 pub mod Spool
 -- How an answer is read: lines, and sources between them.
 pub mod Answer
--- Of what an answer is made, and whether it tells a fault.
+-- What an answer consists of, and whether it reports a fault.
 pub mod Parts
--- What a client is told of its script, and what was written of its answer.
+-- What a client learns about its script, and what was written of its answer.
 pub mod Submitted
 -- What serves private contracts.
 pub mod internal

@@ -1,4 +1,4 @@
--- Of what an answer is made: lines, and sources, each after a line that says how many bytes it has. Whether it tells a fault.
+-- What an answer consists of: lines, and sources, each after a line that says how many bytes it has. Whether it reports a fault.
 use Rattle.std.specs.Prelude.{◌≡◌, ◌≢◌, ◌⊎◌, ◌<◌, ℕ, min, All, List, [], ◌∷◌, ◌++◌, length, Option, Some, None, codes}
 use Rattle.std.specs.Str.Parse.{AllDigits, digits_value}
 
@@ -63,7 +63,7 @@ pub record EndsInSource (answer : List ℕ) : Type 0 where
 abbrev pub TellsFault : (answer : List ℕ) → Type 0
 TellsFault answer = HasFaultLine answer ⊎ EndsInSource answer
 
--- whether a fault is told is known
+-- whether a fault is reported is known
 abbrev pub Tells : {N : Type 0} → (answer : List ℕ) → (told : Option N) → Type 0
 Tells answer None = ¬ TellsFault answer
 Tells answer (Some number) = TellsFault answer

@@ -5,7 +5,7 @@ use Rattle.cc_spool.specs.Parts.{Tells}
 use Rattle.cc_spool.specs.declared.submission.Submission.{Submission}
 use Rattle.cc_spool.specs.declared.submission.Submission.TheVariants.{Answered, CutShort, Lost, NotTaken, Unread, Unwritten}
 
--- the writer got an answer, which tells so, and no other byte
+-- the writer got an answer, which reports this fault or none, and no other byte
 pub record IsAnswered (old new : Option (List ℕ)) (told : Option ℕ) : Type 0 where
   pub answer : List ℕ
   pub written : Appends old new answer

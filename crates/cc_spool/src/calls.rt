@@ -1,6 +1,6 @@
 // The calls of the file system that the spool makes, each by the place of a file in the folder.
 //
-// Whoever makes one meets a number that is copied where it is refused, and no path.
+// Whoever makes one meets a number that is copied when it is refused, and no path.
 
 use crate::entries::Entries;
 use crate::found::Found;
@@ -48,7 +48,7 @@ pub(crate) fn take_lock(file: &File) -> Result<bool, Refusal> {
     }
 }
 
-/// Whether somebody has the lock of a file. A shared lock tells, which is let go with the file.
+/// Whether somebody has the lock of a file. The answer comes from a shared lock, which is released with the file.
 pub(crate) fn is_locked(file: &File) -> Result<bool, Refusal> {
     match file.try_lock_shared() {
         Ok(()) => Ok(false),
@@ -94,7 +94,7 @@ impl FolderLayout {
         Ok(how.open(&self.rt, path.as_str())?)
     }
 
-    /// What is at a script's place, if something is; a link is not followed. An `Err` where that is not known.
+    /// What is at a script's place, if something is; a link is not followed. An `Err` if that is not known.
     pub(crate) fn look(&self, place: Place, name: &str) -> Result<Option<Found>, Refusal> {
         self.look_along(self.path_of(place, name))
     }
@@ -141,7 +141,7 @@ impl FolderLayout {
         }
     }
 
-    /// Moves a script's file to another place, where it replaces what is there.
+    /// Moves a script's file to another place. It replaces what is there.
     pub(crate) fn rename(&self, name: &str, from: Place, to: Place) -> Result<(), Refusal> {
         self.rename_along(self.path_of(from, name), self.path_of(to, name))
     }
@@ -174,7 +174,7 @@ impl FolderLayout {
         }
     }
 
-    /// What is at the path of a part, if something is; a link is not followed. An `Err` where that is not known.
+    /// What is at the path of a part, if something is; a link is not followed. An `Err` if that is not known.
     pub(crate) fn look_at(&self, part: &str) -> Result<Option<Found>, Refusal> {
         self.look_along(self.part(part))
     }
@@ -186,7 +186,7 @@ impl FolderLayout {
         self.look_along(String::from_str(self.alloc, path))
     }
 
-    /// Whether something is at the path of a part. An `Err` where that is not known.
+    /// Whether something is at the path of a part. An `Err` if that is not known.
     pub(crate) fn has(&self, part: &str) -> Result<bool, Refusal> {
         match self.look_at(part) {
             Ok(found) => Ok(found.is_some()),

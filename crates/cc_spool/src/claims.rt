@@ -1,19 +1,19 @@
 // How a script is claimed, and its answer handed over.
 //
-// The order of the calls tells what a kill or a power cut left. A claim: `cur/ID.answer` is made, which only one can do; the script is moved
-// from `new` to `cur`; `cur` is synced, so that no power cut puts a script back of which something is done. The end: the answer is synced and
-// moved to `done`; then the script is removed from `cur`.
+// What a kill or a power cut left follows from the order of the calls. A claim: `cur/ID.answer` is made, which only one client
+// can do; the script is moved from `new` to `cur`; `cur` is synced, so that no power cut puts back a script that was partly done.
+// The end: the answer is synced and moved to `done`; then the script is removed from `cur`.
 //
 // An answer that can't be handed over is kept by the client that did its script, and tried again.
 //
-//     cur/ID  cur/ID.answer     what was left
-//       no    yes, empty        a claim that was not made
-//       no    yes, not empty    a script that was begun, whose removal came first to the disk
-//       yes   yes               a script that was begun
-//       yes   no                an answer that was handed over
+// cur/ID  cur/ID.answer     what was left
+// no    yes, empty        a claim that was not made
+// no    yes, not empty    a script that was begun, whose removal came first to the disk
+// yes   yes               a script that was begun
+// yes   no                an answer that was handed over
 //
-// A name is claimed only where nothing of an earlier script of that name is left in `cur`, and no answer of it in `done`: else its client
-// would find the answer to another script.
+// A name is claimed only if `cur` has nothing of an earlier script of that name, and `done` has no answer of it. Otherwise its
+// client would find the answer to another script.
 
 use crate::answer::AnswerFile;
 use crate::calls::{set_length, settle, write_at};
@@ -23,14 +23,14 @@ use crate::refusal::Refusal;
 use crate::script_file::ScriptFile;
 use std::fs::File;
 
-/// The lines of faults that the spool itself tells.
+/// The lines of faults that the spool itself reports.
 pub(crate) const INTERRUPTED: &[u8] = b"fault 55 Interrupted\n";
 
 pub(crate) const UNWRITTEN: &[u8] = b"fault 54 WriteFault\n";
 
 const UNREAD: &[u8] = b"fault 53 ReadFault\n";
 
-/// A fault that the spool itself tells, in a line alone.
+/// A fault that the spool itself reports, in a line alone.
 #[derive(Clone, Copy, Drop)]
 pub(crate) enum Told {
     /// 53: the script can't be read.
@@ -105,7 +105,7 @@ enum Move {
     Open,
 }
 
-// Moves a script from `new` to `cur`, where nothing has its name.
+// Moves a script from `new` to `cur`, if nothing there has its name.
 fn move_claimed(layout: &FolderLayout, name: &str) -> Move {
     if !is_unused(layout, name) {
         return Move::NotMade;
@@ -121,7 +121,7 @@ fn move_claimed(layout: &FolderLayout, name: &str) -> Move {
     }
 }
 
-// Settles a claim, and opens its script, where it is a regular file: nobody else writes to `cur`, so it stays what it is.
+// Syncs a claim, and opens its script if it is a regular file. Nobody else writes to `cur`, so it stays one.
 fn open_claimed(layout: &FolderLayout, name: &str) -> Result<File, Told> {
     if layout.sync_claims().is_err() && layout.sync_claims().is_err() {
         return Err(Told::Interrupted);
@@ -183,7 +183,7 @@ pub(crate) fn may_be_claimed(layout: &FolderLayout, name: &str) -> Option<bool> 
     }
 }
 
-/// Claims the script of that name, where that can be done.
+/// Claims the script of that name, if that can be done.
 pub(crate) fn claim(layout: &FolderLayout, name: &str) -> ClaimResult {
     match may_be_claimed(layout, name) {
         Some(true) => {}
@@ -215,7 +215,7 @@ fn is_gone(layout: &FolderLayout, name: &str) -> bool {
     layout.is_free(Place::Answer, name) && layout.must_be_held().is_ok()
 }
 
-/// Moves an answer that is whole to `done`, and takes the claim away behind it.
+/// Moves an answer that is whole to `done`, and removes the claim afterwards.
 pub(crate) fn hand_over(layout: &FolderLayout, name: &str) -> Result<(), Refusal> {
     if let Err(refusal) = layout.rename(name, Place::Answer, Place::Done)
         && !is_gone(layout, name)

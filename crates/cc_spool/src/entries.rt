@@ -18,7 +18,7 @@ pub(crate) enum Entry {
     Named(String),
     /// One whose name is no UTF-8.
     Odd,
-    /// One that can't be told. There may be more behind it.
+    /// An entry that can't be read. There may be more after it.
     Refused(Refusal),
     /// Nothing.
     End,

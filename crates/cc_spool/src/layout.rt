@@ -1,13 +1,13 @@
 // The parts of a spool's folder.
 //
-//     tmp     scripts that clients are writing
-//     new     scripts that wait, under names that are plain
-//     cur     scripts that were claimed, and the answers that are being written; the server's own
-//     done    answers, each under its script's name
-//     lock    held by the server
-//     stop    asks the server to end
+// tmp     scripts that clients are writing
+// new     scripts that wait, under names that are plain
+// cur     scripts that were claimed, and the answers that are being written; the server's own
+// done    answers, each under its script's name
+// lock    held by the server
+// stop    asks the server to end
 //
-// Clients write to `tmp` and `new`, so what stands there may be anything: it is looked at without following a link before it is opened, or
+// Clients write to `tmp` and `new`, so anything may be there: it is looked at without following a link before it is opened, or
 // not opened at all.
 
 use crate::board::Board;
@@ -52,7 +52,7 @@ pub struct FolderLayout {
     pub(crate) path: String,
     // The rights of files that are made in it.
     pub(crate) file_rights: u32,
-    // The file `lock`, where this server holds it.
+    // The file `lock`, if this server holds it.
     held: Option<Found>,
     // What all clients of one server know of it.
     pub(crate) common: Arc<Common>,
@@ -142,7 +142,7 @@ impl FolderLayout {
         Ok(layout)
     }
 
-    /// Looks which rights files have that are made in it: where others may not write to `new`, it is a group's.
+    /// Looks which rights files get in it: if others may not write to `new`, it is a group's.
     pub(crate) fn look_for_rights(&mut self) {
         self.file_rights = match self.look_at("new") {
             Ok(Some(found)) if found.rights() & 0o002 == 0 => GROUP_FILE,
@@ -155,7 +155,7 @@ impl FolderLayout {
         self.file_rights == GROUP_FILE
     }
 
-    /// Takes the folder for this server, until what is returned is let go. None where another one has had it for a second.
+    /// Takes the folder for this server, until what is returned is released. None if another server held it for a whole second.
     pub(crate) fn lock(&self) -> Result<Option<Held>, Refusal> {
         let file = match self.look_at("lock")? {
             Some(found) if !found.is_file() => return Err(Refusal::NoLock),
@@ -181,7 +181,7 @@ impl FolderLayout {
         Ok(())
     }
 
-    /// An `Err` where the folder is another one than that whose lock is held, or can't be looked at.
+    /// An `Err` if the folder is not the one whose lock is held, or can't be looked at.
     pub(crate) fn must_be_held(&self) -> Result<(), Refusal> {
         let Some(held) = self.held else {
             return Ok(());
@@ -192,7 +192,7 @@ impl FolderLayout {
         }
     }
 
-    /// Whether a server holds the folder. A shared lock tells, which is let go at once.
+    /// Whether a server holds the folder. The answer comes from a shared lock, which is released at once.
     pub(crate) fn is_held(&self) -> Result<bool, Refusal> {
         match self.look_at("lock") {
             Ok(Some(found)) if found.is_file() => {
@@ -208,7 +208,7 @@ impl FolderLayout {
         self.common.is_lost.load(Ordering::SeqCst)
     }
 
-    /// Tells all that have this folder that it could not be used for a while.
+    /// Reports to all that have this folder that it could not be used for a while.
     pub(crate) fn give_up(&self) {
         self.common.is_lost.store(true, Ordering::SeqCst);
     }
@@ -367,7 +367,7 @@ impl FolderLayout {
         format!(in self.alloc; "{path}/{part}/{name}{ending}")
     }
 
-    /// The user who has `cur`: the server's. An `Err` where the folder is gone, or can't be looked at.
+    /// The user who has `cur`: the server's. An `Err` if the folder is gone, or can't be looked at.
     pub(crate) fn server(&self) -> Result<u32, Refusal> {
         match self.look_at("cur")? {
             Some(found) => Ok(found.user),
@@ -383,7 +383,7 @@ impl FolderLayout {
 }
 
 impl Held {
-    /// Gives `lock` the rights of the folder's files. Where it is another user's it keeps its own.
+    /// Gives `lock` the rights of the folder's files. If it belongs to another user, it keeps its own.
     pub(crate) fn open_to_clients(&self, rights: u32) {
         let _ = self.file.set_permissions(Permissions::from_mode(rights));
     }

@@ -15,7 +15,7 @@ use std::io;
 
 const DAY: i64 = 86_400;
 
-// What stands in `cur` under names that are plain: scripts, and those of the answers.
+// What `cur` has under names that are plain: scripts, and those of the answers.
 #[derive(Drop)]
 struct Left {
     claims: Vec<String>,
@@ -88,11 +88,11 @@ fn ends_with(file: &File, end: u64, line: &[u8]) -> Result<bool, Refusal> {
     Ok(&last[..count] == line)
 }
 
-// Completes the answer to a script that was begun: what was written up to the last whole line, then that it was interrupted, once. One that
-// begins with the line of 54 is that line alone, which a server was killed in writing over it.
+// Completes the answer to a script that was begun: what was written up to the last whole line, then that it was interrupted,
+// once. An answer that begins with the line of 54 becomes that line alone: a server was killed while it wrote that line over it.
 //
-// An answer that ends within a source is cut back to before the line that says how long it is: else the line of 55 could be taken for the
-// rest of the source, and nobody could tell.
+// An answer that ends within a source is cut back to before the line that says how long the source is. Otherwise the line of 55
+// could be taken for the rest of the source, and nobody could know.
 fn complete(file: &File) -> Result<(), Refusal> {
     let end = whole_lines(file)?;
     let unwritten = UNWRITTEN.len() as u64;
@@ -229,11 +229,11 @@ impl Recovered {
     }
 }
 
-/// Answers what a server that was killed had begun, by 55 behind the whole lines of each answer, and takes away what it had left of claims
-/// that were not made or were answered.
+/// Answers what a server that was killed had begun: 55 after the whole lines of each answer. Then it removes what that server had
+/// left of claims that were not made or were answered.
 ///
-/// What can't be handed over, or not be looked at, stays in `cur`, and keeps no server from its work. An `Err` where `cur` can't be read, or
-/// there is no memory for the names in it.
+/// What can't be handed over, or can't be looked at, stays in `cur`, and keeps no server from its work. An `Err` if `cur` can't
+/// be read, or there is no memory for the names in it.
 pub fn recover(layout: &FolderLayout) -> io::Result<Recovered> {
     let mut left = Left {
         claims: Vec::new(layout.alloc),
@@ -258,7 +258,8 @@ fn may_be_cleared(place: Place, name: &str) -> bool {
     name.starts_with(TRIED) || is_clients && is_plain(name)
 }
 
-// Removes a file where it may be cleared and was last written before a moment, in seconds since 1970; how many files that were.
+// Removes a file if it may be cleared and was last written before a moment, in seconds since 1970. The result is how many files
+// that were.
 fn clear(layout: &FolderLayout, place: Place, name: &str, moment: i64) -> u64 {
     if !may_be_cleared(place, name) {
         return 0;
@@ -305,9 +306,10 @@ fn clear_parts(layout: &FolderLayout, days: u32) -> Result<u64, Refusal> {
     Ok(cleared)
 }
 
-/// Removes from `done` and `tmp` scripts and answers that were last written more than so many days ago, and from all parts what the start of
-/// a server that was killed left there; how many files that were. What can't be removed stays; so does what is no regular file, or has a name
-/// that no script has. An `Err` where the folder is no longer the one that is held: nothing was removed then.
+/// Removes from `done` and `tmp` scripts and answers that were last written more than this many days ago, and from all parts what
+/// the start of a server that was killed left there. The result is how many files that were. What can't be removed stays; so does
+/// what is no regular file, or has a name that no script has. An `Err` if the folder is no longer the one that is held: nothing
+/// was removed then.
 pub fn clear_old(layout: &FolderLayout, days: u32) -> io::Result<u64> {
     Ok(clear_parts(layout, days)?)
 }

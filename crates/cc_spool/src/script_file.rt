@@ -19,7 +19,7 @@ enum Part {
     Bytes(u64, Option<u64>),
     // The end of such a part: a newline, or the rest of a line that is no command.
     End(Option<u64>),
-    // That rest.
+    // Those bytes.
     Rest,
 }
 

@@ -5,10 +5,11 @@ ghost use Rattle.cc_spool.specs.Spool.{Delivered, Taken, delivered_as, taken_as}
 
 use std::io::{Read, Write};
 
-/// Where the scripts of one client come from, and where their answers go.
+/// The source of one client's scripts, and the destination of their answers.
 ///
-/// The client asks whether more is to be taken, takes a script, writes its answer, hands the answer over, and asks again. It has one script in
-/// hand at most: `next` gives none before the answer of the last one was handed over. Each method returns after a moment: `next` waits where no script is there, for 64 ms at most, and the others do not wait.
+/// The client asks whether more is to be taken, takes a script, writes its answer, hands the answer over, and asks again. It has
+/// one script in hand at most: `next` gives none before the answer of the last one was handed over. Each method returns after a
+/// moment: if no script is there, `next` waits for 64 ms at most, and the others do not wait.
 pub trait Spool {
     /// What a script is read from.
     type Script: Read + Drop + Send;
@@ -36,7 +37,7 @@ pub trait Spool {
         ensures taken { taken self.new ≡ taken self.old }
         ensures ended { ended self.new ≡ ended self.old };
 
-    /// The next script, and what its answer is to be written to; none where none came within 64 ms, or one is in hand.
+    /// The next script, and what its answer is to be written to; none if none came within 64 ms, or one is in hand.
     fn next(&mut self) -> Option<(Self::Script, Self::Answer)>
         ensures taken { IfSome result (λ job. taken self.new ≡ taken self.old ++ taken_as (Self.Script.remaining job.0) (Self.Answer.contents job.1) ∷ []) }
         ensures none { IfNone result (taken self.new ≡ taken self.old) }

@@ -28,7 +28,7 @@ pub record IsCopied (most : ℕ) (held left old new : Option (List ℕ)) (lines 
   pub written : Appends old new bytes
   pub read : lines ≡ read_bytes (between None) bytes
 
--- where the reader failed, the writer got some bytes
+-- if the reader failed, the writer got some bytes
 abbrev pub Copies : (most : ℕ) (held left old new : Option (List ℕ)) → Result Lines Side → Type 0
 Copies most held left old new (Ok lines) = IsCopied most held left old new lines
 Copies most held left old new (Err (Reader why)) = (begun : List ℕ) × Appends old new begun
