@@ -4,5 +4,5 @@ pub mod Call
 pub mod Lines
 -- What the image of a unit takes.
 pub mod Measured
--- What only private contracts speak of.
+-- What only private contracts use.
 pub mod internal
