@@ -1,6 +1,6 @@
 -- The answer to a call of a unit.
 pub mod Call
--- What is answered to line after line.
+-- The answers to line after line.
 pub mod Lines
 -- What the image of a unit takes.
 pub mod Measured

@@ -10,7 +10,8 @@ use std::sync::Wait;
 use std::test::Fail;
 use std::thread::Threads;
 
-// One spool with these scripts, whose client hears that.
+// One spool with these scripts, and what it answers to the client: whether its script has been at work for long, and whether
+// others wait.
 fn spool_of(
     alloc: Global,
     scripts: &[&str],

@@ -44,7 +44,7 @@ abbrev pub places_from : (a : ℕ) → List (List PieceItem) → List ℕ
 places_from a [] = []
 places_from a (f ∷ fs) = a ∷ places_from (a + 4 * length f) fs
 
--- each of some functions can stand there
+-- each of some functions can be there
 abbrev pub CanAllStand : (functions a : ℕ) → List (List PieceItem) → Type 0
 CanAllStand functions a [] = Unit {0}
 CanAllStand functions a (f ∷ fs) = CanStand functions a f × CanAllStand functions (a + 4 * length f) fs
