@@ -22,7 +22,7 @@ kept_alone honest size seen may_leave start area used bodies closed kept h not_c
 pub room_push : (bodies : List (List ℕ)) (body : List ℕ) (used : ℕ) → used ≡ length (records bodies) → room_of (bodies ++ body ∷ []) ≡ used + (length body + 6)
 room_push bodies body used taken = omega (arith, taken, length-records_push bodies body)
 
--- the area byte by which the code rewrites: of the same parity as that of the disk
+-- the area byte by which the code rewrites: it has the parity of that of the disk
 same_other : (start area b side : ℕ) → 1 ≤ area → start ≡ 16 + b % 2 * area → (start ≡ 16 → side ≡ 0) → (start ≢ 16 → side ≡ 1) → other_area side ≡ other_area b
 same_other start area b side some is zero one =
     ⊎_elim
@@ -94,13 +94,13 @@ module _ {D : Type 0} (honest : Bool) (size : D → ℕ) (seen : D → List ℕ)
         weakened moment left_since disk new (IsMidCommit commit (seen disk)) (HoldsOneOf area bodies more) (run (kept.alone h not_closed))
         (λ image mid. rewriting (seen disk) start area bodies (kept.holds h not_closed) more room image (subst (λ (c : Commit). IsMidCommit c (seen disk) image) (by_disk h) mid))
 
-    -- the bytes of one that was done
+    -- the bytes of a rewrite that was done
     pub rewritten_bytes : IsTrue honest → IsCommitted commit (seen disk) (seen new) → (area_byte : ℕ) × HasAreaByte (seen disk) area_byte area × IsCommitted (rewrite_commit area_byte area more) (seen disk) (seen new)
     rewritten_bytes h done =
         let holds = (kept.holds h not_closed).holds in
         (holds.area_byte, (_, holds.bytes), subst (λ (c : Commit). IsCommitted c (seen disk) (seen new)) (by_disk h) done)
 
-    -- what holds of the commit holds of the one by any area byte that the disk has: there is one alone
+    -- what holds for the commit holds for the commit by any area byte that the disk has: there is only one
     pub at_byte : (h : IsTrue honest) (area_byte : ℕ) (X : Commit → Type 0) → HasAreaByte (seen disk) area_byte area → X commit → X (rewrite_commit area_byte area more)
     at_byte h area_byte X has it =
         let holds = (kept.holds h not_closed).holds in

@@ -1,5 +1,5 @@
 -- An image holds at most one list of records. How: a header, and a record, at the start of two equal lists are equal, since they
--- say their own lengths; so of two lists of records in front of the same bytes one goes on from the other.
+-- say their own lengths; so of two lists of records before the same bytes one continues the other.
 use Rattle.std.proofs.Common.{◌≡◌, ◌≢◌, ℕ, zero, suc, ◌+◌, ◌*◌, ◌%◌, ◌^◌, ◌<◌, ◌≤◌, List, [], ◌∷◌, ◌++◌, length, get_or, take, drop, refl, sym, ◌∙◌, ap, arith, length-append, append_assoc, drop-cons}
 use Rattle.std.proofs.lemmas.List.{take_at, drop_at}
 use Rattle.std.proofs.lemmas.Nat.{from_le_bytes-to_le_bytes_4}

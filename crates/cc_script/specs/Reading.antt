@@ -19,7 +19,7 @@ IsWithinLine (Line length) = length ≤ 128
 IsWithinLine TooLong = Unit {0}
 IsWithinLine End = Unit {0}
 
--- ---- the bytes, where it is known which the reader gives
+-- ---- the bytes, if it is known which the reader gives
 
 -- What is left of a script: what was read and not used yet, then what the reader will give, while that was not at its end.
 abbrev pub rest_from : (held : List ℕ) (is_over : Bool) (remaining : Option (List ℕ)) → Option (List ℕ)

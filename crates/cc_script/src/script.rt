@@ -60,7 +60,7 @@ impl Model for Script {
 }
 
 impl Script {
-    /// A script of which nothing has been read.
+    /// A script that has not been read at all.
     pub fn new() -> Script
         ensures { result ≡ record { held = []; is_over = false; left = 16777216 } }
     {

@@ -86,7 +86,7 @@ fn pause_behind(end: SessionEnd, last: u64) -> u64
     }
 }
 
-// Tells a person that a generation ended by a fault that may pass: only for the first of several faults in a row.
+// Explains to a person that a generation ended by a fault that may pass: only for the first of several faults in a row.
 fn tell_pause<E: Write>(end: SessionEnd, pause: u64, explanations: &mut E) {
     match end {
         SessionEnd::Fault(number) if pause == 1 => {

@@ -21,7 +21,7 @@ pub(crate) struct Held {
 }
 
 impl Held {
-    // For a script of which nothing has been done.
+    // For a script that has not begun.
     #[tactic(auto, using(crate::proofs::Weighing::counts_none))]
     pub(crate) fn new<N: Named>(client: &Client<N>) -> Held
         ensures { CountsSince client.now.member.receipts client.now.member.receipts result }

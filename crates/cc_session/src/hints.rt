@@ -129,8 +129,7 @@ impl<N: Named + Send + Sync + 'static> Hints<N> {
         None
     }
 
-    // Hands the sources of the next commands to the workers, for a script that was read up to here and of which these bytes are
-    // there.
+    // Hands the sources of the next commands to the workers, for a script that was read up to here. These bytes of it are there.
     pub(crate) fn look_ahead<H: Wait, D: Disk>(
         &mut self,
         rt: &H,

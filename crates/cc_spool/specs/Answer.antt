@@ -12,7 +12,7 @@ framed source = codes "source " ++ decimal (length source) ++ 10 ∷ source ++ 1
 
 -- ---- byte by byte
 
--- the number with one digit more, as far as 32 bits go
+-- the number with one digit more, up to 32 bits
 abbrev pub with_digit : (number byte : ℕ) → ℕ
 with_digit number byte = min (10 * number + (byte - 48)) 4294967295
 
@@ -55,7 +55,7 @@ abbrev pub read_bytes : Lines → List ℕ → Lines
 read_bytes lines [] = lines
 read_bytes lines (byte ∷ bytes) = read_bytes (read_byte lines byte) bytes
 
--- ---- what an answer tells
+-- ---- what an answer reports
 
 -- nothing was read, or all so far is whole; this fault was reported last
 abbrev pub between : (last : Option ℕ) → Lines

@@ -1,4 +1,4 @@
--- What serving says of the names of scripts.
+-- What serving says about the names of scripts.
 pub mod Names
 -- What a spool gave, and what it was handed.
 pub mod Spool
@@ -8,7 +8,7 @@ pub mod Answer
 pub mod Parts
 -- What a client learns about its script, and what was written of its answer.
 pub mod Submitted
--- What serves private contracts.
+-- For private contracts.
 pub mod internal
 -- Worked answers, each by computation; no contract rests on them.
 pub mod rows

@@ -21,7 +21,7 @@ use std::time::{Duration, Instant};
 /// The most entries of `new` that are looked at in one go, whatever they are.
 pub const MOST_ENTRIES: usize = 1_048_576;
 
-/// The most names that are kept of a look, the least ones, and the most that are passed over.
+/// The most names of a look that are kept, which are the least ones, and the most that are passed over.
 const MOST_NAMES: usize = 131_072;
 
 /// For how long a name is passed over that could not be claimed, in seconds: at first, and at most.
@@ -32,8 +32,8 @@ const MOST_PASS: u64 = 30;
 /// A look is made after this many seconds even if `new` is unchanged.
 const LOOK_AGAIN: u64 = 10;
 
-/// The most names that were passed over and are tried again in one go, and the pause between two of these, in seconds. All that are kept are
-/// tried in less than the longest pass.
+/// The most names that were passed over and are tried again in one go, and the pause between two such goes, in seconds. All that
+/// are kept are tried in less than the longest pass.
 const MOST_AGAIN: usize = 5_000;
 
 const AGAIN: u64 = 1;
@@ -41,7 +41,8 @@ const AGAIN: u64 = 1;
 /// The most names that are looked at when it is asked whether a script waits.
 const MOST_LOOKED: usize = 64;
 
-/// How many seconds after the last change of `new` a look has to begin so that it saw all: a change within the clock's grain has the same time.
+/// How many seconds after the last change of `new` a look has to begin to see all: a change within the clock's grain has the same
+/// time.
 const GRAIN: u64 = 1;
 
 /// A look that may not have seen all is not made again for this many times as long as it took, while `new` is unchanged.
@@ -65,7 +66,7 @@ struct Passed {
     // For how long it is passed over, in seconds, and until when.
     pass: u64,
     until: Instant,
-    // Whether the look that is being made saw it.
+    // Whether the look that is being made has seen it.
     is_seen: bool,
 }
 
@@ -87,7 +88,7 @@ struct Look {
 pub(crate) struct Board {
     // The names that are to be tried, the least last.
     waiting: Vec<Candidate>,
-    // Those that were passed over and are to be tried after these.
+    // Those that are passed over, ordered by key, and for one key by name.
     again: Vec<Candidate>,
     // Those that are passed over, in the order of their keys, and of one key in that of the names.
     passed: Vec<Passed>,
@@ -96,7 +97,7 @@ pub(crate) struct Board {
     // The first moment at which one of these is to be tried again, and the last one at which some were.
     next_try: Option<Instant>,
     tried: Option<Instant>,
-    // After which name to look, if there were more than are kept, and none of those could be claimed.
+    // The name after which to look, if there were more names than are kept, and none of those could be claimed.
     from: Option<String>,
     last: Option<Look>,
 }
@@ -393,7 +394,7 @@ impl Board {
         self.next_try = self.first_try();
     }
 
-    // After which name to look if none of those that wait can be claimed: none if these are all.
+    // The name after which to look if none of those that wait can be claimed: none if these are all.
     fn last_name(&self, alloc: Global) -> Result<Option<String>, Refusal> {
         match self.waiting.last() {
             Some(last) if self.waiting.len() == MOST_NAMES => {

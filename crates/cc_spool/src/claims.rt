@@ -6,11 +6,11 @@
 //
 // An answer that can't be handed over is kept by the client that did its script, and tried again.
 //
-// cur/ID  cur/ID.answer     what was left
-// no    yes, empty        a claim that was not made
-// no    yes, not empty    a script that was begun, whose removal came first to the disk
-// yes   yes               a script that was begun
-// yes   no                an answer that was handed over
+//     cur/ID  cur/ID.answer     what was left
+//       no    yes, empty        a claim that was not made
+//       no    yes, not empty    a script that was begun, whose removal came first to the disk
+//       yes   yes               a script that was begun
+//       yes   no                an answer that was handed over
 //
 // A name is claimed only if `cur` has nothing of an earlier script of that name, and `done` has no answer of it. Otherwise its
 // client would find the answer to another script.
@@ -48,7 +48,7 @@ pub(crate) struct Claimed {
     pub(crate) answer: AnswerFile,
 }
 
-/// How an answer ends that is to be handed over.
+/// How an answer that is to be handed over ends.
 #[derive(Clone, Copy, Drop)]
 pub(crate) enum Ending {
     /// As it was written.
@@ -59,7 +59,7 @@ pub(crate) enum Ending {
     Left,
 }
 
-/// What came of the try to claim a script.
+/// The result of the try to claim a script.
 #[derive(Drop)]
 pub(crate) enum ClaimResult {
     /// It is to be done.
@@ -96,7 +96,7 @@ fn is_unused(layout: &FolderLayout, name: &str) -> bool {
     }
 }
 
-// What came of the try to move a script from `new` to `cur`.
+// The result of the try to move a script from `new` to `cur`.
 #[derive(Clone, Copy, Drop)]
 enum Move {
     Made,
@@ -113,7 +113,7 @@ fn move_claimed(layout: &FolderLayout, name: &str) -> Move {
     if layout.rename(name, Place::Waiting, Place::Claimed).is_ok() {
         return Move::Made;
     }
-    // Over a network a call may be done and its answer be lost.
+    // Over a network a call may be done and its answer lost.
     match layout.look(Place::Claimed, name) {
         Ok(Some(_)) => Move::Made,
         Ok(None) => Move::NotMade,
@@ -135,7 +135,8 @@ fn open_claimed(layout: &FolderLayout, name: &str) -> Result<File, Told> {
     }
 }
 
-// Writes the line of a fault over what an answer had: its room serves for that, and a kill leaves an answer that begins with that line.
+// Writes the line of a fault over what an answer had. So it needs no more room, and a kill leaves an answer that begins with that
+// line.
 fn write_line(file: &File, told: Told) -> Result<(), Refusal> {
     let line = told.line();
     write_at(file, line, 0)?;
@@ -143,7 +144,7 @@ fn write_line(file: &File, told: Told) -> Result<(), Refusal> {
     settle(file)
 }
 
-// Answers a script by the line of a fault alone. The answer's file is open, since no other one may be to be had.
+// Answers a script by the line of a fault alone. The answer's file stays open, since it may be that no other one can be had.
 fn refuse(layout: &FolderLayout, name: &str, file: File, told: Told) -> ClaimResult {
     let written = write_line(&file, told);
     drop(file);
@@ -156,7 +157,7 @@ fn refuse(layout: &FolderLayout, name: &str, file: File, told: Told) -> ClaimRes
     }
 }
 
-// Begins a script that was claimed: from here on it is answered whatever comes.
+// Begins a script that was claimed. From here on it is answered whatever happens.
 fn begin(layout: &FolderLayout, name: &str, file: File) -> ClaimResult {
     let script = match open_claimed(layout, name) {
         Ok(script) => script,
@@ -190,7 +191,7 @@ pub(crate) fn claim(layout: &FolderLayout, name: &str) -> ClaimResult {
         Some(false) => return ClaimResult::Left,
         None => return ClaimResult::Gone,
     }
-    // Only one can make it.
+    // Only one client can make it.
     let Ok(file) = layout.make(Place::Answer, name) else {
         return ClaimResult::Left;
     };
@@ -209,8 +210,8 @@ pub(crate) fn claim(layout: &FolderLayout, name: &str) -> ClaimResult {
     }
 }
 
-// Whether an answer that could not be moved is gone from `cur` all the same: over a network a call may be done and its answer be lost, and
-// nobody else takes files out of `cur`.
+// Whether an answer that could not be moved is gone from `cur` all the same. Over a network a call may be done and its answer
+// lost, and nobody else takes files out of `cur`.
 fn is_gone(layout: &FolderLayout, name: &str) -> bool {
     layout.is_free(Place::Answer, name) && layout.must_be_held().is_ok()
 }
@@ -222,12 +223,12 @@ pub(crate) fn hand_over(layout: &FolderLayout, name: &str) -> Result<(), Refusal
     {
         return Err(refusal);
     }
-    // A claim without an answer is taken away at the next start.
+    // A claim without an answer is removed at the next start.
     let _ = layout.remove_claim(name);
     Ok(())
 }
 
-/// Makes an answer the line of a fault alone, which takes the place of what it had.
+/// Makes an answer the line of a fault alone, which replaces what it had.
 pub(crate) fn write_fault(layout: &FolderLayout, name: &str, told: Told) -> Result<(), Refusal> {
     let file = layout.open_to_write(Place::Answer, name)?;
     write_line(&file, told)

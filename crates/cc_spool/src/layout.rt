@@ -1,11 +1,11 @@
 // The parts of a spool's folder.
 //
-// tmp     scripts that clients are writing
-// new     scripts that wait, under names that are plain
-// cur     scripts that were claimed, and the answers that are being written; the server's own
-// done    answers, each under its script's name
-// lock    held by the server
-// stop    asks the server to end
+//     tmp     scripts that clients are writing
+//     new     scripts that wait, under names that are plain
+//     cur     scripts that were claimed, and the answers that are being written; the server's own
+//     done    answers, each under its script's name
+//     lock    held by the server
+//     stop    asks the server to end
 //
 // Clients write to `tmp` and `new`, so anything may be there: it is looked at without following a link before it is opened, or
 // not opened at all.
@@ -75,13 +75,13 @@ pub(crate) struct Common {
     // How many clients there are, and for how many seconds one may do a script while others wait.
     clients: u64,
     patience: u64,
-    // Whether the answers in `done` that may not go yet take more than they may. As long as they were not counted, that is taken to be so.
+    // Whether the answers in `done` that may not be removed yet take more than they may. Until they are counted, this is true.
     is_full: AtomicBool,
     // Whether the folder could not be used for a while.
     is_lost: AtomicBool,
 }
 
-/// The lock of a folder, held as long as it lives.
+/// The lock of a folder, held while this value exists.
 #[derive(Drop)]
 pub struct Held {
     file: File,
@@ -93,7 +93,7 @@ impl FolderLayout {
         FolderLayout::for_server(rt, alloc, path, ALL)
     }
 
-    /// The same, as a server has it that has these limits.
+    /// The same, as a server with these limits has it.
     pub fn for_server(
         rt: HostRuntime,
         alloc: Global,
@@ -218,7 +218,7 @@ impl FolderLayout {
         self.common.taken.load(Ordering::SeqCst)
     }
 
-    /// Notes that an answer was handed over which takes so many bytes.
+    /// Notes that an answer was handed over that takes this many bytes.
     pub(crate) fn note_taken(&self, bytes: u64) {
         self.common.taken.fetch_add(bytes, Ordering::SeqCst);
     }
@@ -228,7 +228,7 @@ impl FolderLayout {
         self.common.taken.store(bytes, Ordering::SeqCst);
     }
 
-    /// Whether the answers in `done` that may not go yet take more than they may.
+    /// Whether the answers in `done` that may not be removed yet take more than they may.
     pub(crate) fn is_full(&self) -> bool {
         self.common.is_full.load(Ordering::SeqCst)
     }
@@ -249,7 +249,7 @@ impl FolderLayout {
         self.common.busy.fetch_add(1, Ordering::SeqCst);
     }
 
-    /// Notes that a client is at the end of one that it began.
+    /// Notes that a client has ended a script that it began.
     pub(crate) fn note_ended(&self, client: u64) {
         self.common.busy.fetch_sub(1, Ordering::SeqCst);
         if self.is_leaving(client) {
@@ -273,7 +273,7 @@ impl FolderLayout {
         self.common.leaving.load(Ordering::SeqCst) == 0
     }
 
-    /// A client is to end its script for one that waits. It is asked by who has the board, so one at a time.
+    /// A client is to end its script for one that waits. The caller has the board, so this is done for one client at a time.
     pub(crate) fn leave(&self, client: u64) {
         self.common.leaving.store(client, Ordering::SeqCst);
     }
@@ -296,7 +296,8 @@ impl FolderLayout {
         }
     }
 
-    /// Takes back that the server is asked to end. An `Err` if `stop` can't be removed, or the folder is no longer the one that is held.
+    /// Withdraws the request that the server ends. An `Err` if `stop` can't be removed, or the folder is no longer the one that
+    /// is held.
     pub fn unstop(&self) -> io::Result<()> {
         Ok(self.take_stop_back()?)
     }
@@ -309,7 +310,8 @@ impl FolderLayout {
         }
     }
 
-    /// Takes back what asked an earlier server to end: a `stop` that was made before a file of this start. One that was made since asks this one.
+    /// Withdraws the request that an earlier server ends: a `stop` that was made before a file of this start. One that was made
+    /// since is for this server.
     pub(crate) fn take_old_stop_back(&self, begun: &Found) -> Result<(), Refusal> {
         match self.look_at("stop")? {
             Some(found) if found.is_older(begun) => self.take_stop_back(),
@@ -317,13 +319,13 @@ impl FolderLayout {
         }
     }
 
-    /// Settles which names a part has.
+    /// Syncs the names of a part.
     pub(crate) fn sync_part(&self, part: &str) -> Result<(), Refusal> {
         let part = self.open_part(part)?;
         settle(&part)
     }
 
-    /// Settles what was claimed, and which answers are being written.
+    /// Syncs what was claimed, and which answers are being written.
     pub(crate) fn sync_claims(&self) -> Result<(), Refusal> {
         self.sync_part("cur")
     }
@@ -335,15 +337,15 @@ impl FolderLayout {
         {
             return Err(refusal);
         }
-        // Else a power cut could lose a script that waits. If it is refused, the script waits all the same.
+        // Otherwise a power cut could lose a script that waits. If it is refused, the script waits all the same.
         let _ = self.sync_part("new");
         // If the old name stays, the file has two: the new one counts.
         let _ = self.remove(Place::Written, written);
         Ok(())
     }
 
-    // Whether a script is in `new` though the call was refused that put it there: over a network a call may be done and its answer be lost.
-    // If its name there is gone by then, the file has its second one in `cur`: a server has claimed it.
+    // Whether a script is in `new` though the call that put it there was refused: over a network a call may be done and its
+    // answer lost. If its name there is gone by then, the file has its second name in `cur`: a server has claimed it.
     fn is_published(&self, written: &str, name: &str) -> bool {
         match (
             self.look(Place::Written, written),

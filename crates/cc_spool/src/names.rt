@@ -16,7 +16,7 @@ const NAME_BYTES: usize = 64;
 /// The ending that an answer's name has after that of its script while it is being written. No name of a script ends so.
 pub const ANSWER: &str = ".answer";
 
-/// What the name of a file begins with that a server tries the folder with. No name of a script begins so.
+/// The beginning of the name of a file with which a server tries the folder. No name of a script begins so.
 pub const TRIED: &str = ".try-";
 
 fn is_letter(byte: u8) -> bool

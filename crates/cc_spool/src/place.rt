@@ -15,7 +15,7 @@ pub(crate) enum Place {
     Answer,
     /// `done/ID`: its answer, whole.
     Done,
-    /// In the folder itself, which has no script's file but those that a start is tried with.
+    /// In the folder itself, which has no script's file except those with which a start tries the folder.
     Top,
 }
 

@@ -1,7 +1,8 @@
 // How a folder is made, and who may do what in it.
 //
-// A folder that has the set-group-id bit is a group's: its members are the clients, and nobody else. In any other one everybody may be a
-// client. `new` and `tmp` are sticky then, so that nobody takes another's files away; to `done` the server alone writes.
+// A folder that has the set-group-id bit is a group's: its members are the clients, and nobody else. In any other folder
+// everybody may be a client. `new` and `tmp` are sticky then, so that nobody removes another's files. Only the server writes to
+// `done`.
 
 ghost use Rattle.std.specs.Prelude.{◌≡◌, IfSome};
 
@@ -30,7 +31,7 @@ fn make_part(layout: &FolderLayout, part: &str, making: &str, rights: u32) -> Re
     if layout.has(part)? {
         return Ok(());
     }
-    // A server may have left it that was killed here.
+    // A server that was killed here may have left it.
     if layout.has(making)? {
         layout.remove_directory(making)?;
     }
@@ -75,14 +76,15 @@ fn make_folder(layout: &FolderLayout) -> Result<(), Refusal> {
     if !layout.has(".")? {
         layout.make_folder()?;
         layout.set_rights(".", 0o755)?;
-        // What can't be opened can't be settled: then only a power cut soon after could lose the folder.
+        // If it can't be opened, it can't be synced: then only a power cut soon after could lose the folder.
         let _ = layout.sync_above();
     }
     Ok(())
 }
 
-// An `Err` if the folder is not of the user whose file this start made in it, or everybody may write to it: who may can put a link in the place
-// of `lock` or of a part at any moment, and a file would be made along it. So may who has a link that is the folder's name; root may in any case.
+// An `Err` if the folder does not belong to the user whose file this start made in it, or everybody may write to it. Whoever may
+// write to it can put a link in the place of `lock` or of a part at any moment, and a file would be made along it. So can the
+// owner of a link that is the folder's name. Root can in any case.
 fn must_be_own(layout: &FolderLayout, made: &Found) -> Result<(), Refusal> {
     let Some(found) = layout.look_at(".")? else {
         return Err(Refusal::Foreign);
@@ -99,7 +101,7 @@ fn must_be_own(layout: &FolderLayout, made: &Found) -> Result<(), Refusal> {
     }
 }
 
-// Makes a file and takes it away: what was written before it is older than this start.
+// Makes a file and removes it: what was written before it is older than this start.
 fn begin(layout: &FolderLayout, process: u32) -> Result<Found, Refusal> {
     let own = fresh_name(&layout.rt, layout.alloc, process)?;
     let name = format!(in layout.alloc; "{TRIED}{own}")?;

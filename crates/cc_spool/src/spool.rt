@@ -17,11 +17,12 @@ pub trait Spool {
     /// What its answer is written to.
     type Answer: Write + Drop + Send;
 
-    /// The scripts that were taken so far, in turn: of each its bytes, and what the writer of its answer held then, if these are known.
+    /// The scripts that were taken so far, in turn: for each its bytes, and what the writer of its answer held then, if these are
+    /// known.
     ghost taken: { Self → List Taken };
 
-    /// The answers that were handed over so far, in turn: of each what its writer holds, if that is known, and the number of the fault that
-    /// ended its script, 51 to 54 or 61, if one did.
+    /// The answers that were handed over so far, in turn: for each what its writer holds, if that is known, and the number of the
+    /// fault that ended its script, 51 to 54 or 61, if one did.
     ghost ended: { Self → List Delivered };
 
     /// No script is in hand: the answer of the last one that was taken was handed over.
@@ -46,16 +47,16 @@ pub trait Spool {
         ensures idle { IfNone result (idle self.new → idle self.old) }
         ensures ended { ended self.new ≡ ended self.old };
 
-    /// Whether the script that is being done has been at work for as long as a script may while others wait. It is asked after each line,
-    /// and takes a look at the clock at most.
+    /// Whether the script that is being done has been at work for as long as a script may while others wait. It is asked after
+    /// each line, and at most looks at the clock.
     fn is_long(&self) -> bool;
 
     /// Whether others wait for the end of the script that is being done: a script waits and all clients are busy, or no more scripts are to
     /// be taken.
     fn is_awaited(&self) -> bool;
 
-    /// Hands the answer of the script over, which a fault of this number ended, 51 to 54 or 61, if one did. At 54 the answer may be cut
-    /// anywhere, and has no line of it.
+    /// Hands over the answer of the script. A fault of this number, 51 to 54 or 61, ended the script, if one did. At 54 the
+    /// answer may be cut anywhere, and has no line of it.
     fn deliver(&mut self, script: Self::Script, answer: Self::Answer, fault: Option<u32>)
         ensures taken { taken self.new ≡ taken self.old }
         ensures ended { ended self.new ≡ ended self.old ++ delivered_as (Self.Answer.contents answer) fault ∷ [] };

@@ -38,7 +38,7 @@ const MOST_PAUSE: u64 = 64_000;
 /// For how long no server is there, or the folder can't be used, before a client gives up, in milliseconds.
 const NO_SERVER: u64 = 3_000;
 
-/// The most of that for which one look counts, in milliseconds: one call that hangs is no reason to give up.
+/// The most that one look adds to that, in milliseconds: one call that hangs is no reason to give up.
 const MOST_STEP: u64 = 100;
 
 /// When a person learns that the script waits, in milliseconds.
@@ -58,8 +58,8 @@ pub enum Submission {
     /// It was answered, but the answer could not be read to its end, after what was written on. It stays in `done` under this
     /// name.
     CutShort(String, io::Error),
-    /// It was left under this name, and then the folder could not be used for three seconds, or the clock not be read: whether it is or will
-    /// be done is not known.
+    /// It was left under this name, and then the folder could not be used for three seconds, or the clock could not be read: it
+    /// is not known whether it is or will be done.
     Lost(String, io::Error),
 }
 
@@ -100,7 +100,7 @@ fn flush<W: Write>(writer: &mut W) -> Result<(), Refusal>
     Ok(())
 }
 
-// Copies the next bytes, and reads their lines; how many: none at the reader's end.
+// Copies the next bytes, and reads their lines. The result is how many: none at the reader's end.
 fn pass_on<S: Read, W: Write>(
     reader: &mut S,
     writer: &mut W,
@@ -168,7 +168,8 @@ struct Published {
     made: Found,
 }
 
-// Gives a script that is whole a name in `new`, which is drawn just now. If that is refused the script has its name in `tmp` alone.
+// Gives a script that is whole a name in `new`, which is drawn just now. If that is refused, the script has only its name in
+// `tmp`.
 fn publish(layout: &FolderLayout, process: u32, written: &str) -> Result<String, Refusal> {
     let name = fresh_name(&layout.rt, layout.alloc, process)?;
     match layout.publish(written, name.as_str()) {
@@ -203,8 +204,8 @@ fn put<S: Read>(
     put
 }
 
-// The answer to a script, if it is there: a regular file of the user who has `cur`. To whose script of that name it is the answer, the name
-// decides, which nobody else has seen before the script had it.
+// The answer to a script, if it is there: a regular file of the user who has `cur`. Its name says to which script it is the
+// answer: nobody else has seen that name before the script had it.
 fn answer_of(layout: &FolderLayout, name: &str) -> Result<Option<File>, Refusal> {
     let Some(found) = layout.look(Place::Done, name)? else {
         return Ok(None);
@@ -334,7 +335,7 @@ impl Waiting {
         let _ = explanations.flush();
     }
 
-    // Writes an answer on, and takes it away.
+    // Writes an answer on, and removes it.
     fn take_answer<W: Write>(
         self,
         layout: &FolderLayout,
@@ -362,7 +363,7 @@ impl Waiting {
 // How long a script has waited, and what a person has learned of it.
 #[derive(Clone, Copy, Drop)]
 struct Patience {
-    // Up to when the milliseconds are counted.
+    // The moment up to which the milliseconds are counted.
     moment: Instant,
     // In milliseconds.
     waited: u64,
@@ -384,7 +385,7 @@ impl Patience {
         })
     }
 
-    // The whole milliseconds since the last look; what is left of one counts at the next.
+    // The whole milliseconds since the last look; a part of one that is left counts at the next look.
     fn pass(&mut self, rt: &HostRuntime) -> Result<u64, Refusal> {
         let now = Instant::now(rt)?;
         let since = now.duration_since(self.moment);
@@ -398,7 +399,7 @@ impl Patience {
         Ok(passed)
     }
 
-    // A look succeeded; whether a person is to learn of it now.
+    // A look succeeded. The result is whether a person is to learn of it now.
     fn look(&mut self) -> bool {
         self.failing = 0;
         let is_due = !self.is_told && TELL <= self.waited;
@@ -406,7 +407,7 @@ impl Patience {
         is_due
     }
 
-    // A look failed; whether that has gone on for too long.
+    // A look failed. The result is whether that has gone on for too long.
     fn fail(&mut self, since: u64) -> bool {
         self.failing = self.failing.saturating_add(since.min(MOST_STEP));
         self.failing >= NO_SERVER
