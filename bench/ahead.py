@@ -1,5 +1,6 @@
 #!/usr/bin/env python3
-"""Scripts of many `add`s, by this program and by one that was built before: BEFORE names that one, CCLIB another one than this repository's.
+"""Compares scripts of many `add`s by this program and by an earlier build: BEFORE names the earlier one, CCLIB another one than this
+repository's.
 
 ahead.py adds [FOLDER]            adds a second by `library`: 2,000 units of one function, and 500 of the programs of bench/programs and examples, with 1, 2
                                   and 4 workers, in turn, ROUNDS times (5); the best of each counts, by the wall clock, less a session of no command
@@ -80,7 +81,7 @@ BAD = ["int main(void){return 1 2}", "int main(void)\n{x;}", "", "int", "int f(v
 
 
 def command(draw):
-    """A command of a script, of which some are faulty."""
+    """A command of a script; some commands are faulty."""
     name = draw.choice(["a", "b", "c", "d", "long_name_" * 2, "A", "9", "q"])
     kind = draw.randrange(20)
     if kind < 13:
@@ -126,7 +127,7 @@ def by_server(program, work, texts):
     done, stop = os.path.join(spool, "done"), os.path.join(spool, "stop")
 
     def until(is_so):
-        """Runs the server until this is so; returns its status."""
+        """Runs the server until this is true; returns its status."""
         server = subprocess.Popen(words, stdin=subprocess.DEVNULL, stdout=subprocess.DEVNULL, stderr=subprocess.DEVNULL)
         while server.poll() is None and not is_so():
             time.sleep(0.01)

@@ -1,13 +1,13 @@
 #!/usr/bin/env python3
-"""What a power cut leaves of a server's library: everything that was answered until then, by images.
+"""What a power cut leaves of a server's library: everything that was answered until then. It is checked on images.
 
-answered_cuts.py [--program PROGRAM] [SCRIPTS] [SEED] [FOLDER]: a server under 16 submitters, of which each sends SCRIPTS scripts (12), one behind
-the other, with changes of units of its own; answered_cuts.c records each call that changes or settles the library's file, and each answer at the
-moment at which it is handed over, before a client can read it. Then the power is cut behind each call and within each write: of what was
-not synced all is lost, all kept, all zeros, a piece of it kept from either end, or each byte one of these or any other (docs/DISK.md). Each
-image is read here, by docs/FORMATS.md alone. Of each submitter it has to have the units that its scripts make up to some command, and that
-one not before the last which was answered `ok` until the cut. Every fiftieth image is opened by the program too, which has to list the same
-units. The status is 1 where that is not so."""
+answered_cuts.py [--program PROGRAM] [SCRIPTS] [SEED] [FOLDER]: a server with 16 submitters, each of which sends SCRIPTS scripts (12), one
+after the other, with changes of units of its own; answered_cuts.c records each call that changes or syncs the library's file, and each
+answer at the moment at which it is handed over, before a client can read it. Then the power is cut after each call and within each write.
+Of what was not synced, all is lost, all is kept, all is zeros, a piece of it is kept from either end, or each byte is one of these or any
+other (docs/DISK.md). Each image is read here, by docs/FORMATS.md alone. For each submitter it has to have the units that its scripts make
+up to some command, and this command is not before the last one that was answered `ok` until the cut. Every fiftieth image is also opened
+by the program, which has to list the same units. The status is 1 if that is not so."""
 
 import collections
 import os
@@ -47,7 +47,7 @@ class Script:
         return "".join(f"{it[0]} {it[1]} {len(it[2])}\n{it[2]}\n" if len(it) == 3 else " ".join(it) + "\n" for it in self.commands)
 
     def states(self, units, lines):
-        """The units behind each command that was done, by its answer."""
+        """The units after each command that was done, by its answer."""
         if len(lines) != len(self.commands):
             raise serve.Wrong(f"{len(lines)} lines for {self.commands}: {lines}")
         for command, line in zip(self.commands, lines):
@@ -63,7 +63,7 @@ class Script:
 
 
 def submit_all(place, owner, count, seed, told):
-    """One submitter: its scripts, one behind the other."""
+    """One submitter: its scripts, one after the other."""
     chance, numbers = random.Random(f"{seed} {owner}"), iter(range(owner * 10**6, 10**9))
     for _ in range(count):
         script = Script(owner, chance, numbers)
@@ -72,7 +72,7 @@ def submit_all(place, owner, count, seed, told):
 
 
 def record(place, count, seed):
-    """A server under submitters: the recorded calls, and each submitter's scripts with their answers."""
+    """A server with submitters: the recorded calls, and each submitter's scripts with their answers."""
     library, calls = f"{place.work}/answered_cuts.so", f"{place.work}/calls"
     subprocess.run(["gcc", "-O1", "-shared", "-fPIC", "-o", library, os.path.join(serve.HERE, "answered_cuts.c"), "-ldl"], check=True)
     place.library("", "--format", str(AREA))
@@ -147,7 +147,7 @@ def units_of(image):
 
 
 def mixtures(old, new, chance):
-    """What may stand in the range of writes that were not synced, by the bytes before and behind them."""
+    """What the range of writes that were not synced may hold, by the bytes before and after them."""
     count = len(old)
     zeros, noise = bytes(count), chance.randbytes(count)
     some = {chance.randrange(count + 1) for _ in range(2)}
@@ -160,13 +160,13 @@ def mixtures(old, new, chance):
 
 
 def after(state, call):
-    """The file's bytes behind a call, and the range that this unsettles."""
+    """The file's bytes after a call, and the range that this unsettles."""
     at, data = int(call[1]), bytes.fromhex(call[2])
     return state[:at] + data + state[at + len(data) :], range(at, at + len(data))
 
 
 def images(settled, state, unsettled, chance):
-    """What a cut may leave, where the synced bytes were these and the last ones those."""
+    """What a cut may leave, if the synced bytes were these and the last ones those."""
     if not unsettled:
         return {settled}
     begin, end = min(it.start for it in unsettled), max(it.stop for it in unsettled)
@@ -174,7 +174,7 @@ def images(settled, state, unsettled, chance):
 
 
 class Submitter:
-    """What of one submitter a library has to have: the states that its commands make, and how far they are answered."""
+    """What a library has to have of one submitter: the states that its commands make, and how far they are answered."""
 
     def __init__(self, scripts):
         self.states, self.ends, self.answered = [{}], [], 0
@@ -193,7 +193,7 @@ class Submitter:
 
 
 def look(place, image, submitters, is_opened):
-    """Whether an image has what was answered; with the program too where it is asked for."""
+    """Whether an image has what was answered; checked by the program too if that is asked for."""
     units = units_of(image)
     own = collections.defaultdict(dict)
     for name, text in units.items():
@@ -210,7 +210,7 @@ def look(place, image, submitters, is_opened):
 
 
 def cut(place, first, calls, submitters, chance):
-    """Cuts the power behind each call: how many images there were, by what came before."""
+    """Cuts the power after each call. Returns how many images there were, by what came before."""
     settled = state = first
     unsettled, tried, opened = [], collections.Counter(), 0
     for call in [["begin"], *calls]:

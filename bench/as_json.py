@@ -2,9 +2,9 @@
 """Compares what `--json` prints with what is printed without it.
 
 as_json.py [COUNT] [SEED]: COUNT random texts (1,000), from a seed (1): the programs of bench/compare.py. Three in four have a few bytes or
-tokens left out, doubled or changed, some in two files, some with bytes that are no UTF-8. `check`, `interpret`, `run`, `run --checked`
+tokens left out, doubled or changed, some in two files, some with bytes that are not UTF-8. `check`, `interpret`, `run`, `run --checked`
 and `size` are done for each text with `--json` and without, and for every tenth a script of `library` with it, and then `call`, `diff` and `log` of what that
-keeps. Each line of the first is read by Python's json, and what it says is made to the lines of the second. Says how many were compared, how
+keeps. Each line of the first is read by Python's json, and what it says is turned into the lines of the second. Says how many were compared, how
 many objects of each kind there were, and each text whose answers differ; the status is 1 if one does. The program has to be built (./cclib), or
 CCLIB names one that is."""
 
@@ -113,7 +113,7 @@ def is_told(line):
 
 
 def same(words, text, files, kinds):
-    """Whether both forms say the same of a text."""
+    """Whether both forms say the same about a text."""
     want = subprocess.run([PROGRAM, *words, *files], input=text, capture_output=True, check=False)
     have = subprocess.run([PROGRAM, "--json", *words, *files], input=text, capture_output=True, check=False)
     objects = [json.loads(line) for line in have.stdout.decode().splitlines()]
@@ -156,7 +156,7 @@ def library(text, rng, kinds):
         kinds[it["kind"]] += 1
     out, err = plain(objects)
     wanted = [line for line in lines_of(want.stderr) if is_told(line)]
-    # Of two that follow one another JSON has the words in each fault; the plain form too.
+    # If two follow one another, JSON has the words in each fault; so has the plain form.
     if out != lines_of(want.stdout) or err != wanted or have.stderr or have.returncode != want.returncode:
         print(both, want.stdout, want.stderr.decode(errors="replace"), have.stdout.decode(), out, err, sep="\n")
         wrong += 1

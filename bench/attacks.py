@@ -1,12 +1,12 @@
 #!/usr/bin/env python3
 """Attacks from outside: what other users of the machine, closed descriptors, limits, kills and old files can do to the program.
 
-attacks.py [NAME..]     tries these attacks, or all, and says of each `held`, `BROKEN: what was seen`, or `not tried: why`
+attacks.py [NAME..]     tries these attacks, or all, and reports for each `held`, `BROKEN: what was seen`, or `not tried: why`
 attacks.py --list       each name, with what is tried
 
---program PROGRAM takes another program than crates/cclib/out/cclib. Its status is 1 where one is broken. It needs root, for users of its own:
+--program PROGRAM takes another program than crates/cclib/out/cclib. Its status is 1 if one is broken. It needs root, for users of its own:
 a server's, a victim, a stranger who has no group in common with them, and a friend in the server's group. All that it makes is in one folder
-below /tmp, which goes with it."""
+below /tmp, which is removed with it."""
 
 import collections
 import ctypes
@@ -36,7 +36,7 @@ ATTACKS = {}
 
 
 class Broken(Exception):
-    """What an attack did that it must not do."""
+    """Something that an attack did and must not do."""
 
 
 class NotTried(Exception):
@@ -73,7 +73,7 @@ def counted(wrong):
 
 
 def busy():
-    """How many processes wait for each processor, 1 at least: by so much longer may take what is measured by a clock."""
+    """How many processes wait for each processor, at least 1: what is measured by a clock may take this many times as long."""
     return max(1.0, os.getloadavg()[0] / os.cpu_count())
 
 
@@ -88,7 +88,7 @@ def become(user):
 
 
 def refusal(user, act):
-    """What a user gets who does that: None where it is done, else the system's name of the refusal."""
+    """What a user gets who does that: None if it is done, else the system's name of the refusal."""
     reader, writer = os.pipe()
     child = os.fork()
     if child == 0:
@@ -110,13 +110,13 @@ def refusal(user, act):
 
 
 def refused(user, acts):
-    """Which of these acts are not refused to a user for their rights, or since something has that name."""
+    """Which of these acts are done, or are refused to a user for another reason than their rights or a name that is taken."""
     said = {what: refusal(user, act) for what, act in acts.items()}
     return [f"{what} ({word or 'done'})" for what, word in said.items() if word not in ("EACCES", "EPERM", "EEXIST")]
 
 
 class Other:
-    """A process of another user that goes on until it is ended, and the lines that it says. The first one says that it has begun."""
+    """A process of another user that goes on until it is ended, and the lines that it prints. The first one says that it has begun."""
 
     def __init__(self, user, act):
         self.reader, writer = os.pipe()
@@ -147,7 +147,7 @@ CREATED, MOVED_TO = 0x100, 0x80
 
 
 class Watch:
-    """The names that appear in a folder, each as soon as it does: by inotify, or where there is none by looking again and again."""
+    """The names that appear in a folder, each as soon as it does: by inotify, or by looking again and again if there is none."""
 
     def __init__(self, folder):
         self.folder = folder
@@ -170,7 +170,7 @@ class Watch:
         return sorted(new)
 
     def names(self, seconds=None):
-        """The names that appear, for so many seconds."""
+        """The names that appear, for this many seconds."""
         end = None if seconds is None else time.time() + seconds
         while end is None or time.time() < end:
             if self.file < 0:
@@ -274,7 +274,7 @@ class Place(serve.Place):
         return self.launch([self.program, "submit", self.spool, *words], user, **{"stdin": subprocess.PIPE, **more})
 
     def wait_for(self, part, count=1, seconds=20):
-        """The names in a part, when there are so many."""
+        """The names in a part, once there are this many."""
         for _ in range(seconds * 100):
             names = [it for it in os.listdir(self.file(part)) if not it.startswith((".", "mine"))]
             if len(names) >= count:
@@ -342,7 +342,7 @@ def answer_names(place, part, act):
 
 
 def allowed(act, *words):
-    """Whether it is done."""
+    """Whether the act is done."""
     try:
         act(*words)
     except OSError:
@@ -351,7 +351,7 @@ def allowed(act, *words):
 
 
 def add_many(place, count):
-    """What is wrong with so many `submit add`, one after the other."""
+    """What is wrong with this many `submit add`, one after the other."""
     server = place.serve()
     yield
     done = [(f"race{it}", place.submit("add", f"race{it}", script=UNIT, user=VICTIM)) for it in range(count)]
@@ -361,7 +361,7 @@ def add_many(place, count):
 
 
 def race(place, part, act, count):
-    """The victim adds so many units, while a stranger does something at each name that appears in a part: nothing may come of that."""
+    """The victim adds this many units, while a stranger does something at each name that appears in a part: nothing may come of that."""
     adding = add_many(place, count)
     next(adding)
     answer_names(place, part, act)
@@ -376,7 +376,7 @@ def forged_quick(place):
 
 @attack("12 plain `submit add`: by inotify a FIFO is put at new/ID as soon as tmp/ID appears")
 def withheld(place):
-    """A FIFO at `new/ID` is never claimed, so that whoever needs that name is refused. Each victim is answered all the same."""
+    """A FIFO at `new/ID` is never claimed, so whoever needs that name is refused. Each victim is answered all the same."""
     race(place, "tmp", lambda name, own: allowed(os.mkfifo, place.file("new", name)), 12)
 
 
@@ -395,8 +395,8 @@ def withheld_elsewhere(place):
 
 @attack("the name that a script has in `new` was never seen in `tmp`, and is not one that can be guessed")
 def names(place):
-    """Who sees `tmp` must not know a name in `new` before it is taken: 12 scripts are left without a server, and the names of both parts
-    have none in common. The random part of a name differs each time, and from that of the name in `tmp`."""
+    """Whoever sees `tmp` must not know a name in `new` before it is taken: 12 scripts are left without a server, and the names of both
+    parts have none in common. The random part of a name differs each time, and from that of the name in `tmp`."""
     place.make()
     seen = Watch(place.file("tmp"))
     victims = [place.sending("--wait", "60", "list") for _ in range(12)]
@@ -441,7 +441,7 @@ def may_link():
 
 @attack("a script that waits in `new`, and one that is being written in `tmp`: the stranger tries each call on it")
 def waiting(place):
-    """Without a server the stranger has all the time there is. Each call is refused, and when a server comes both scripts are done as they
+    """Without a server the stranger has any amount of time. Each call is refused, and when a server comes both scripts are done as they
     were sent."""
     place.make()
     quick = place.sending("--wait", "90", "add", "quick")
@@ -472,7 +472,7 @@ def waiting(place):
 @attack("40 `submit add`: at each name that appears in `new` the stranger tries to take its place, until it may")
 def claimed(place):
     """A name is known when it is in `new`. As soon as the server has claimed the script its place is free, and the stranger puts a script
-    there: the victim has the answer of its own all the same."""
+    there. The victim gets the answer to its own script all the same."""
 
     def put(name, own):
         path = place.file("new", name)
@@ -517,8 +517,8 @@ def claimed_and_killed(place):
 
 @attack("40 `submit --wait 1 add` while the server is paused for a second; a stranger takes each place in `new` that is free again")
 def taken_back(place):
-    """Whoever is told 58 has nothing stored, then or later, and whoever is told `ok` has its unit: also where the server comes to the script
-    in the moment in which it is taken back, and though the stranger puts a script under its name as soon as that is free."""
+    """Whoever gets 58 has nothing stored, then or later, and whoever gets `ok` has its unit. That holds also if the server comes to the
+    script in the moment in which it is taken back, and though the stranger puts a script under its name as soon as that is free."""
     server = place.serve()
     os.kill(server.pid, signal.SIGSTOP)
 
@@ -551,7 +551,7 @@ def taken_back(place):
 
 @attack("what a stranger may do in FOLDER and its parts: leave scripts in `tmp` and `new`, and nothing else")
 def parts(place):
-    """No part, no `lock`, no `stop`, no `.making-PART`, no `.try-ID` of cur and done, and no answer is within the stranger's reach."""
+    """The stranger can reach no part, no `lock`, no `stop`, no `.making-PART`, no `.try-ID` of cur and done, and no answer."""
     server = place.serve()
     place.submit("list", user=VICTIM)
     answer = place.file("done", os.listdir(place.file("done"))[0])
@@ -593,8 +593,8 @@ def wrong_server(place, user):
 
 @attack("a stranger starts a server of their own on FOLDER, and a friend on a group's: while the right one works and while none does")
 def other_server(place):
-    """Who does not own FOLDER is no server in it: the answer is 56, or 57, nothing in FOLDER has changed, and the right server goes on. That
-    holds for a member of a group's folder too, who may lock its `lock`."""
+    """Whoever does not own FOLDER is no server in it: the answer is 56, or 57, nothing in FOLDER has changed, and the right server goes
+    on. That holds for a member of a group's folder too, who may lock its `lock`."""
     wrong = []
     with Place() as group:
         os.mkdir(group.spool)
@@ -629,8 +629,8 @@ def tree(folder):
 
 @attack("ten starts of a server, while a stranger takes each name that appears in `new` (.try-ID) and in FOLDER (.making-PART)")
 def start_names(place):
-    """A server tries its folder by a file that comes by in `new`, and makes its parts under names that are known before. The stranger tries to
-    take, replace and fill each as soon as it appears: the start succeeds, and the parts are the server's with their rights."""
+    """A server tries its folder by a file that passes through `new`, and makes its parts under names that are known before. The stranger
+    tries to take, replace and fill each as soon as it appears: the start succeeds, and the parts are the server's with their rights."""
     os.mkdir(place.spool)
     os.chown(place.spool, SERVER, SERVER)
     os.chmod(place.spool, 0o755)
@@ -663,7 +663,7 @@ def start_names(place):
 
 
 def made_before(place, kind):
-    """A stranger makes DISK.new before the server does, in a folder like /tmp; what is wrong afterwards."""
+    """A stranger makes DISK.new before the server does, in a folder like /tmp. Returns what is wrong afterwards."""
     os.chmod(place.work, 0o1777)
     own, precious = f"{place.disk}.new", f"{place.work}/precious"
     with open(precious, "w") as file:
@@ -697,7 +697,7 @@ def made_before(place, kind):
 
 @attack("the stranger has made DISK.new before `serve --format` does, as a file, a link, a FIFO, in a folder like /tmp")
 def disk_new(place):
-    """DISK.new is a name that is known before it is taken. The library that comes of it belongs to the server's user, and nothing else is
+    """DISK.new is a name that is known before it is taken. The resulting library belongs to the server's user, and nothing else is
     overwritten; a refusal (35) is as good."""
     wrong = made_before(place, "file")
     for kind in ("link", "pipe"):
@@ -749,12 +749,12 @@ def folder_before(place):
 
 CLOSED = ("0", "1", "2", "01", "02", "12", "012")
 SUM = "int main(void){int i;int s=0;for(i=1;i<=10;i++)s+=i;write_word(s);return 0;}"
-# Where the library's file is read as a script, this source withdraws units.
+# If the library's file is read as a script, this source withdraws units.
 TALKING = "/*\nwithdraw sum\nwithdraw talking\n*/int main(void){return 0;}"
 MADE = "".join(f"add {name} {len(text)}\n{text}\n" for name, text in [("sum", SUM), ("talking", TALKING)])
 # Each command line (DISK and FOLDER are the place's, NEW is a file that is not there), its standard input, and its status with the
-# descriptors of CLOSED closed, in that order. Where it has to read from a closed 0 that is 53, and where it has to print to a closed 1
-# that is 54: status 1. READS and PRINTS: it does both; PRINTS: it prints alone; READS: it reads, and prints nothing.
+# descriptors of CLOSED closed, in that order. If it has to read from a closed 0 that is 53, and if it has to print to a closed 1 that is
+# 54: status 1. READS and PRINTS: it does both; PRINTS: it only prints; READS: it reads, and prints nothing.
 READS_AND_PRINTS, PRINTS, READS, FAULT, USAGE = "1101111", "0101011", "1001101", "1111111", "2222222"
 TASKS = [
     ("check", SUM, READS_AND_PRINTS),
@@ -831,7 +831,7 @@ def plain(text):
 
 
 def wrong_end(what, expected, usual, done, numbers):
-    """What is wrong with the status of a command, and with what it printed where it could."""
+    """What is wrong with the status of a command, and with what it printed if it could."""
     wrong = []
     if done.returncode != expected:
         wrong.append(f"{what}: status {done.returncode}, and not {expected}")
@@ -844,7 +844,8 @@ def wrong_end(what, expected, usual, done, numbers):
 
 
 def try_closed(make, rows, look, user=None):
-    """Each command with each set of descriptors closed, in a place of its own each time; what is wrong with its end, or afterwards."""
+    """Each command with each set of descriptors closed, in a place of its own each time. Returns what is wrong with its end, or
+    afterwards."""
     wrong = []
     for line, script, statuses in rows:
         with make() as place:
@@ -875,7 +876,7 @@ class Shelf(Place):
 
 
 def look_at_disk(place, before, after, line):
-    """What is wrong with the files of a place: nothing but the file of a library that the command changes may be another one."""
+    """What is wrong with the files of a place: only the file of a library that the command changes may be another one."""
     may_change = {"units.disk"} if line == "library DISK" else set()
     wrong = [f"{it} has changed" for it in before if before[it] != after.get(it) and it not in may_change]
     wrong += [f"{it} was made" for it in after if it not in before and "NEW --format" not in line]
@@ -898,13 +899,13 @@ def closed_tasks(place):
 
 @attack("library, image, source over a library in a file with 0, 1, 2 closed", 300)
 def closed_library(place):
-    """The library's file gets none of the three numbers: all its units are there afterwards, and what only reads it leaves each byte as it
-    was. Nor is it read as a script."""
+    """The library's file gets none of the three numbers: all its units are there afterwards, and a command that only reads it leaves each
+    byte as it was. Nor is it read as a script."""
     all_must(try_closed(Shelf, LIBRARY, look_at_disk))
 
 
 def look_at_spool(place, before, after, line):
-    """What is wrong with a spool after a `submit`: `lock` is empty, nothing waits, and an answer has nothing but lines of one."""
+    """What is wrong with a spool after a `submit`: `lock` is empty, nothing waits, and an answer has only lines of one."""
     wrong = ["lock has bytes"] * (after["spool/lock"][3] != b"")
     wrong += [f"left: {it}" for it in place.left() if not it.startswith("done/")]
     for name in set(after) - set(before):
@@ -935,8 +936,8 @@ def closed_submit(place):
     all_must(try_closed(Served, SUBMIT, look_at_spool, VICTIM))
 
 
-# `serve` reads nothing, and prints one line when it ends: `served N`. If that can't be printed all that it was for is done all the same, and the
-# status is 1.
+# `serve` reads nothing, and prints one line when it ends: `served N`. If that can't be printed, all that it was started for is done all
+# the same, and the status is 1.
 SERVE = {"0": (0,), "1": (1,), "2": (0,), "01": (1,), "02": (0,), "12": (1,), "012": (1,)}
 
 
@@ -954,7 +955,7 @@ def numbers_of(process):
 
 
 def serve_closed(place, numbers, options):
-    """A server with these descriptors closed, from its start to its stop; what is wrong afterwards."""
+    """A server with these descriptors closed, from its start to its stop. Returns what is wrong afterwards."""
     words = [place.program, "serve", place.disk, place.spool, *options]
     server = place.launch(words, SERVER, preexec_fn=shut(numbers), stdin=subprocess.PIPE)
     what = f"`serve {' '.join(options)}` without {','.join(numbers)}"
@@ -1002,8 +1003,8 @@ def closed_serve(place):
 
 @attack("the same where /dev/null can't be opened, and where hardly any file can be: the library is as it was", 120)
 def closed_for_good(place):
-    """In a folder that is the whole world to the program there is no /dev/null, and under `ulimit -n` no number is left. Whatever the answer,
-    no file gets one of the three numbers and is written to."""
+    """In a folder that is the whole world to the program there is no /dev/null, and under `ulimit -n` no number is left. Whatever the
+    answer, no file gets one of the three numbers and is written to."""
     wrong = []
     for numbers in CLOSED:
         for what, line, narrow in [
@@ -1023,7 +1024,7 @@ def closed_for_good(place):
 
 
 def bring_libraries(place):
-    """Puts what the program is linked with into the place, where it has that as the whole world."""
+    """Puts what the program is linked with into the place, where the program has that as the whole world."""
     for path in re.findall(r"(/\S+) \(0x", subprocess.run(["ldd", place.program], capture_output=True, text=True, check=False).stdout):
         os.makedirs(os.path.dirname(f"{place.work}{path}"), exist_ok=True)
         shutil.copy(path, f"{place.work}{path}")
@@ -1079,7 +1080,7 @@ def disk_reported(place):
 
 @attack("a stranger holds a shared lock of DISK, which a server makes at its start")
 def disk_locked(place):
-    """Who can open DISK can lock it, and then no server starts (35). A stranger can't open a DISK that the program has made."""
+    """Whoever can open DISK can lock it, and then no server starts (35). A stranger can't open a DISK that the program has made."""
     place.make()
 
     def hold(say):
@@ -1113,7 +1114,7 @@ def seconds_of(process):
 
 
 def asks(place, server, count):
-    """The median of what a script of another user takes: seconds by the clock, and the server's of a processor."""
+    """The median of what a script of another user takes: seconds by the clock, and processor seconds of the server."""
     clock, processor = [], []
     for _ in range(count):
         begin, before = time.time(), seconds_of(server)
@@ -1127,7 +1128,7 @@ def asks(place, server, count):
 
 
 def idles(server, seconds):
-    """Which part of a processor a server takes for which there is nothing to do."""
+    """The part of a processor that an idle server takes."""
     before, begin = seconds_of(server), time.time()
     time.sleep(seconds)
     return (seconds_of(server) - before) / (time.time() - begin)
@@ -1135,8 +1136,8 @@ def idles(server, seconds):
 
 @attack("100,000 FIFOs in `new`: what a script of another user takes then, and an idle server", 400)
 def crowded(place):
-    """A stranger fills `new` with names that can't be claimed. A script of another user takes at most half a second more than before, and an
-    idle server at most 5 in 100 of a processor."""
+    """A stranger fills `new` with names that can't be claimed. A script of another user takes at most half a second more than before, and
+    an idle server takes at most 5 in 100 of a processor."""
     server = place.serve()
     asks(place, server, 3)
     before = asks(place, server, 9)
@@ -1161,7 +1162,7 @@ def crowded(place):
 
 @attack("1,000 scripts, and 1,000 more of the same IDs: files made in `cur`, and what an idle server takes", 300)
 def repeated(place):
-    """A second script of an ID waits until the first one's answer is taken away. The server sees that before it makes an answer's file."""
+    """A second script of an ID waits until the first one's answer is removed. The server sees that before it makes an answer's file."""
     server = place.serve()
     names = [f"again{it:04d}" for it in range(1000)]
 
@@ -1213,8 +1214,8 @@ def history(place):
 
 @attack("eight answers of 16 MiB that nobody fetches, if `done` may have 64 MiB", 400)
 def done_full(place):
-    """With `--done` nothing more is claimed while answers younger than 600 s alone pass it, and that is reported once; when they are older the
-    oldest go, and the scripts that wait are done."""
+    """With `--done`, nothing more is claimed while answers younger than 600 s alone exceed it, and that is reported once. When they are
+    older, the oldest are removed, and the scripts that wait are done."""
     server = place.start("--format", AREA, "--done", str(64 << 20), "--clients", "2")
     time.sleep(1)
     must(server.poll() is None, "`serve` knows no option `--done`")
@@ -1256,8 +1257,8 @@ def long_script(name):
 
 @attack("two scripts that run for days on two clients: a third one's wait, and that of `stop`, with --patience 5", 300)
 def patience(place):
-    """As long as a client is free nobody is ended. While a script waits and all clients are busy, one that has been at work for longer than
-    that ends by 61; so does one while the server is to end."""
+    """While a client is free no script is ended. While a script waits and all clients are busy, one that has been at work for longer than
+    `--patience` ends by 61; so does one while the server is to end."""
     server = place.start("--format", AREA, "--patience", "5", "--clients", "2")
     time.sleep(1)
     must(server.poll() is None, "`serve` knows no option `--patience`")
@@ -1293,7 +1294,7 @@ def patience(place):
 
 @attack("a stranger holds `lock` while no server works: `submit --wait 2`")
 def lock_held(place):
-    """Who can read `lock` can lock it, and a `submit` that has no `--wait` waits as long. One with it ends after its time."""
+    """Whoever can read `lock` can lock it, and a `submit` that has no `--wait` waits as long. One with it ends after its time."""
     place.make()
 
     def hold(say):
@@ -1315,8 +1316,8 @@ def lock_held(place):
 
 @attack("directories in `cur`, as an exchange of a file and a directory in `new` leaves them: a start removes them")
 def directories(place):
-    """A stranger exchanges a file and a directory at `new/ID` again and again, until some were moved into `cur`; one more is put there by hand,
-    and one with a file in it, which can't be removed. All are reported, and after the next start the empty ones are gone."""
+    """A stranger exchanges a file and a directory at `new/ID` again and again, until some were moved into `cur`. One more is put there by
+    hand, and one with a file in it, which can't be removed. All are reported, and after the next start the empty ones are gone."""
     server = place.serve()
 
     def swap(say):
@@ -1418,8 +1419,8 @@ def prepared(place, script):
 
 @attack("an operator has prepared a larger library as DISK.new; `serve --format` starts before it is moved")
 def disk_prepared(place):
-    """A DISK.new with a library's name and a record is nobody's left-over: 35, and it keeps its bytes. One without a record, as a server
-    leaves it that was killed, is none, and the server starts."""
+    """A DISK.new with a library's name and a record is nobody's left-over: 35, and it keeps its bytes. One without a record, as a killed
+    server leaves it, is a left-over, and the server starts."""
     whole = prepared(place, f"add kept {len(SUM)}\n{SUM}\n")
     server = place.launch([place.program, "serve", place.disk, place.spool, "--format", AREA], SERVER)
     try:
@@ -1441,7 +1442,7 @@ def disk_prepared(place):
 
 
 def limit(process, most=None):
-    """Limits the memory and the threads of a process of the server's that goes on; without a bound, as far as it may have. Only who is the same
+    """Limits the memory and the threads of a process of the server's that goes on; without a bound, up to what it may have. Only the same
     user may do it everywhere."""
 
     def act():
@@ -1510,7 +1511,7 @@ def under(place, limits, words, script, user=None):
 
 
 def least(place, words, script, is_well):
-    """The least memory, in KiB to a step of 64, with which a command does it."""
+    """The least memory, in KiB to a step of 64, with which a command succeeds."""
     low, high = 0, 1 << 20
     while high - low > 64:
         most = (low + high) // 2
@@ -1521,7 +1522,7 @@ def least(place, words, script, is_well):
 
 @attack("`submit` under each limit of its memory from none to enough: 40, and not 53 or 56", 400)
 def submit_memory(place):
-    """Memory that is refused to `submit` is 40, whatever it was asked for: nothing of the folder or of the script has failed."""
+    """Memory that is refused to `submit` is 40, whatever it was requested for: nothing of the folder or of the script has failed."""
     server = place.serve()
     wrong = collections.Counter()
     long = b"/*" + b"x" * 65_000 + b"*/int main(void){return 0;}"
@@ -1537,7 +1538,7 @@ def submit_memory(place):
 
 @attack("`stages` under each limit of its memory from none to enough: the whole text, or 40", 400)
 def stages_memory(place):
-    """What `stages` prints if memory is refused is no statement on the program: 40, and not "the program has no image"."""
+    """If memory is refused, what `stages` prints is no statement on the program: 40, and not "the program has no image"."""
     text = "".join(f"int f{it}(int x){{int y=x*{it};while(y>3)y=y-x;return y;}}" for it in range(60)) + "int main(void){return f3(7);}"
     line = [place.program, "stages", "--quiet", "main"]
     whole = subprocess.run(line, input=text.encode(), capture_output=True, timeout=60)
@@ -1556,7 +1557,7 @@ def stages_memory(place):
 
 
 def by_server(path, text):
-    """A file of the server's, as it makes them."""
+    """A file of the server's, as the server makes them."""
     with open(path, "w") as file:
         file.write(text)
     os.chown(path, SERVER, SERVER)
@@ -1588,7 +1589,7 @@ def answer_replaced(place):
 
 
 def traced(calls, *more):
-    """The words before a command by which strace sees these calls of it."""
+    """The words before a command that make strace see these calls of it."""
     if not shutil.which("strace"):
         raise NotTried("there is no strace")
     return ["strace", "-f", "-y", "-qq", "-e", f"trace={calls}", *more]
@@ -1596,9 +1597,9 @@ def traced(calls, *more):
 
 @attack("a server is killed while its clients' calls in the folder are delayed: answers that were there before stay", 300)
 def killed_late(place):
-    """Eight clients do scripts whose removal from `cur` takes half a second, and each ninth look at a file a third of one, so that a second
-    client comes to a name that is done. After each kill the next start leaves an answer as it was that had been in `done`, and no script is
-    done twice."""
+    """Eight clients do scripts whose removal from `cur` takes half a second, and each ninth look at a file takes a third of one, so that
+    a second client comes to a name that is done. After each kill the next start leaves an answer that had been in `done` as it was, and
+    no script is done twice."""
     looks, removals = "lstat,newfstatat,statx", "unlink,unlinkat"
     words = traced(f"{looks},{removals}", "-o", "/dev/null", "-e", f"inject={removals}:delay_enter=500000")
     words += ["-e", f"inject={looks}:delay_exit=300000:when=5+9"]
@@ -1640,7 +1641,8 @@ def children(process):
 
 @attack("15 kills of a server under 16 submitters, while a stranger puts scripts and FIFOs at each name that appears", 400)
 def killed(place):
-    """Nothing that was acknowledged is lost, no script is done twice, and nothing is left in the folder but what the stranger put there."""
+    """Nothing that was acknowledged is lost, no script is done twice, and the folder has nothing left except what the stranger put
+    there."""
     place.library("", "--format", str(1 << 26))
     os.chown(place.disk, SERVER, SERVER)
     place.make()
@@ -1667,8 +1669,8 @@ def killed(place):
 
 @attack("`submit` takes its script back, and leaves one: the calls that sync `new`; those of a server's first start", 120)
 def synced(place):
-    """What is given up (58) must not be done after a power cut, nor what waits be lost: `new` is synced after the link and after the removal.
-    The server syncs FOLDER and its parts when they are made."""
+    """What is given up (58) must not be done after a power cut, and what waits must not be lost: `new` is synced after the link and after
+    the removal. The server syncs FOLDER and its parts when they are made."""
     calls = "link,linkat,unlink,unlinkat,rename,renameat,renameat2,mkdir,mkdirat,fsync,fdatasync"
     log = f"{place.work}/calls"
 
@@ -1699,7 +1701,7 @@ def synced(place):
 
 @attack("`stop`: one that is older than a start, and one that is made while the server starts")
 def stop_at_start(place):
-    """An old `stop` holds up no start. One that is made when the start has made a file counts: the server ends by itself."""
+    """An old `stop` does not hold up a start. One that is made after the start has made a file counts: the server ends by itself."""
     place.make()
     with open(f"{place.spool}/stop", "w"):
         pass
@@ -1726,7 +1728,7 @@ def stop_at_start(place):
 
 
 def many_names(place, part, count, form, make):
-    """A stranger's process that gives so many names of a part to few files, 60,000 each, and stays."""
+    """A stranger's process that gives many names of a part to few files, 60,000 each, and stays."""
 
     def fill(say):
         for it in range(count):
@@ -1742,7 +1744,7 @@ def many_names(place, part, count, form, make):
 
 
 def waits(place, seconds):
-    """How long a `submit list` of the victim takes, and its answer; it takes its script back after so many seconds."""
+    """How long a `submit list` of the victim takes, and its answer; it takes its script back after this many seconds."""
     begin = time.time()
     done = place.submit("--wait", str(seconds), "list", user=VICTIM)
     return time.time() - begin, done.stdout
@@ -1750,8 +1752,8 @@ def waits(place, seconds):
 
 @attack("300,000 FIFOs in `new` and a flow of small scripts whose names come first: a script of another user", 400)
 def starved(place):
-    """Names that can't be claimed hide no script, also if the server claims others meanwhile: each look for the names after those that were
-    kept has to come, and not begin with the first ones again."""
+    """Names that can't be claimed hide no script, also if the server claims others meanwhile: each look for the names after those that
+    were kept has to come, and not begin with the first ones again."""
     server = place.serve()
     many_names(place, "new", 300_000, "0%07d", os.mkfifo)
 
@@ -1782,7 +1784,7 @@ def fetched(place):
 
 
 def large_answers(place, count, name, lines=20):
-    """So many scripts of a stranger's, whose answers have 60 KB a line."""
+    """This many scripts of a stranger's, whose answers have 60 KB a line."""
 
     def put_all():
         for it in range(count):
@@ -1804,7 +1806,7 @@ def serve_little(place, *options):
 
 @attack("`done` is full, and that was reported; then 300 scripts come, and 64 clients look: how many are taken all the same", 200)
 def done_passed(place):
-    """While the answers that may not go take more than `--done` no script is taken, whichever clients look at once."""
+    """While the answers that may not be removed yet take more than `--done`, no script is taken, whichever clients look at once."""
     server = serve_little(place, "--clients", "64")
     large_answers(place, 2, "a")
     for _ in range(100):
@@ -1834,7 +1836,8 @@ def done_after_start(place):
 
 @attack("FOLDER is a link that a stranger has made, in a folder like /tmp, to a folder of the server's user", 60)
 def folder_link(place):
-    """The server makes no spool along a link of somebody else's: who has made the link may let it lead elsewhere, to a folder of theirs."""
+    """The server makes no spool along a link of somebody else's: the owner of the link may let it lead to another place, to a folder of
+    theirs."""
     os.chmod(place.work, 0o1777)
     home = f"{place.work}/home"
     os.mkdir(home, 0o700)
@@ -1852,7 +1855,8 @@ def folder_link(place):
 
 @attack("FOLDER has 0777: a stranger puts a link at `done`, and a script of the name of a file that the server's user has elsewhere", 60)
 def folder_wide(place):
-    """A folder in which others can replace a part is not served: else the server writes a file with a stranger's name and text elsewhere."""
+    """A folder in which others can replace a part is not served: otherwise the server would write a file with a stranger's name and text
+    in another place."""
     home = f"{place.work}/home"
     for path in (place.spool, home):
         os.mkdir(path)
@@ -1878,7 +1882,8 @@ def folder_wide(place):
 
 @attack("`done` has 3777 from before: `serve` reports it", 60)
 def done_reported(place):
-    """With it a stranger puts a directory at an answer's name, and the answer never comes: so it is wider than 0755."""
+    """With that right a stranger puts a directory at an answer's name, and the answer never comes: so a folder with it is wider than
+    0755."""
     place.make()
     os.chmod(place.file("done"), 0o3777)
     with open(f"{place.work}/told", "w"):
@@ -1912,7 +1917,7 @@ GONE = [
 
 @attack("the documents beside this script: what an operator has to know, and three sentences that said more than holds")
 def documents(place):
-    """What no program can hold back has its sentence."""
+    """What no program can prevent has its sentence."""
     wrong = []
     for name, pattern, what in SENTENCES:
         with open(f"{serve.HERE}/../{name}") as file:
@@ -1928,7 +1933,7 @@ def documents(place):
 # ---- 10: install, ./cclib, ./prove-below, examples/team/team.sh, over a program that takes the place of the proved one
 
 STAND_IN = "#!/bin/sh\n[ \"$1\" = check ] && cat >/dev/null\necho ok {0}\n"
-# A `mv` that sends a signal to who called it, at its COUNT-th call, when it has moved.
+# A `mv` that sends a signal to its caller, at its COUNT-th call, when it has moved.
 MOVER = """#!/bin/sh
 /bin/mv "$@"; status=$?
 echo x >>"$0.count"
@@ -1973,7 +1978,7 @@ class Tree:
         subprocess.run(["bash", "-c", SEEN, "bash", os.path.realpath(self.top)], check=True)
 
     def run(self, *words, user=0, cwd=None, **environment):
-        """What a command of the tree says."""
+        """What a command of the tree prints."""
         known = {**os.environ, "PATH": f"{self.tools}:/usr/local/sbin:/usr/local/bin:/usr/sbin:/usr/bin:/sbin:/bin", **environment}
         who = {} if user == 0 else {"user": user, "group": user, "extra_groups": []}
         return subprocess.run(words, cwd=cwd or self.top, env=known, stdin=subprocess.DEVNULL, capture_output=True, text=True, timeout=60, **who)
@@ -1987,7 +1992,7 @@ class Tree:
 
 @attack("install is interrupted by INT, TERM and HUP at the first, third and last `mv` of it")
 def install_cut(place):
-    """PREFIX is as it was, to the byte, or the new version whole; no file is left over, and the status says which of the two."""
+    """PREFIX is as it was, to the byte, or the new version whole. No file is left over, and the status says which of the two it is."""
     wrong, seen = [], {}
     here = Tree(place)
     for version in ("one", "two", "one"):
@@ -2015,7 +2020,7 @@ def install_cut(place):
 
 @attack("install --remove where share/cclib/FILES can't be read, by who is not root")
 def remove_unreadable(place):
-    """Without the list nothing is removed, the list neither, and that is said, with status 1."""
+    """Without the list nothing is removed, not even the list, and a message says so, with status 1."""
     here = Tree(place)
     os.mkdir(here.prefix)
     os.chown(here.prefix, VICTIM, VICTIM)
@@ -2058,7 +2063,7 @@ def install_foreign(place):
 
 @attack("install into a PREFIX/bin that others may write to: a link at each cclib.new.PID that may come")
 def install_link(place):
-    """What install writes beside its place is a new file: along a link of somebody else's it overwrites nothing."""
+    """What install writes beside its place is a new file: it overwrites nothing along a link of somebody else's."""
     here = Tree(place)
     precious = f"{place.work}/precious"
     write(precious, "precious\n")
@@ -2150,7 +2155,7 @@ class Kit:
         write(f"{self.kit}/WHAT", "a kit that proves nothing\n")
 
     def start(self, user=0):
-        """Starts ./prove-below; its end, and which crates it proved."""
+        """Starts ./prove-below. Returns its end, and which crates it proved."""
         write(f"{self.kit}/log", "", 0o666)
         environment = {**os.environ, "PATH": f"{self.kit}/bin:{os.environ['PATH']}"}
         who = {} if user == 0 else {"user": user, "group": user, "extra_groups": []}
@@ -2162,7 +2167,7 @@ class Kit:
 
 @attack("./prove-below: each product cut to 0 bytes beside its checksum, as a power cut leaves it")
 def product_cut(place):
-    """A product without a byte is none: its crate is proved again."""
+    """A product without a byte does not count: its crate is proved again."""
     kit = Kit(place)
     done, proved = kit.start()
     must(done.returncode == 0 and sorted(proved) == ["cc_tokens", "cc_words", "cclib"], f"the first start: {proved}, {done.stderr[-200:]!r}")
@@ -2219,7 +2224,7 @@ def ring(*_):
 
 
 def try_one(name):
-    """What came of an attack."""
+    """The result of an attack."""
     function, _, limit = ATTACKS[name]
     limit = int(limit * busy())
     signal.signal(signal.SIGALRM, ring)
@@ -2241,7 +2246,7 @@ def try_one(name):
 
 
 def run(chosen):
-    """Tries these; whether all held."""
+    """Tries these. Returns whether all held."""
     if os.geteuid() != 0:
         sys.exit("attacks.py: this needs root")
     for user in (SERVER, FRIEND, STRANGER, VICTIM):

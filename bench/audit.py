@@ -1,9 +1,9 @@
 #!/usr/bin/env python3
-"""Audits units of random programs out of a file: as they were stored, with one byte changed, and as earlier versions wrote them.
+"""Audits units of random programs from a file: as they were stored, with one byte changed, and as earlier versions wrote them.
 
 audit.py [COUNT] [SEED] [FOLDER]: COUNT of compare.py's programs (500), from a seed (1), twenty in a library, whose file lies in FOLDER (this
 one). Each is compiled and stored, the file is opened again, and every unit has to be confirmed. Then one random byte of each image is
-changed: none may be confirmed. Then one random byte of each certificate: how many are confirmed still is counted, and such a unit has to run
+changed: none may be confirmed. Then one random byte of each certificate: the number of units that are still confirmed is counted, and such a unit has to run
 as before. Last, the records are written as before there were certificates: the file has to have the same units, none with a
 certificate, and each has to run as before. The program has to be built (./cclib), or CCLIB names one that is."""
 

@@ -1,7 +1,7 @@
 #!/usr/bin/env bash
 # What an audit costs. Times are the processor's, and ratios are within one run: the best of ROUNDS rounds (5) of each counts, asked in turn.
-# First a unit of 64 functions, TIMES (20) in a library, audited by a session of `cclib library` without its start, by as many compilations of
-# its text: at most 1 is asked for.
+# First a unit of 64 functions, TIMES (20) in a library, audited by a session of `cclib library` without its start, divided by as many compilations of
+# its text: the goal is at most 1.
 # Then certificates that somebody hostile might hand in (bench/hostile.py), and how many bytes the record of a unit has on the disk, for the
 # programs of bench/programs and for the unit of 64 functions: before there were certificates, and with its own.
 # The programs have to be built (./prove-below bench, ./cclib), or BENCH and CCLIB name some that are.

@@ -1,11 +1,12 @@
 #!/usr/bin/env python3
-"""Compares what the interpreter and checked images write, for random programs of which many go wrong by an index, a division or a shift.
+"""Compares what the interpreter and checked images write, for random programs, many of which go wrong by an index, a division or a shift.
 
-checked.py [COUNT] [SEED] [GCC]: COUNT programs (100), from a seed (1): compare.py's, in which some operations are left without what keeps them
-right. Where the source ends, `run --checked` has to write the same words and end alike; where it goes wrong, but not for depth, it has to write
-those words and go on for 1,000,000,000 instructions; where a function is too large (22) or the source is too deep the program is passed over.
-Of the first GCC (0) of them gcc's program, compiled with its own tests, has to write the same words and end alike or by a signal; a program that
-gcc refuses is passed over there. The program has to be built (./cclib --help), or CCLIB names one that is."""
+checked.py [COUNT] [SEED] [GCC]: COUNT programs (100), from a seed (1): compare.py's, in which some operations are left without what keeps
+them right. If the source ends, `run --checked` has to write the same words and end alike. If it goes wrong, but not for depth, `run
+--checked` has to write those words and go on for 1,000,000,000 instructions. If a function is too large (22) or the source is too deep,
+the program is passed over. For the first GCC (0) of them gcc's program, compiled with its own tests, has to write the same words and end
+alike or by a signal; a program that gcc refuses is passed over there. The program has to be built (./cclib --help), or CCLIB names one
+that is."""
 
 import subprocess
 import sys
@@ -62,7 +63,7 @@ def tested_by_gcc(text, words, end, room):
 
 
 def judged(text, room):
-    """How the source ends: `ended` or why it goes wrong; None where it is passed over; or who differs. With a folder gcc is asked too."""
+    """How the source ends: `ended` or why it goes wrong; None if it is passed over; or who differs. With a folder gcc is asked too."""
     lines, _ = compare.lines_of([compare.PROGRAM, "--quiet", "interpret", MOST, *compare.WORDS], text)
     *words, end = lines
     if end in ("wrong Depth", "going"):

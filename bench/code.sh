@@ -1,12 +1,13 @@
 #!/usr/bin/env bash
-# The quality of the code: how many instructions each program of bench/programs executes, and how many words its code has. Of three kinds, each
-# with a mean of its own: the eleven in bench/programs, the fourteen of firmware/ (state in global scalars, tables, arrays of bytes), and the four
-# of untuned/, which were written before the code was made better and are not looked at when it is. Some read a word of input: bench/programs/inputs.
-# bench/code.sh [--gp] [SIMULATOR COMPILER..]: where the command of a plain simulator of the machine and of a C compiler for it are given, the
-# compiler's words run there, unoptimised (LEVEL=-Og for another level), and the ratio is our count by the compiler's: less than 1 is better than
-# it, as in bench/code.sh './rv32sim -d' clang --target=riscv32 or bench/code.sh --gp './rv32sim -d' riscv64-unknown-elf-gcc
-# --gp: the peer's own linker makes accesses to the first 4 KiB of globals relative to gp, which start code sets: the harder peer. Else it is
-# linked by lld (LINKER).
+# The quality of the code: how many instructions each program of bench/programs executes, and how many words its code has. There are three
+# kinds, each with a mean of its own: the eleven in bench/programs, the fourteen of firmware/ (state in global scalars, tables, arrays of
+# bytes), and the four of untuned/, which were written before the code was made better and are not looked at when it is. Some read a word
+# of input: bench/programs/inputs.
+# bench/code.sh [--gp] [SIMULATOR COMPILER..]: if the command of a plain simulator of the machine and of a C compiler for it are given,
+# the compiler's words run there, unoptimised (LEVEL=-Og for another level), and the ratio is our count / the compiler's: less is better,
+# as in bench/code.sh './rv32sim -d' clang --target=riscv32 or bench/code.sh --gp './rv32sim -d' riscv64-unknown-elf-gcc
+# --gp: the peer's own linker makes accesses to the first 4 KiB of globals relative to gp, which start code sets: the harder peer.
+# Otherwise it is linked by lld (LINKER).
 # A count is exact, so other work on the machine changes nothing: it is the least number of steps with which `run` ends.
 set -eu
 # shellcheck source=bench/words.sh

@@ -54,7 +54,8 @@ def colliding(folder, count):
 
 
 def plain(names):
-    """The same names with another last letter each: names that begin alike cost longer comparisons, which is no matter of the hash."""
+    """The same names with another last letter each: names that begin alike cost longer comparisons, which has nothing to do with the
+    hash."""
     random.seed(1)
     letters = "abcdefghijklmnopqrstuvwxyzABCDEFGHIJKLMNOPQRSTUVWXYZ_"
     taken, others = set(names), []

@@ -1,8 +1,8 @@
 #!/usr/bin/env bash
-# What of a commit is not the device's, within one run: commit_in_memory.sh [FOLDER] (this one). COUNT commits (500) of a unit of 16 KiB (8,192 bytes of
+# What a commit costs apart from the device, within one run: commit_in_memory.sh [FOLDER] (this one). COUNT commits (500) of a unit of 16 KiB (8,192 bytes of
 # source and 2,048 words of code): `compact` of a library that has it alone, in a session of `cclib library`, on a file in memory (MEMORY,
-# /dev/shm) by as many on a file in FOLDER; ROUNDS times (10), the best of both without a start that does nothing. By the wall clock,
-# since the device is waited for. What the file in memory takes is in the first. The program has to be built (./cclib), or CCLIB names one that is.
+# /dev/shm), divided by as many on a file in FOLDER; ROUNDS times (10), the best of both without a start that does nothing. By the wall clock,
+# since both wait for the device. The first includes what the file in memory takes. The program has to be built (./cclib), or CCLIB names one that is.
 set -eu
 # shellcheck source=bench/words.sh
 . "$(dirname "$0")/words.sh"

@@ -5,7 +5,7 @@ compare.py [COUNT] [SEED]: COUNT programs (100), from a seed (1). The programs h
 functions of up to eight parameters (some may return at once), elements near by, words of the input and all statements but goto; shifts and divisions are
 guarded, and sums wrap (-fwrapv). Every second program has more objects between its own, so that some of these lie beyond the first 4 KiB of
 the globals, or across their end. The words have to be the same, and the word that main returns; gcc gives only the last eight bits of
-that. A program in which an operation goes wrong is passed over, once it is seen that it is compiled. The program has to be built
+that. A program in which an operation goes wrong is passed over, after a check that it is compiled. The program has to be built
 (./cclib --help), or CCLIB names one that is. The text of a program with other words is printed. gcc compiles 25 of them as one text, in which each
 name at file scope has the program's number."""
 
@@ -18,10 +18,10 @@ import sys
 import tempfile
 
 PROGRAM = os.environ.get("CCLIB") or os.path.join(os.path.dirname(os.path.abspath(__file__)), "../crates/cclib/out/cclib")
-# gcc 12 folds -(-2147483648 / (x + 1)) into -2147483648 / ~x, in spite of -fwrapv, and so ends by a signal where x is 0: then clang is asked.
+# gcc 12 folds -(-2147483648 / (x + 1)) into -2147483648 / ~x, in spite of -fwrapv, and so ends by a signal if x is 0: then clang is asked.
 PEERS = ["gcc", *filter(shutil.which, ["clang"])]
 MOST = "1000000000"
-# As many programs gcc compiles at once.
+# gcc compiles this many programs at once.
 BATCH = 25
 WORDS = "0 1 7 4294967295 2147483648 2147483647 12345678 3000000000".split()
 SERVICES = """#include <stdio.h>
@@ -68,7 +68,7 @@ def called(more):
 
 
 def returning(number, more):
-    """A function that begins with a test, mostly so that one way of it returns at once."""
+    """A function that begins with a test, mostly so that one branch of it returns at once."""
     test = more.choice(["x", "!x", "x<y", "x>=7", "y==x", "(x&3)==0", "x*2<y", "(int)y<0", "x+5>(int)y"])
     soon = more.choice(["x", "y", "x+1", "3", "y-x", "x^y", "-x", "p[1]", "x*y+1"])
     later = more.choice(["f(x,y)-y", "g(y,x)+x*y", "f(x,y)+g(x,y)+x", "d(x&7,y)+y", "x-y+(x>>3)"])
@@ -206,8 +206,8 @@ def gcc_lines(texts, room):
 
 
 def judged(text):
-    """The words and the end on which the interpreter and the compiled program agree, or None where an operation goes wrong, or a text that says
-    how they differ."""
+    """The words and the end on which the interpreter and the compiled program agree, or None if an operation goes wrong, or a text that
+    says how they differ."""
     (*words, end), _ = lines_of([PROGRAM, "--quiet", "interpret", MOST, *WORDS], text)
     (*made, came), _ = lines_of([PROGRAM, "--quiet", "run", MOST, *WORDS], text)
     if came.startswith("fault"):
@@ -222,7 +222,7 @@ def judged(text):
 
 
 def judged_all(texts, room):
-    """Of each program how many words all three write, or None where an operation goes wrong, or a text that says who differs."""
+    """For each program how many words all three write, or None if an operation goes wrong, or a text that says who differs."""
     found = [judged(it) for it in texts]
     ended = [at for at, it in enumerate(found) if isinstance(it, tuple)]
     theirs = gcc_lines([texts[it] for it in ended], room) if ended else []

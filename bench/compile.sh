@@ -1,7 +1,7 @@
 #!/usr/bin/env bash
 # How fast texts are compiled: lines a second of processor time, for the programs of bench/programs and for texts of 8 to 60 KiB, and how that grows.
-# bench/compile.sh [COMPILER..]: where the command of a C compiler is given, it compiles the same texts to objects, unoptimised, and the
-# ratio is our lines a second by its, net of the start of both on an empty main: more than 1 is faster. So bench/compile.sh gcc.
+# bench/compile.sh [COMPILER..]: if the command of a C compiler is given, it compiles the same texts to objects, unoptimised, and the
+# ratio is our lines a second / its, net of the start of both on an empty main: more is better. For example: bench/compile.sh gcc.
 # Each is done ROUNDS times (3), in turn, and the best counts. The program of crates/bench has to be built (./prove-below bench), or BENCH names one
 # that is.
 set -eu

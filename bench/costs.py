@@ -1,10 +1,10 @@
 #!/usr/bin/env python3
 """What a checked image costs beside a plain one: executed instructions, words of code, and the time to compile.
 
-costs.py [FILE..]: of each C program (without FILE: bench/programs) the instructions that the run of each image executes, which is the least
+costs.py [FILE..]: for each C program (without FILE: bench/programs) the instructions that the run of each image executes, which is the least
 number of steps with which `run` ends, its words, and the processor's seconds of ROUNDS (20) times `image`; then the ratios, checked / plain, the
 geometric means and the worst. A program reads the words that bench/programs/inputs has for its name, or those of a file NAME.words beside it.
-The program has to be built (./cclib --help), or CCLIB names one that is. The status is 1 where the two images write different words."""
+The program has to be built (./cclib --help), or CCLIB names one that is. The status is 1 if the two images write different words."""
 import math
 import os
 import pathlib
@@ -50,7 +50,7 @@ def executed(text, words, *mode):
 
 
 def seconds(text, *mode):
-    """The processor's seconds of compiling a text often."""
+    """The processor's seconds to compile a text many times."""
     before = resource.getrusage(resource.RUSAGE_CHILDREN)
     for _ in range(ROUNDS):
         ask(text, "image", *mode)

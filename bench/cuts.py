@@ -1,5 +1,5 @@
 #!/usr/bin/env python3
-"""Power cuts of a server's folder and its library together, made on paper from the calls of real runs.
+"""Power cuts of a server's folder and its library together, computed from the calls of real runs.
 
 cuts.py [COUNT [SEED]]    16 submitters leave scripts in a server's folder, and some take theirs back because no server is there. strace records the
                           calls of all. Then COUNT (1,000) states are made that a power cut at a random moment may leave: of each folder's calls those
@@ -7,7 +7,7 @@ cuts.py [COUNT [SEED]]    16 submitters leave scripts in a server's folder, and 
                           synced and a part of what was written after it; of the library's file any part of what was not synced. In each a
                           real server starts, does what waits and is stopped.
 
-Then no unit lacks whose script had `ok` printed; none is there whose script was taken back (58); no script was done twice (each adds a unit of its own,
+Then no unit is missing whose script had `ok` printed; none is there whose script was taken back (58); no script was done twice (each adds a unit of its own,
 so a second time would be 31); what waits has an answer or was done; an answer that was in `done` is what it was. It needs strace. It is run by root
 or anybody; CCLIB names another program than this repository's. DROP=new leaves the syncs of that folder out, so that one sees what they are for."""
 
@@ -60,7 +60,8 @@ def plain(text):
 
 
 class Call:
-    """A call: when it began and ended, by lines of the log; whose; its name, the paths of descriptors and the strings among its words, its result."""
+    """A call: when it began and ended, by lines of the log; its process; its name, the paths of its descriptors, the strings among its
+    words, and its result."""
 
     def __init__(self, begin, end, process, name, words, result, behind):
         self.begin, self.end, self.process, self.name, self.words, self.result = begin, end, int(process), name, words, result
@@ -68,7 +69,7 @@ class Call:
         self.behind = TOKEN.findall(behind)
 
     def paths(self):
-        """The paths that it names, whole."""
+        """The paths that it names, in full."""
         found, at = [], "/"
         for head, text in self.told:
             if head == "AT_FDCWD":
@@ -98,7 +99,7 @@ def read_log(path):
 
 
 class File:
-    """A file: its rights, what was written, of each when it ended, where and what, and its syncs."""
+    """A file: its rights; what was written, with the end of each write, its offset and its bytes; and its syncs."""
 
     def __init__(self, mode):
         self.mode, self.writes, self.syncs, self.size = mode, [], [], 0
@@ -320,7 +321,7 @@ def look(seen, t, work, draw):
     wrong += [f"{unit} was taken back, and is there" for unit, text in told.items() if text.startswith(b"fault 58") and unit in units]
     for name, unit in seen.units.items():
         if seen.left.get(name, t + 1) <= t and not told.get(unit) and not (unit in units or name in now):
-            # Who takes a script back, or an answer away, has not printed so yet.
+            # A client that takes a script back, or removes an answer, has not printed that yet.
             if not any(end <= t and f"{seen.spool}/{part}/{name}" in gone for part in ("new", "done") for _, end, _, _, gone in seen.steps[part] if end <= t and not is_claim(seen, name, end)):
                 wrong.append(f"{unit} waited, and is neither done nor answered")
     return wrong, (sum(it.startswith(b"ok ") for it in told.values()), sum(it.startswith(b"fault 58") for it in told.values()), sum(b"fault 55" in it for it in now.values()))

@@ -1,7 +1,7 @@
 #!/usr/bin/env python3
 """A library on a block device: what --format refuses, and 100 kills. It takes root and losetup.
 
-device.py [KILLS] [FOLDER] [SEED]: a loop device over a file in that folder (this one). Seen is each refusal of --format: of a
+device.py [KILLS] [FOLDER] [SEED]: a loop device over a file in that folder (this one). It checks each refusal of --format: of a
 device with something else on it, with a file system, mounted, swapped on, too small, open in another process; each time the device is
 looked at afterwards, and has to be as before. Then the library is made, filled by 1,000 adds, the process that adds is killed KILLS
 (100) times, as kills.py does, the library is compacted, and opened again. The program is `cclib library`; CCLIB names one that is built
@@ -51,7 +51,7 @@ def is_done(*words):
 
 
 def refused(store, device, what, fault, words, area=AREA):
-    """Tries a --format that is to be refused, and looks whether the device is as before."""
+    """Tries a --format that is to be refused, and checks whether the device is as before."""
     before = device.sum()
     done = subprocess.run([store.PROGRAM, "library", device.path, "--format", str(area)], input="", capture_output=True, text=True)
     if done.stdout != fault + "\n" or done.returncode != 1 or words not in done.stderr or device.sum() != before:

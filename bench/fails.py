@@ -1,14 +1,15 @@
 #!/usr/bin/env python3
-"""Each system call that a server and `submit` make in the folder, and each allocation of a server, refused once.
+"""Refuses once each system call that a server and `submit` make in the folder, and each allocation of a server.
 
-fails.py [--program PROGRAM] server|submit|memory [FIRST [LAST [STEP]]]: fail.c refuses the call with that number (from FIRST, 1, to LAST, or until a
-run made fewer calls), each with EIO, ENOSPC and EINTR, and with EIO though it was done, as over a network whose answer is lost. In the run of
-a server it takes a folder that a killed one left, with a script that was begun, one that was answered and one that waits, does scripts of two
-`submit`s, and is stopped; in that of `submit` the server is left alone. Then another server does what is left. Nothing may hang: a server
-ends within twenty seconds of `stop`, a `submit` within a minute. No unit may be lost that was answered `ok`, and none be there of a script
-of which nothing is done (56 without a name, 58); each status and each fault has to be one that docs/SERVICE.md has; in the end nothing may
-stand in `new` and `cur`. The status is 1 where that is not so. With `memory` the run is that of a server, of which refuse.c refuses the
-allocation with that number, in whichever thread it comes; 40 and 41 are answers then, of which nothing is done."""
+fails.py [--program PROGRAM] server|submit|memory [FIRST [LAST [STEP]]]: fail.c refuses the call with that number (from FIRST, 1, to LAST,
+or until a run made fewer calls), each with EIO, ENOSPC and EINTR, and with EIO though it was done, as over a network whose answer is
+lost. In the run of a server it takes a folder that a killed one left, with a script that was begun, one that was answered and one that
+waits, does scripts of two `submit`s, and is stopped; in that of `submit` the server is left alone. Then another server does what is left.
+Nothing may hang: a server ends within twenty seconds of `stop`, a `submit` within a minute. No unit that was answered `ok` may be lost,
+and no unit may be there whose script was not done (56 without a name, 58). Each status and each fault has to be one that docs/SERVICE.md
+has; in the end nothing may be left in `new` and `cur`. The status is 1 if that is not so. With `memory` the run is that of a server, and
+refuse.c refuses the allocation with that number, in whichever thread it comes; 40 and 41 are answers then, and nothing of their calls is
+done."""
 
 import collections
 import concurrent.futures
@@ -53,7 +54,7 @@ class Way:
 
 
 class Want:
-    """Which allocation is refused: the program is put behind a shell, whose own memory is not."""
+    """Which allocation is refused: the program is started by a shell, whose own memory is not refused."""
 
     def __init__(self, place, library, number):
         self.place, self.program, self.told = place, place.program, f"{place.work}/told-of-memory"
@@ -69,7 +70,7 @@ class Want:
         self.place.program = self.program
 
     def met(self):
-        """What was refused; the library tells a run that ended before."""
+        """What was refused; the library reports a run that ended before."""
         return "allocation" if os.path.exists(self.told) and not os.path.getsize(self.told) else None
 
 
@@ -83,12 +84,12 @@ def prepare(place, template):
 
 
 def look_at_submit(done, name, units):
-    """Whether a submit's answer and status are what they may be, and the library has what they say."""
+    """Whether a submit's answer and status are allowed, and the library has what they say."""
     lines, is_there = done.stdout.split("\n")[:-1], name in units
     last = lines[-1] if lines else ""
     is_named = "was left as" in done.stderr
     if re.fullmatch(r"ok \d+", last):
-        # With a fault behind it, where the answer could not be taken away or be read on: then a line of that comes last.
+        # With a fault after it, if the answer could not be removed or be read on: then its line comes last.
         serve.must(done.returncode == 0 and is_there, f"{name}: {done}, {sorted(units)}")
         return "ok"
     serve.must(done.returncode == 1 and re.fullmatch(r"fault (4[01]|5[3-8]) \w+|fault 35 DiskFault", last), f"{name}: {done}")
@@ -98,7 +99,7 @@ def look_at_submit(done, name, units):
 
 
 def finish(place, server, is_met):
-    """The end of the server that was tried: what it said."""
+    """The end of the server that was tried: what it printed."""
     with open(f"{place.spool}/stop", "w"):
         pass
     try:
@@ -115,7 +116,7 @@ def finish(place, server, is_met):
 
 
 def clean_up(place):
-    """Another server does what is left: the library's units."""
+    """Another server does what is left. Returns the library's units."""
     if os.path.exists(f"{place.spool}/stop"):
         os.remove(f"{place.spool}/stop")
     server = place.start("--quiet")
@@ -136,7 +137,7 @@ def clean_up(place):
 
 
 def try_server(place, way):
-    """A server one of whose calls is refused; what came of it."""
+    """A server with a call that is refused, and the result."""
     with way:
         server = place.start("--quiet")
     with concurrent.futures.ThreadPoolExecutor() as pool:
@@ -147,7 +148,7 @@ def try_server(place, way):
 
 
 def try_submit(place, way):
-    """A submit one of whose calls is refused; what came of it."""
+    """A submit with a call that is refused, and the result."""
     server = place.start("--quiet")
     place.wait_ready()
     with way:

@@ -1,12 +1,12 @@
 #!/usr/bin/env python3
-"""Cuts the power in the middle of a --format over a library that is filled, by images, and opens what is left.
+"""Cuts the power in the middle of a --format over a full library, by images, and opens what is left.
 
-format_cuts.py [--device] [FOLDER] [SEED]: in that folder (this one), with random images from a seed (1). A library of AREA
-bytes is filled, and formatted anew while calls.c records each call that changes or settles the file. For each cut between two calls the
-images are made that the cut may leave: of what was not synced each sector is as before, as a call made it, or all zeros, and the length
-is one that the file had since the sync. Most are not tried: all of one kind from and up to each sector, one sector of another kind, and
-random mixtures; and of a call that changes a few bytes each mixture of these. Then the program opens each. Told is how often it is no
-library (38), damaged (37), empty, the old library in each byte, or has a unit otherwise, which is never to be: the status is 1 then.
+format_cuts.py [--device] [FOLDER] [SEED]: in that folder (this one), with random images from a seed (1). A library of AREA bytes is
+filled, and formatted anew while calls.c records each call that changes or syncs the file. For each cut between two calls the images are
+made that the cut may leave: of what was not synced, each sector is as before, as a call made it, or all zeros, and the length is one that
+the file had since the sync. Most are not tried: only all of one kind from and up to each sector, one sector of another kind, and random
+mixtures; and for a call that changes a few bytes each mixture of these. Then the program opens each. It prints how often an image is no
+library (38), damaged (37), empty, the old library in each byte, or has a unit otherwise, which must never be: the status is 1 then.
 
 The program is `cclib library`, which has to be built (./cclib), or CCLIB names one that is. With --device the library is on a loop device
 over the file, which takes root."""
@@ -85,11 +85,11 @@ def after(state, call):
 
 
 def images(states, chance):
-    """What a cut may leave where the file's bytes were, since the last sync, those of each state in turn."""
+    """What a cut may leave, if the file's bytes since the last sync were those of each state in turn."""
     most = max(len(it) for it in states)
     part = lambda it, at: it[at : at + SECTOR].ljust(min(SECTOR, most - at), b"\0")
     sectors = range(0, most, SECTOR)
-    # Where no call since the sync changed anything, nothing is lost.
+    # If no call since the sync changed anything, nothing is lost.
     changed = [any(part(it, at) != part(states[0], at) for it in states) for at in sectors]
     kinds = dict.fromkeys([states[0], states[-1], b"", *chance.sample(states, min(len(states), 4))])
     wholes = [[part(kind if is_changed else states[0], at) for at, is_changed in zip(sectors, changed)] for kind in kinds]

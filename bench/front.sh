@@ -1,10 +1,10 @@
 #!/usr/bin/env bash
 # Shows by ratios within one run, of processor time, that `check` is linear in the text's length and that a turn of a loop has
-# one price: 64 KiB of text against 8 KiB (8 is linear), and 10 million turns against 1 million (10 is linear). Then how fast
-# `check` is where `gcc -fsyntax-only -w` is 1 (more is faster), over 64 KiB of each kind, without the starts of both programs, the two
-# in turn and each the best of ROUNDS runs (40); and the most memory of `check`, in bytes for each byte of text, without that of an
-# empty text; and what initialisers of an array of bytes cost by those of an array of words. `check` is `--quiet check`, since gcc does not
-# warn either; how much longer it takes where it warns is told last.
+# one price: 64 KiB of text / 8 KiB (8 is linear), and 10 million turns / 1 million (10 is linear). Then the speed of `check` / that of
+# `gcc -fsyntax-only -w` (more is better), over 64 KiB of each kind, without the starts of both programs, the two in turn and each the
+# best of ROUNDS runs (40); the most memory of `check`, in bytes for each byte of text, without that of an empty text; and the cost of
+# initialisers of an array of bytes / that of an array of words. `check` is `--quiet check`, since gcc does not warn either; how much
+# longer it takes if it warns is printed last.
 # The program has to be built (./cclib), or CCLIB names one that is.
 set -eu
 # shellcheck source=bench/words.sh
@@ -62,7 +62,7 @@ for kind in statements blocks comments names objects functions; do
   echo "check, $kind: 8 KiB $s ms, 64 KiB $l ms; without the start of the program the ratio is $(python3 -c "print(round(($l-$base)/max(1,$s-$base),1))")"
 done
 for kind in statements blocks comments names objects functions nested; do text "$kind" 65536 > "$work/$kind.c"; done
-# A process counts the memory of the one that it is made of, so a small one starts the program, and tells the most that it took.
+# A process counts the memory of its parent, so a small one starts the program, and prints the most that it took.
 gcc -O1 -o "$work/peak" "$top/bench/peak.c"
 python3 - "$program" "$work" <<'P'
 import math, os, subprocess, sys

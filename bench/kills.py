@@ -1,9 +1,9 @@
 #!/usr/bin/env python3
-"""Kills a process that adds units to a file, again and again, and looks whether the file has every unit that was acknowledged.
+"""Kills a process that adds units to a file, again and again, and checks whether the file has every unit that was acknowledged.
 
 kills.py [COUNT] [FOLDER] [SEED]: COUNT kills (1000), on a file in that folder (this one), from a seed (1). The process is `cclib library`
-with a script of adds, and says of each unit that its add has answered Ok. It is killed (SIGKILL) at a random moment of its first 50
-milliseconds; then the library has to open, and a script of one `list` to find all that was said and at most one unit more. The file is made
+with a script of adds, and reports for each unit that its add has answered Ok. It is killed (SIGKILL) at a random moment of its first 50
+milliseconds; then the library has to open, and a script of one `list` has to find all units that were reported and at most one unit more. The file is made
 anew once it is full. The program has to be built (./cclib), or CCLIB names one that is."""
 
 import os
@@ -54,7 +54,7 @@ class Session:
 
 
 def until(process, moment):
-    """What a process prints until the moment comes, in which it is killed."""
+    """What a process prints until the moment at which it is killed."""
     time.sleep(moment)
     process.kill()
     return process.communicate()[0].decode()

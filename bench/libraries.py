@@ -1,14 +1,14 @@
 #!/usr/bin/env python3
-"""Random libraries, and what `diff`, `copy`, `log`, `source --at` and `restore` say of them, beside a reader of this script's own.
+"""Compares what `diff`, `copy`, `log`, `source --at` and `restore` say of random libraries with a reader of this script's own.
 
 libraries.py [--program PROGRAM] random [COUNT [SEED]]: COUNT pairs of libraries (1,000) from a seed (1), written without the program: some of
-either area, with units of both versions, without a certificate and with a wrong one, replaced and withdrawn, empty and full. Of each pair the
+either area, with units of both versions, without a certificate and with a wrong one, replaced and withdrawn, empty and full. For each pair: the
 lines of `diff`; of the first one a copy, whole and of some names, into a random area or the least that `copy` names; its `log`, whole and of one
 name; what each command stored; and what `restore` leaves.
-libraries.py cuts [SEED]: a copy that is killed in the place of each of its calls, refused each of them (EIO, and EIO though it was done), and
+libraries.py cuts [SEED]: a copy that is killed at each of its calls, refused each of them (EIO, and EIO though it was done), and
 killed at 200 moments. Nothing may have the new name, or all of the library; what else is there is a file NEW.N.copy. And what was written is
 synced before the new file gets its name.
-libraries.py calls [COUNT [SEED]]: COUNT random programs (1,000) in a library: what `call` answers of each on random words within a random bound, as
+libraries.py calls [COUNT [SEED]]: COUNT random programs (1,000) in a library: what `call` answers for each on random words within a random bound, as
 `run` does and as the simulator of image.py, by which `executed M` is counted too; one after the other, and by `--lines`.
 The status is 1 if something differs. The program has to be built (./cclib)."""
 
@@ -51,7 +51,7 @@ class Unit:
         self.certificate = chance.choice([None, None, b"", chance.randbytes(7)])
 
     def like(self, chance):
-        """The same unit, but for one part in some cases."""
+        """The same unit, with one part changed in some cases."""
         other = Unit(chance)
         made = Unit(chance)
         made.source, made.code, made.globals, made.certificate = self.source, self.code, self.globals, self.certificate

@@ -1,12 +1,12 @@
 #!/usr/bin/env bash
 # The simulator's speed: three endless loops (arithmetic; loads and stores; calls), each for 300 million instructions, in
 # millions of instructions a processor second.
-# bench/machine.sh [SIMULATOR [COMPILER..]]: where a plain simulator's command is given, it runs the same words, as
-# `SIMULATOR CODE GLOBALS STEPS`, and the ratio is our speed by its speed, so 1.0 or more is as fast. Where the command of a C
-# compiler is given too, its words of the programs of bench/programs, unoptimised, run on both:
-# bench/machine.sh './rv32sim -d' clang --target=riscv32, or with riscv64-unknown-elf-gcc
+# bench/machine.sh [SIMULATOR [COMPILER..]]: if a plain simulator's command is given, it runs the same words, as `SIMULATOR CODE GLOBALS
+# STEPS`, and the ratio is our speed / its speed, so 1.0 or more is as fast. If the command of a C compiler is given too, its words of the
+# programs of bench/programs, unoptimised, run on both: bench/machine.sh './rv32sim -d' clang --target=riscv32, or with
+# riscv64-unknown-elf-gcc
 # The two run in turn, and the best of ROUNDS runs (5) counts. Ours is `run` in a session over a library with a unit of these words, which
-# bench/records.py writes; its time is that without a run. The program has to be built (./cclib), or CCLIB names one that is.
+# bench/records.py writes; its time is net of one without a run. The program has to be built (./cclib), or CCLIB names one that is.
 set -eu
 # shellcheck source=bench/words.sh
 . "$(dirname "$0")/words.sh"

@@ -1,7 +1,7 @@
 #!/usr/bin/env python3
 """Many small units in one library: adding, opening, listing, replacing one and compacting, with the times and the most memory of each.
 
-million.py [UNITS] [AREA] [FOLDER]: so many units (1,000,000), in areas of AREA bytes (512 MiB), on a file in that folder (this one). A
+million.py [UNITS] [AREA] [FOLDER]: this many units (1,000,000), in areas of AREA bytes (512 MiB), on a file in that folder (this one). A
 script has at most 16,777,216 bytes, so they are added by as many runs of `cclib library` as that takes. PROGRAM names a program that is
 built elsewhere than by ./cclib."""
 
@@ -19,7 +19,7 @@ OTHER = "int main(void){return 1;}"
 
 
 def run(path, script, *options):
-    """Does a script: the lines of its answer, the seconds, and the most memory in MiB."""
+    """Does a script. Returns the lines of its answer, the seconds, and the most memory in MiB."""
     with tempfile.TemporaryFile("w+") as given, tempfile.TemporaryFile("w+") as answer:
         given.write(script)
         given.seek(0)

@@ -1,11 +1,11 @@
 #!/usr/bin/env python3
-"""Runs images on qemu's core, which knows nothing of cclib, and looks at the stack below what `size` says.
+"""Runs images on qemu's core, which knows nothing of cclib, and checks the stack below what `size` says.
 
 pattern.py [COUNT] [SEED]: the programs of examples/ and bench/programs, and COUNT random ones of bench/compare.py (200), from a seed (1). Before
-each run all words from 0x00600000 up to 0x00800000 less the stack that is said get a pattern; afterwards they have to be unchanged, and the words
+each run all words from 0x00600000 up to 0x00800000 less the reported stack get a pattern; afterwards they have to be unchanged, and the words
 written and the status those of `cclib run`. The stack just above has another pattern: how many images change its lowest word is printed. The start
 and the services are those of examples/team. A program that does not end within a million instructions is passed over. Needs qemu-system-riscv32
-and riscv64-unknown-elf-as and -ld; the program has to be built (./cclib --help), or CCLIB names one that is. The status is 1 where one differs."""
+and riscv64-unknown-elf-as and -ld; the program has to be built (./cclib --help), or CCLIB names one that is. The status is 1 if one differs."""
 import pathlib
 import struct
 import subprocess
@@ -20,7 +20,7 @@ TEAM = TOP / "examples" / "team"
 TOOL = "riscv64-unknown-elf-"
 CHANGED, LOWEST = 0x0BADF00D, 0x0DEE9E57
 
-# The stack gets its pattern, then start.s goes on; where the run ends, it is looked at, and one or two words more are written.
+# The stack gets its pattern, then start.s goes on; when the run ends, it is checked, and one or two words more are written.
 WATCH = f"""
         .globl  watch, __wrap_end_with
 watch:  li      t0, 0x00600000
@@ -92,7 +92,7 @@ def run_on_qemu(folder, hexadecimal, stack):
 
 
 def difference(folder, text):
-    """What is wrong, or None; and whether the lowest word of the stack was changed, or None where the program is passed over."""
+    """What is wrong, or None; and whether the lowest word of the stack was changed, or None if the program is passed over."""
     said, status = ask(text, "run", "1000000", *compare.WORDS)
     lines = said.decode().split("\n")[:-1]
     if status or not lines or not lines[-1].startswith("exited "):

@@ -1,7 +1,7 @@
 #!/usr/bin/env python3
 """Whether two builds of the program print the same bytes, and end with the same status.
 
-printed.py OLD NEW [TEXTS [SCRIPTS [SEED]]]: OLD and NEW are two programs. Of TEXTS texts (5,000) each is checked, interpreted, compiled and run,
+printed.py OLD NEW [TEXTS [SCRIPTS [SEED]]]: OLD and NEW are two programs. Each of TEXTS texts (5,000) is checked, interpreted, compiled and run,
 listed, made an image and shown stage by stage; SCRIPTS scripts (2,000) are done over a library in a file, each second one over the file that
 the one before left, and a tenth as many are sent to a server (`submit`), whole or by single lines. Half of the texts are random programs
 whose meaning the standard fixes (compare.py), a quarter are these with some bytes changed, left out or put in, the rest are rows of tokens.

@@ -1,10 +1,11 @@
 #!/usr/bin/env bash
-# What a service does under its lock to see that a client's last receipt stands, by what a commit of the same unit takes, within one
-# run: receipt_look.sh [FOLDER] (this one). Number, client and call tell most entries apart; where they agree the entries are compared whole, and so
-# the bytes of their units. A `run` of no step answers with the unit, and the next call looks at that receipt: so what 16 KiB are looked at for
-# is the time of TIMES `run`s (20,000) of a unit with so many bytes of source, without that of as many of the same unit with none. The commit
-# is `compact` of a library that has the first one alone, COUNT times (500), on a file in FOLDER. All in sessions of `cclib library`, ROUNDS
-# times (10) in turn, the best without that of a start that does nothing: the processor's time, and of the commits also the wall clock's.
+# What a service does under its lock to check a client's last receipt, divided by what a commit of the same unit takes, within one run:
+# receipt_look.sh [FOLDER] (this one). Number, client and call distinguish most entries; if they agree the entries are compared whole, and
+# so the bytes of their units. A `run` of no step answers with the unit, and the next call looks at that receipt. So the cost of looking
+# at 16 KiB is the time of TIMES `run`s (20,000) of a unit with that many bytes of source, without that of as many of the same unit with
+# none. The commit is `compact` of a library that has the first one alone, COUNT times (500), on a file in FOLDER. All in sessions of
+# `cclib library`, ROUNDS
+# times (10) in turn, the best without that of a start that does nothing: the processor's time, and for the commits also the wall clock's.
 # The program has to be built (./cclib), or CCLIB names one that is.
 set -eu
 # shellcheck source=bench/words.sh

@@ -1,10 +1,10 @@
 #!/usr/bin/env python3
 """The file of a library (docs/FORMATS.md), read and written without the program: for other scripts.
 
-records.py make FILE COUNT SOURCE WORDS     a library with as many units, u1000000, u1000001 .., that have no certificate, and so many bytes of
+records.py make FILE COUNT SOURCE WORDS     a library with this many units, u1000000, u1000001 .., that have no certificate, and this many bytes of
                                             source and words of code each; it has room for as many more, and prints how many bytes a body has
 records.py image FILE CODE GLOBALS          a library with one unit, `image`, of the words in these two files
-records.py sizes FILE                       of each unit its name, and how many bytes its record's body has without a certificate and with its own"""
+records.py sizes FILE                       for each unit its name, and how many bytes its record's body has without a certificate and with its own"""
 
 import struct
 import sys
@@ -15,7 +15,7 @@ MOST, LEAST = 1 << 30, 64
 
 
 class Record:
-    """A record that adds or replaces a unit, and where its parts lie in the file."""
+    """A record that adds or replaces a unit, and the places of its parts in the file."""
 
     def __init__(self, data, at):
         (length,) = struct.unpack_from("<I", data, at + 1)
@@ -56,7 +56,7 @@ def record(body_):
 
 
 def write(path, bodies, area=0):
-    """Makes a library of these records, with areas of so many bytes or as many as they take."""
+    """Makes a library of these records, with areas of this many bytes or as many as they take."""
     made = b"".join(map(record, bodies))
     area = min(MOST, max(LEAST, area, len(made) + 1))
     with open(path, "wb") as file:

@@ -1,12 +1,12 @@
 #!/usr/bin/env python3
-"""A server and its clients, as processes: killed again and again, beside hostile things, and with no room.
+"""A server and its clients, as processes: killed again and again, among hostile things, and with no room.
 
-serve.py kills [COUNT] [SEED]     COUNT kills (200) of a server under 16 submitters, each followed by a restart: each answer is compared with
-                                  the library, which has all that was acknowledged, and of a script at most one unit more
+serve.py kills [COUNT] [SEED]     COUNT kills (200) of a server with 16 submitters, each followed by a restart: each answer is compared with
+                                  the library, which has all that was acknowledged, and at most one unit more for each script
 serve.py hostile                  things in FOLDER that are no scripts, users and groups (root: the server runs as another user)
 serve.py small                    FOLDER on a file system of 64 KiB that is full (root)
 
---program PROGRAM takes another program than crates/cclib/out/cclib. Its status is 1 where something is not as it should be."""
+--program PROGRAM takes another program than crates/cclib/out/cclib. Its status is 1 if something is not as it should be."""
 
 import grp
 import os
@@ -88,7 +88,8 @@ class Place:
         return subprocess.run(words, input=script, capture_output=True, text=True, timeout=300, **other)
 
     def left(self):
-        """What stands in the folder: nothing, where all was answered and taken away, but what a server tried it with that was killed in its start."""
+        """What is left in the folder: nothing, if all was answered and removed, except what a server that was killed in its start tried
+        it with."""
         names = [f"{part}/{name}" for part in ("tmp", "new", "cur", "done") for name in sorted(os.listdir(self.file(part)))]
         return [it for it in names if "/.try-" not in it]
 
@@ -97,7 +98,7 @@ class Place:
 
 
 class Script:
-    """A script that adds units of its own and runs each, the process that sends it, and what came of it."""
+    """A script that adds units of its own and runs each, the process that sends it, and what became of it."""
 
     def __init__(self, place, owner, number):
         self.names = [f"s{owner}_{number}_{it}" for it in range(UNITS)]
@@ -129,7 +130,7 @@ class Script:
 
 
 def kill_for_a_while(place, chance, kills):
-    """Kills a server so many times under submitters that go on: their scripts."""
+    """Kills a server this many times while submitters go on. Returns their scripts."""
     server = place.start("--clients", str(chance.choice([4, 16])))
     place.wait_ready()
     running, scripts, count = {}, [], 0
@@ -187,7 +188,7 @@ def answer(place, name):
 
 
 def put(place, name, text="", size=None, mode=0o644):
-    """A script that is written and moved as who has no `cclib` does it."""
+    """A script that is written and moved as somebody without `cclib` does it."""
     with open(place.file("tmp", name), "w") as file:
         file.write(text)
         if size:
@@ -196,7 +197,7 @@ def put(place, name, text="", size=None, mode=0o644):
     os.rename(place.file("tmp", name), place.file("new", name))
 
 
-# Scripts, what each is made of, and how the last line of its answer begins.
+# Scripts, what each consists of, and how the last line of its answer begins.
 SCRIPTS = [
     ("n" * 64, {"text": "list\n"}, "ok "),
     ("empty", {}, ""),
@@ -210,7 +211,7 @@ SCRIPTS = [
 
 
 def look_at_things(place):
-    """Which things in `new` are scripts, and what each is answered."""
+    """Which things in `new` are scripts, and how each is answered."""
     new = place.file("new").encode()
     os.symlink("/etc/passwd", new + b"link")
     os.mkdir(new + b"directory")
@@ -263,7 +264,7 @@ def look_at_users(place):
 
 
 def look_at_ends(place, server):
-    """A second server, an answer whose way is barred, a kill in a long script, and what the next start makes of these."""
+    """A second server, an answer whose place is taken, a kill in a long script, and what the next start makes of these."""
     other = Place(SERVER)
     second = subprocess.run([place.program, "serve", other.disk, place.spool, "--format", "65536"], capture_output=True, text=True, **place.user)
     must(second.stdout == "fault 57 FolderInUse\n" and second.returncode == 1, f"a second server on the folder: {second}")

@@ -1,13 +1,13 @@
 #!/usr/bin/env python3
-"""Sessions of the program over a file: what they do where memory is refused, and how much faster more workers compile.
+"""Sessions of the program over a file: what they do if memory is refused, and how much faster more workers compile.
 
 session.py refuse [FOLDER]             each allocation of a session, from its first to its last, is refused once: the session has to end within a
                                        minute, each command has its usual answer or 40 or 41, and a session that opens the file again has to
                                        find the units that were acknowledged, and no others
-session.py workers [FOLDER [COUNT]]    the time of COUNT (20) `add`s of a unit of 64 functions with 1 worker by that with 2, 3 and 4, in turn, ten
+session.py workers [FOLDER [COUNT]]    the time of COUNT (20) `add`s of a unit of 64 functions with 1 worker divided by that with 2, 3 and 4, in turn, ten
                                        rounds; the best of each counts, without the best of a session of no command
-session.py commits [FOLDER [COUNT]]    commits a second of one client, COUNT (960) calls that each compile a text and put its unit under one name, by
-                                       those of sqlite (sqlite.c: WAL, synchronous FULL, one connection) that puts as many bytes, in turn, five
+session.py commits [FOLDER [COUNT]]    commits a second of one client, COUNT (960) calls that each compile a text and put its unit under one name, divided by
+                                       those of sqlite (sqlite.c: WAL, synchronous FULL, one connection) that puts the same number of bytes, in turn, five
                                        rounds; the best of each counts, ours without the best of a session of no command. Needs libsqlite3-dev
 
 The file lies in FOLDER (this one). The program has to be built (./cclib), or CCLIB names one that is; refuse needs gcc."""
@@ -156,7 +156,7 @@ class Answers:
             else:
                 self.compact()
         if status == 1:
-            # Of the service's end.
+            # From the service's end.
             if not self.is_refused(self.next()):
                 raise Wrong("status 1")
         elif status:

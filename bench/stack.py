@@ -1,14 +1,14 @@
 #!/usr/bin/env python3
-"""Looks at what `size` says of programs: those of examples/ and bench/programs, and random ones.
+"""Checks what `size` says of programs: those of examples/ and bench/programs, and random ones.
 
-stack.py [COUNT] [SEED] [STEPS]: COUNT random programs (100) of bench/compare.py, from a seed (1). Of each program that has an image:
-- the functions, their places and their words are those of the listing behind its start of three words, `code` is its length and `globals` the
+stack.py [COUNT] [SEED] [STEPS]: COUNT random programs (100) of bench/compare.py, from a seed (1). For each program that has an image:
+- the functions, their places and their words are those of the listing after its start of three words, `code` is its length and `globals` the
   bytes of `image` from 0x00200000 on;
 - frames, chains of calls and the stack are what this script computes from the listing alone: a function's frame is the largest N of its
   `addi x2, x2, -N`, and its calls are its `jal x1`;
-- a plain simulator (bench/image.py) runs the image for STEPS instructions (200,000), and no load or store below x2's first value lies deeper
-  than the stack that is said.
-So plain and checked. The program has to be built (./cclib --help), or CCLIB names one that is. The status is 1 where one differs."""
+- a plain simulator (bench/image.py) runs the image for STEPS instructions (200,000), and no load or store below x2's first value is deeper
+  than the reported stack.
+The same for plain and checked images. The program has to be built (./cclib --help), or CCLIB names one that is. The status is 1 if one differs."""
 import pathlib
 import subprocess
 import sys
@@ -21,7 +21,7 @@ MOST_OPEN = 1024
 
 
 class Machine(image.Machine):
-    """A simulator that keeps how deep an access of the stack has come."""
+    """A simulator that records the deepest access of the stack."""
 
     deepest = 0
 
@@ -53,7 +53,7 @@ def said(lines):
 
 
 def needs(own, calls):
-    """What calls come to by functions, as deep as they may go."""
+    """The largest sum along calls, by functions, as deep as calls may go."""
     need = [0] * len(own)
     for _ in range(MOST_OPEN):
         need = [own[f] + max((need[g] for g in calls[f]), default=0) for f in range(len(own))]
@@ -85,7 +85,7 @@ def computed(functions, listing):
 
 
 def difference(text, steps, *mode):
-    """What is wrong with the answer, or None; and the stack that is said, or None, and the deepest access."""
+    """What is wrong with the answer, or None; and the reported stack, or None, and the deepest access."""
     answer, status = ask(text, "size", *mode)
     listed, refused = ask(text, "asm", *mode)
     if status or refused:

@@ -1,11 +1,11 @@
 #!/usr/bin/env python3
-"""Looks at what `stages` answers for the programs of examples/ and bench/programs and for random ones.
+"""Checks what `stages` answers for the programs of examples/ and bench/programs and for random ones.
 
-stages.py [COUNT] [SEED]: COUNT random programs (100) of bench/compare.py, from a seed (1). Of each program that `asm` lists, `stages` has to
-end with status 0; all its code has to be that listing behind its start of three words; each function alone has to be answered by its
-part of the whole; and each stage's text has to be one of its language, in which every label that is named stands. Then each stage but the code
-is run, by bench/languages.py, on eight words, and has to write what `interpret` says: as many words of it as both come to where one of
-them is cut off, and only what comes before where an operation goes wrong. The program has to be built (./cclib --help), or CCLIB names
+stages.py [COUNT] [SEED]: COUNT random programs (100) of bench/compare.py, from a seed (1). For each program that `asm` lists, `stages`
+has to end with status 0; all its code has to be that listing after its start of three words; each function alone has to be answered by
+its part of the whole; and each stage's text has to be one of its language, in which every label that is named is there. Then each stage
+except the code is run, by bench/languages.py, on eight words, and has to write what `interpret` says: if one of them is cut off, as many
+words as both reach, and if an operation goes wrong, only what comes before. The program has to be built (./cclib --help), or CCLIB names
 one that is. First values of objects are gcc's."""
 
 import glob
@@ -128,7 +128,7 @@ def main():
 
 
 if __name__ == "__main__":
-    # Calls within one another, of which there may be 1,024, take a deep stack here.
+    # Up to 1,024 calls may be within one another, which takes a deep stack here.
     sys.setrecursionlimit(100_000)
     threading.stack_size(512 << 20)
     STATUS = []

@@ -1,6 +1,6 @@
 #!/usr/bin/env python3
-"""Tries the first start (./cclib, ./prove-below) over a toolchain that proves nothing and only sleeps: what is proved anew behind a change, and
-that nothing is called proved which was not. It takes a minute, and a folder of its own.
+"""Tries the first start (./cclib, ./prove-below) over a toolchain that proves nothing and only sleeps: what is proved anew after a
+change, and that nothing is called proved that was not. It takes a minute, and a folder of its own.
 
     bench/starts.py
 """
@@ -33,7 +33,7 @@ with open(f"{TOP}/crates.txt", encoding="utf-8") as lines:
 
 
 def stand_on(crate):
-    """Returns the crates of this repository that a crate stands on, and itself."""
+    """Returns the crates of this repository that a crate builds on, and itself."""
     return {crate}.union(*(stand_on(low) for low in NEEDS[crate] if low in NEEDS))
 
 
@@ -41,7 +41,7 @@ ALL = stand_on("cclib")
 
 
 def above(crate):
-    """Returns those of the program that stand on a crate, and itself."""
+    """Returns those of the program that build on a crate, and itself."""
     return {it for it in ALL if crate in stand_on(it)}
 
 
@@ -89,7 +89,7 @@ class Trial:
         return subprocess.Popen(WORDS, **self.how)
 
     def ends(self, started, status=0, said=""):
-        """Waits for a start, which has to end with this status, and with these words among what it said; None: it says nothing."""
+        """Waits for a start, which has to end with this status, and with these words in its output; None: it prints nothing."""
         out, errors = started.communicate(timeout=120)
         assert (started.returncode, out) == (status, "answer\n" if status == 0 else ""), (started.returncode, out, errors)
         assert said in errors if said is not None else errors == "", errors
@@ -192,7 +192,7 @@ def what_fails(it):
 
 
 def what_ends_it(it):
-    """Signals, after which no proof goes on; a start that was killed and one beside another, for which a start waits."""
+    """Signals, after which no proof goes on; a start that was killed and one beside another one, for which a start waits."""
     it.edit("cc_task", "cc_script", "cc_flow")
     for byte, number in ((b"\x03", None), (b"\x03\x03", None), (None, signal.SIGTERM), (None, signal.SIGHUP)):
         it.set(5)

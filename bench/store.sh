@@ -1,12 +1,13 @@
 #!/usr/bin/env bash
 # What the library costs over the file that it lies in, by ratios within one run: store.sh [FOLDER] (this one).
-# Durable commits, COUNT (500) in a session of `cclib library`, and a program in C (commits.c) that makes the same two writes and two syncs so
-# often on a file of the same length, in turn, ROUNDS times (20): `withdraw`, which appends a record of 16 bytes, and `compact` of a library of one
-# unit, which writes its record of 628 bytes or 12,028 anew. Neither compiles. The ratio is its time by ours, the best of each without the
+# Durable commits, COUNT (500) in a session of `cclib library`, and a program in C (commits.c) that makes the same two writes and two
+# syncs as often on a file of the same length, in turn, ROUNDS times (20): `withdraw`, which appends a record of 16 bytes, and `compact`
+# of a library of one
+# unit, which writes its record of 628 bytes or 12,028 anew. Neither compiles. The ratio is its time / ours, the best of each without the
 # best of a start that does nothing: 1.0 is as fast; by the wall clock, and by the processor, which others on the machine disturb less, in
-# steps of a millisecond. Where others use the device, more rounds of fewer commits find a quiet moment.
+# steps of a millisecond. If others use the device, more rounds of fewer commits find a quiet moment.
 # Opening: a library of UNITS units (1,000) as `cclib source` opens it, without a start over a library of one, against reading its file by one
-# call, in turn; by the wall clock, the least of ROUNDS of each. The file has both areas, of which opening reads one, and opening also syncs
+# call, in turn; by the wall clock, the least of ROUNDS of each. The file has two areas, and opening reads one of them; opening also syncs
 # twice. The program has to be built (./cclib), or CCLIB names one that is.
 set -eu
 # shellcheck source=bench/words.sh
@@ -43,7 +44,7 @@ commits() {
     echo "$name, records of $length bytes: $(ratio "$count" "$ours") commits a second, plain $(ratio "$count" "$plain"); ratio $(ratio "$plain" "$ours"), by processor $(ratio "$plain_busy" "$ours_busy")"
 }
 
-# opening SOURCE WORDS: of units with so many bytes of source and words of code
+# opening SOURCE WORDS: of units with this many bytes of source and words of code
 opening() {
     local length ours reading
     rm -f "$work"/time.*

@@ -1,18 +1,18 @@
 #!/usr/bin/env python3
-"""What a server's clients wait for, and what it takes: times and memory of `serve` and `submit`, as processes.
+"""What a server's clients wait for, and what a server takes: times and memory of `serve` and `submit`, as processes.
 
-submits.py memory [SECONDS [SUBMITTERS [UNITS]]]  for so long (600), so many submitters (24) replace, run and list units, small and large, in a
+submits.py memory [SECONDS [SUBMITTERS [UNITS]]]  for this long (600), this many submitters (24) replace, run and list units, small and large, in a
                                            library of UNITS others (1,000): the server's resident memory each second; the most of the second half
                                            has to be 1.1 times that of the first at most, and below 512 MiB
 submits.py waiting [COUNT]                 COUNT scripts (10,000) wait when the server begins: how long it takes until all are answered
-submits.py rates [COUNT]                   scripts of one `add` a second, COUNT (480) by 1, 4 and 16 submitters, by those of `library` that is fed
+submits.py rates [COUNT]                   scripts of one `add` a second, COUNT (480) by 1, 4 and 16 submitters, divided by those of `library` that is fed
                                            the same commands, and by the commits of sqlite (sqlite.c: WAL, synchronous FULL) with as many clients
                                            and bytes; three rounds in turn, the best of each. Needs libsqlite3-dev
 submits.py latency [COUNT]                 what one `submit add` takes, COUNT times (100), when the server is idle, and when four other submitters
-                                           keep it busy; by one `add` of `library`, and by a process that does nothing
+                                           keep it busy; divided by one `add` of `library`, and by a process that does nothing
 submits.py ends [COUNT [UNITS]]            a library of UNITS units (1,000) and 16 submitters of small scripts, until COUNT generations (3) ended, each
-                                           behind 4,096 scripts: the longest that one waits. Then the same while a script is done that runs a unit
-                                           three times for 10^9 steps: the others wait for its end where a generation is over
+                                           after 4,096 scripts: the longest that one waits. Then the same while a script is done that runs a unit
+                                           three times for 10^9 steps: the others wait for its end if a generation is over
 
 --program PROGRAM takes another program than crates/cclib/out/cclib, --folder FOLDER another place than the system's for temporary files. All
 print the load of the machine."""
@@ -52,7 +52,7 @@ def ended(place, server):
 
 
 def at_once(count, work):
-    """So many threads, each of which does that with its number."""
+    """This many threads, each of which does that with its number."""
     faults = []
 
     def done(number):
@@ -71,7 +71,7 @@ def at_once(count, work):
 
 
 def put_unit(place, name, text):
-    """Puts a unit under a name; where there is no room, a compaction comes before."""
+    """Puts a unit under a name; if there is no room, a compaction comes before."""
     for _ in range(10):
         done = place.submit("replace", name, script=text)
         if done.stdout == "fault 32 Absent\n":
@@ -157,7 +157,7 @@ def waiting(count=10_000):
 
 
 def submit_rate(count, submitters):
-    """Scripts of one `add` a second. A shell sends them, since a process of Python's takes longer to begin than a script to be done."""
+    """Scripts of one `add` a second. A shell sends them, since a Python process takes longer to begin than a script to be done."""
     place, server = begun(1000 * count, "--clients", "16")
     each = count // submitters
     source = f"{place.work}/unit.c"
@@ -269,7 +269,7 @@ def latency(count=100):
 
 
 def ask(place, name, text):
-    """What who has no `cclib` does: leaves a script, waits for its answer and takes it away."""
+    """What somebody without `cclib` does: leaves a script, waits for its answer and removes it."""
     serve.put(place, name, text)
     path = place.file("done", name)
     while not os.path.exists(path):
@@ -281,7 +281,8 @@ def ask(place, name, text):
 
 
 def watched(place, until, submitters):
-    """How long a small script takes while others send such scripts too, until that is so: how many there were, and the longest waits."""
+    """How long a small script takes while others send such scripts too, until that holds. Returns how many there were, and the longest
+    waits."""
     times, ended = [[] for _ in range(submitters)], threading.Event()
 
     def work(number):

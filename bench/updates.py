@@ -4,7 +4,7 @@
 updates.py [CLIENTS] [TIMES]     CLIENTS (200) fetch the source of `counter` and update it by a source with the next number, TIMES (100) each.
                                  Each `ok` is of another number, and the last number is how many were answered `ok`
 
---program PROGRAM takes another program than crates/cclib/out/cclib. Its status is 1 where something is not as it should be."""
+--program PROGRAM takes another program than crates/cclib/out/cclib. Its status is 1 if something is not as it should be."""
 
 import os
 import subprocess

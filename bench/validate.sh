@@ -2,11 +2,11 @@
 # What spilling all and then validating cost as a function grows: the growth exponent, by ratios within one run.
 # Three kinds of text: straight code, nested loops, and 64 locals that all stay live. Each is made so long that its RTL has as many
 # nodes as asked for, or a few less. A step's time is the processor's, without that of the steps before it, and so without reading, making
-# the RTL and dropping what nobody needs of it. The exponent is log(ratio of times) / log(ratio of nodes): 1 is linear; the goal is 1.3 at most where the number of live registers
+# the RTL and dropping what nobody needs of it. The exponent is log(ratio of times) / log(ratio of nodes): 1 is linear; the goal is 1.3 at most if the number of live registers
 # is bounded.
 # Each is run ROUNDS times (3), in turn, and the best time counts. Shorter texts are done more often in one process, WORK (400,000)
 # nodes in all.
-# Then the most memory of the whole program where 256 locals and 8 parameters are live, with everything spilled (the goal is 64 MB), without
+# Then the most memory of the whole program with 256 locals and 8 parameters live and everything spilled (the goal is 64 MB), without
 # the validator and with it; and LTL that somebody hostile might hand in (bench/hostile.py).
 # The programs have to be built (./prove-below bench, ./cclib), or BENCH and CCLIB name some that are. Needs a C compiler, for bench/peak.c.
 set -eu

@@ -58,7 +58,7 @@ part_of() { awk -v a="$1" -v n="$2" 'BEGIN { printf "%.9f", a / n }'; }
 
 # ---- texts of C
 
-# times COUNT TEXT: the text so often
+# times COUNT TEXT: the text this often
 times() { for ((n = 0; n < $1; n++)); do printf '%s' "$2"; done; }
 
 # Texts of $1 parts: straight code, nested loops, locals that all stay live, and copies of eight locals round a loop.
@@ -88,7 +88,7 @@ moves() {
     printf 'write_word(a+b+c+d+e+f+g+h);}return 0;}\n'
 }
 
-# sized KIND NODES: makes $work/text.c of that kind, with NODES nodes of RTL or a few less, and prints how many it has: it is seen from a short
+# sized KIND NODES: makes $work/text.c of that kind, with NODES nodes of RTL or a few less, and prints how many it has: it measures on a short
 # and a longer text how many nodes one part has
 sized() {
     local one two parts
@@ -101,7 +101,7 @@ sized() {
 nodes_of() { "$bench" rtl "$work/text.c" 1; }
 
 # steps KIND NODES WORK STEP..: prints how many nodes the text of that kind has, and the microseconds that each step of $bench takes without the
-# one before it, the first left out: the best of ROUNDS (3), each so often in one process that WORK nodes are done
+# one before it, the first left out: the best of ROUNDS (3), each repeated in one process until WORK nodes are done
 steps() {
     local kind=$1 nodes turns step before=
     nodes=$(sized "$kind" "$2")
@@ -144,10 +144,10 @@ told() {
 
 # ---- the machine's words, by a C compiler in the array $compiler, as (clang --target=riscv32) or (riscv64-unknown-elf-gcc)
 
-# Where it is set, the start sets the pointer to globals, and the compiler's own linker makes accesses near it relative to it.
+# If it is set, the start sets the pointer to globals, and the compiler's own linker makes accesses near it relative to it.
 gp=
 
-# The machine's start, its services, and where code and globals lie.
+# The machine's start, its services, and the places of code and globals.
 machine() {
     {
         echo '.section .text.start'
@@ -190,7 +190,7 @@ part() {
     fail "needs llvm-objcopy or riscv64-unknown-elf-objcopy"
 }
 
-# words PROGRAM NAME: its code and globals, in $work/NAME.code and $work/NAME.globals; LEVEL is the compiler's level, -O0 where it isn't given
+# words PROGRAM NAME: its code and globals, in $work/NAME.code and $work/NAME.globals; LEVEL is the compiler's level, -O0 if it isn't given
 words() {
     local linker=()
     case ${compiler[0]} in *clang*) LINKER=${LINKER:-lld} ;; esac

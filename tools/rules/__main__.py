@@ -1,10 +1,10 @@
 #!/usr/bin/env python3
 """The repository's own rules, to which .ci/run holds it before any proof.
 
-    tools/rules              every rule: says what breaks one, and ends with 1 where something does
+    tools/rules              every rule: says what breaks one, and ends with 1 if something does
     tools/rules RULE         this one
     tools/rules --planted    puts something that breaks a rule into a copy of the tree, for each rule and each kind of break, and ends with 1
-                             where the rule does not see it: a rule that reads nothing any more is as quiet as one that is kept
+                             if the rule does not see it: a rule that no longer reads anything is as quiet as one that is kept
 """
 import os
 import shutil
@@ -59,7 +59,7 @@ def changed(path, *pairs, more=""):
 
 
 def edit_files(crate, many):
-    """So many must-fail edits more in a crate."""
+    """This many must-fail edits more in a crate."""
     return {f"crates/{crate}/must-fail/planted_{number}.edit": "" for number in range(many)}
 
 
@@ -78,7 +78,7 @@ NOWHERE = "planted" + "nowhere"
 
 
 def plants():
-    """Returns them: a rule, the new texts of files, and what it then says among other things."""
+    """Returns what is planted: a rule, the new texts of files, and what the rule then reports among other things."""
     laws = changed(WORDS, ("\nuse ", "\nuse Rattle.cc_words.proofs.Laws.{planted_law}\nuse "), more="\nplanted : ℕ\nplanted = planted_law\n")
     code = changed(WORDS_CODE, more=f"\nghost use Rattle.cc_words.specs.Words.{{planted}};\n\n{FUNCTION}")
     arrows = "".join(f"use {it}::planted;\n" for it in ("cc_disk", "cc_hex", "cc_screen", "cc_descriptors", "cc_earlier"))
@@ -152,7 +152,7 @@ def kept(names):
 
 
 def seen_in(copy, rule, texts, words):
-    """Puts texts into the copy, has the rule read it, and takes them out again. Returns whether it said these words."""
+    """Puts texts into the copy, has the rule read it, and takes them out again. Returns whether it reported these words."""
     for path, text in texts.items():
         os.makedirs(os.path.dirname(f"{copy}/{path}"), exist_ok=True)
         with open(f"{copy}/{path}", "w", encoding="utf-8") as file:

@@ -1,4 +1,4 @@
-"""What stands in two places is the same in both: texts that the program, its script, its tests and its documents have each for itself."""
+"""What is in two places is the same in both: texts that the program, its script, its tests and its documents have each for itself."""
 import os
 import re
 import subprocess
@@ -14,7 +14,7 @@ def read(path):
 
 
 def said(*words):
-    """Returns what a command of the repository says."""
+    """Returns what a command of the repository prints."""
     return subprocess.run([f"{TOP}/{words[0]}", *words[1:]], check=True, stdout=subprocess.PIPE, text=True).stdout
 
 
@@ -62,7 +62,8 @@ def in_help(name, file):
 
 
 def commands():
-    """The commands of a script stand in one list: what reads a line, the help of two commands and the table of docs/FORMATS.md have these."""
+    """The commands of a script are in one list: what reads a line, the help of two commands and the table of docs/FORMATS.md have
+    these."""
     text = read(COMMANDS)
     listed = re.findall(r'^    b"(.*)",$', found(r"^pub const COMMANDS(.*?)^\];$", text), re.M)
     plain = int(found(r"^pub const PLAIN_COMMANDS: usize = (\d+);$", text))

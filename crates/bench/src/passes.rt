@@ -1,4 +1,5 @@
-// The compiler's passes over a function, as far as a step. A step does those before it too, so what one costs is the difference of two.
+// The compiler's passes over a function, up to a step. A step does those before it too, so what one costs is the difference of
+// two.
 
 use cc_link::{Allocation, Mode, Seen, Watch, compile, compile_watched_in};
 use cc_ltl::read_ltl;
@@ -87,7 +88,7 @@ impl Watch for Until {
     }
 }
 
-/// Compiles a text so many times: how many words its code has.
+/// Compiles a text this many times. The result is how many words its code has.
 pub fn compiled(alloc: Global, text: &[u8], times: u32) -> Option<usize> {
     let mut words = 0;
     for _ in 0..times {
@@ -98,8 +99,8 @@ pub fn compiled(alloc: Global, text: &[u8], times: u32) -> Option<usize> {
     Some(words)
 }
 
-/// Reads and checks a text once, and takes its first function so far so many times: how many nodes its RTL has. None if the text, the
-/// function or its LTL is refused.
+/// Reads and checks a text once, and takes its first function up to the step this many times. The result is how many nodes its
+/// RTL has. None if the text, the function or its LTL is refused.
 pub fn again(alloc: Global, text: &[u8], step: Step, ltl: &[u8], times: u32) -> Option<usize> {
     let unit = check(alloc, parse(alloc, text).ok()?).ok()?;
     let unit = Arc::new(alloc, unit).ok()?;

@@ -114,7 +114,7 @@ fn write_space<W: Write>(space: SpaceUse, writer: &mut W) -> io::Result<()>
     writer.write_all(b"ok\n")
 }
 
-// Writes what is told of a refusal: words, or the place in the source that was sent.
+// Writes the explanation of a refusal: words, or the place in the source that was sent.
 fn explain_refusal<W: Write>(
     alloc: Global,
     refusal: Refusal<'_>,

@@ -1,4 +1,4 @@
--- What is answered to line after line of an input.
+-- The answers to line after line of an input.
 use Rattle.std.specs.Prelude.{◌≡◌, ◌≢◌, ◌⊎◌, ◌-◌, ◌^◌, ℕ, Bool, true, false, IsTrue, List, [], ◌∷◌, length, Option}
 use Rattle.std.specs.List.{list_any}
 use Rattle.std.specs.Io.KnownBytes.{Appends}
@@ -10,7 +10,7 @@ use Rattle.cc_call.specs.declared.lines.LineEnd.TheVariants as line
 use Rattle.cc_call.specs.declared.lines.LinesEnd.{LinesEnd}
 use Rattle.cc_call.specs.declared.lines.LinesEnd.TheVariants.{Answered, Refused, Unwritten}
 
--- a line that was answered: the input after it, all that is written then, and what was answered
+-- a line that was answered: the input after it, all that is written then, and its answer
 pub record LineTurn : Type 0 where
   pub rest : List ℕ
   pub written : Option (List ℕ)
@@ -34,16 +34,17 @@ is_bad turn = is_bad_end turn.end
 abbrev pub is_lack : LineTurn → Bool
 is_lack turn = is_lack_end turn.end
 
--- Of an input, after what is written already, these lines were answered, each without its newline, the first of the input first; then this is left of
--- the input, and that is written. After one for which memory was refused no other line follows.
+-- After what is written already, these lines of an input were answered, each without its newline, the first of the input first;
+-- then this is left of the input, and that is written. After a line for which memory was refused no other line follows.
 abbrev pub AnswersLines : Image → (counted : Bool) (steps : ℕ) (input : List ℕ) (old : Option (List ℕ)) → List LineTurn → (left : List ℕ) (new : Option (List ℕ)) → Type 0
 AnswersLines image counted steps input old [] left new = (left ≡ input) × (new ≡ old)
 AnswersLines image counted steps input old (turn ∷ turns) left new =
     (input ≢ []) × (turn.rest ≡ drop_through 10 input) × AnswersLine image counted steps (first_piece 10 input) old turn.written turn.end
     × (IsTrue (is_lack turn) → turns ≡ []) × AnswersLines image counted steps turn.rest turn.written turns left new
 
--- Why not each line of the input had the answer of a run: all were answered, and one was no list of words; or memory was refused for the last; or the
--- next one could not be read, 53 or 40, whose line was written; or there were more of them than are counted.
+-- Why not each line of the input had the answer of a run: all were answered, and one was no list of words; or memory was refused
+-- for the last; or the next one could not be read, 53 or 40, and the line of that fault was written; or there were more of them
+-- than are counted.
 abbrev pub IsRefused : List LineTurn → (left : List ℕ) (old new : Option (List ℕ)) → Type 0
 IsRefused turns left old new =
     ((left ≡ []) × (new ≡ old) × IsTrue (list_any is_bad turns))

@@ -136,7 +136,7 @@ fn tell_unread<W: Write>(error: io::Error, writer: &mut W) -> LinesEnd
     }
 }
 
-// Reads the next line with its newline, in place of what is in the buffer: whether there is one.
+// Reads the next line with its newline, in place of what is in the buffer. The result is whether there is one.
 fn next_line<R: BufRead>(reader: &mut R, line: &mut Vec<u8>) -> io::Result<bool>
     ensures { IfOk result (IsNextLine (R.remaining reader.old) (R.remaining reader.new) line.new.items) }
 {
@@ -166,7 +166,7 @@ pub fn call_lines<R: BufRead, W: Write>(
     reader: &mut R,
     writer: &mut W,
 ) -> LinesEnd
-    // Of a reader whose bytes are known.
+    // For a reader whose bytes are known.
     ensures lines { IfSome (R.remaining reader.old) (λ input.
         CallsLines image.now is_counted steps input (W.contents writer.old) (W.contents writer.new) result) }
 {

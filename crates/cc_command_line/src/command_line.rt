@@ -450,7 +450,7 @@ pub struct Invocation {
     pub files: Vec<String>,
 }
 
-// The rule that a work breaks whose program is in so many files, and which is to be printed as JSON or not.
+// The rule that a work breaks whose program is in this many files, and which is to be printed as JSON or not.
 fn broken_rule(work: &Work, files: usize, is_json: bool) -> Option<&'static str> {
     if files > 0 && !reads_program(work) {
         return Some(NO_FILE_RULE);
@@ -478,7 +478,7 @@ fn invoked(alloc: Global, invocation: Invocation) -> Result<Invocation, Error>
 
 /// Reads the command line, whose first word is the program's name.
 ///
-/// The error is clap's: its text goes to standard error and its status is 2, but for a text of help.
+/// The error is clap's: its text goes to standard error and its status is 2, except for a text of help.
 pub fn read_invocation<'a, S: AsStr>(alloc: Global, words: &'a [S]) -> Result<Invocation, Error>
     ensures { IfOk result (λ request. IsAllowed request.work) }
 {

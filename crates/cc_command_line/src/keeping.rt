@@ -30,22 +30,22 @@ Example:
 
 With `--lines` each line of standard input is the words of one run, and its answer ends with an empty line.";
 
-// The same of `diff`.
+// The same for `diff`.
 const DIFF_HELP: &str = "\
 A line for each difference, in the order of the names: `left NAME` or `right NAME` if one library alone has the unit,
 else `source NAME`, `image NAME` and `certificate NAME`. Nothing is printed if both hold the same: status 0, else 1.";
 
-// The same of `log`.
+// The same for `log`.
 const LOG_HELP: &str = "\
 A line for each command since the last compaction: `K add NAME 801 120` with the bytes of the source and the words of
 the code, `K replace NAME 812 123` or `K withdraw NAME`. What command K stored: cclib source DISK NAME --at K";
 
-// The same of `restore`.
+// The same for `restore`.
 const RESTORE_HELP: &str = "\
 What is put back is the unit that command K of `cclib log DISK` stored under the name, to the byte: as an add where the
 name has no unit, else as a replace. A compaction, and `copy`, leave one add a unit, and so nothing to go back to.";
 
-// The same of `copy`.
+// The same for `copy`.
 const COPY_HELP: &str = "\
 The units are copied to the byte: source, image and certificate. Nothing may have the name NEW; it is given when all is written.
 A larger AREA makes a library grow, a smaller one is refused with the least that would do.
@@ -81,7 +81,7 @@ pub struct Restoring {
     pub number: u64,
 }
 
-/// A unit of the library in a file, of which is wanted what its image takes.
+/// A unit of the library in a file, and how its image is to be measured.
 #[derive(Drop)]
 pub struct Measuring {
     /// The path of the file.
@@ -103,7 +103,7 @@ pub struct Copying {
     pub area: u32,
     /// Whether what an audit does not confirm is left out.
     pub is_confirmed: bool,
-    /// The names of the units that are copied, as they were given; all units where there is none.
+    /// The names of the units that are copied, as they were given; all units if there is none.
     pub names: Vec<String>,
 }
 
@@ -114,7 +114,7 @@ pub enum Keeping {
     Call(Calling),
     /// Say what a unit takes.
     Size(Measuring),
-    /// Say where the libraries in two files differ.
+    /// Show the differences between the libraries in two files.
     Diff(String, String),
     /// Say which commands a library has had, or those about one name.
     Log(String, Option<String>),
@@ -229,25 +229,25 @@ fn refused_call(alloc: Global, rule: &'static str) -> Result<Error, AllocError> 
     part.error(ErrorKind::ValueValidation, rule)
 }
 
-// The same of `diff`.
+// The same for `diff`.
 fn refused_diff(alloc: Global, rule: &'static str) -> Result<Error, AllocError> {
     let mut part = diff_command(alloc)?.bin_name("cclib diff")?;
     part.error(ErrorKind::ValueValidation, rule)
 }
 
-// The same of `log`.
+// The same for `log`.
 fn refused_log(alloc: Global, rule: &'static str) -> Result<Error, AllocError> {
     let mut part = log_command(alloc)?.bin_name("cclib log")?;
     part.error(ErrorKind::ValueValidation, rule)
 }
 
-// The same of `restore`.
+// The same for `restore`.
 fn refused_restore(alloc: Global, rule: &'static str) -> Result<Error, AllocError> {
     let mut part = restore_command(alloc)?.bin_name("cclib restore")?;
     part.error(ErrorKind::ValueValidation, rule)
 }
 
-// The same of `copy`.
+// The same for `copy`.
 fn refused_copy(alloc: Global, rule: &'static str) -> Result<Error, AllocError> {
     let mut part = copy_command(alloc)?.bin_name("cclib copy")?;
     part.error(ErrorKind::ValueValidation, rule)

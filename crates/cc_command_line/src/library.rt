@@ -54,7 +54,7 @@ Example, with a new file:
 pub struct Session {
     /// The path of the file.
     pub disk: String,
-    /// How many bytes each of two areas has, where the file is to be made anew: 64 to 1,073,741,824.
+    /// How many bytes each of two areas has, if the file is to be made anew: 64 to 1,073,741,824.
     pub area: Option<u32>,
     /// How many threads compile: 1 to 8.
     pub workers: usize,
@@ -142,7 +142,7 @@ fn workers_of(alloc: Global, given: &ArgMatches<'_>) -> Result<usize, Error>
     }
 }
 
-/// The path that a word gives; none where the word is empty, as that of a variable that was not set.
+/// The path that a word gives; none if the word is empty, as that of a variable that was not set.
 pub(crate) fn path_of(
     alloc: Global,
     given: &ArgMatches<'_>,

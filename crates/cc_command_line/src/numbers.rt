@@ -2,7 +2,7 @@
 
 ghost use Rattle.std.specs.Prelude.{◌≤◌, IfSome};
 
-/// The number between two limits that a text of digits stands for.
+/// The number between two limits that a text of digits means.
 pub(crate) fn number_in(text: &str, least: u64, most: u64) -> Option<u64>
     ensures { IfSome result (λ number. (least ≤ number) × (number ≤ most)) }
 {

@@ -21,7 +21,7 @@ pub const MOST_CLIENTS: u64 = 64;
 /// The most days for which a server keeps answers.
 pub const MOST_DAYS: u64 = 3650;
 
-/// The fewest and the most bytes of answers that a server keeps before it lets old ones go: 1 MiB and 1 TiB.
+/// The fewest and the most bytes of answers that a server keeps before it removes old ones: 1 MiB and 1 TiB.
 pub const LEAST_DONE: u64 = 1_048_576;
 
 pub const MOST_DONE: u64 = 1_099_511_627_776;
@@ -108,7 +108,7 @@ pub struct Server {
     pub disk: String,
     /// The path of the folder.
     pub folder: String,
-    /// How many bytes each of two areas has, where the file is to be made if it is not there: 64 to 1,073,741,824.
+    /// How many bytes each of two areas has, if the file is to be made because it is not there: 64 to 1,073,741,824.
     pub area: Option<u32>,
     /// How many threads compile: 1 to 8.
     pub workers: usize,
@@ -130,13 +130,16 @@ pub struct Server {
 pub struct Submitter {
     /// The path of the folder.
     pub folder: String,
-    /// The line of a script, whose source is on standard input where it takes one. Where it is not given the script is on standard input.
+    /// The line of a script, whose source is on standard input if it takes one. If it is not given, the script is on standard
+    /// input.
     pub line: Option<String>,
-    /// The words behind the three of a line `call`, with a space between two: its input. It is given just where the line's first word is `call`.
+    /// The words after the three of a line `call`, with a space between two: its input. It is given exactly if the line's first
+    /// word is `call`.
     pub input: Option<String>,
-    /// The path of the file with the source that a line `update` is to replace. It is given just where the line's first word is `update`.
+    /// The path of the file with the source that a line `update` is to replace. It is given exactly if the line's first word is
+    /// `update`.
     pub was: Option<String>,
-    /// For how many seconds it waits, whether or not a server is there, where that is given: 1 to 86,400.
+    /// For how many seconds it waits, whether or not a server is there, if that is given: 1 to 86,400.
     pub wait: Option<u32>,
 }
 
@@ -235,7 +238,7 @@ fn refused_submit(alloc: Global, rule: &'static str) -> Result<Error, AllocError
     part.error(ErrorKind::ValueValidation, rule)
 }
 
-// The number of an option of `serve`, where it is given.
+// The number of an option of `serve`, if it is given.
 fn number_of(
     alloc: Global,
     given: &ArgMatches<'_>,
@@ -316,12 +319,12 @@ pub(crate) fn serve_of(alloc: Global, given: &ArgMatches<'_>) -> Result<Work, Er
     }))
 }
 
-// Whether a word is one of a line too.
+// Whether a word may be a word of a line.
 fn is_word(word: &str) -> bool {
     word.bytes().all(|byte| byte != b' ' && byte != b'\n')
 }
 
-// Whether all of these are.
+// Whether all of these may be.
 fn are_words(words: &[&str]) -> bool {
     for word in words {
         if !is_word(word) {
@@ -359,7 +362,7 @@ fn is_update(given: &ArgMatches<'_>) -> bool {
     }
 }
 
-// The file with the source that `update` is to replace, which that line takes and no other one; none where it is not so.
+// The file with the source that `update` is to replace, which that line takes and no other one; none if this rule is broken.
 fn was_of(alloc: Global, given: &ArgMatches<'_>) -> Result<Option<Option<String>>, AllocError> {
     match (given.get_str(WAS), is_update(given)) {
         (None, false) => Ok(Some(None)),
@@ -394,7 +397,7 @@ fn sent_by(alloc: Global, words: &[&str]) -> Result<Sent, AllocError> {
     })
 }
 
-// What is asked to be sent; none where a word is none of a line.
+// What is asked to be sent; none if one of the words may not be in a line.
 fn sent_of(alloc: Global, given: &ArgMatches<'_>) -> Result<Option<Sent>, AllocError> {
     match given.get_strs(COMMAND) {
         Some(words) if are_words(words) => Ok(Some(sent_by(alloc, words)?)),

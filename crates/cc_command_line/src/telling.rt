@@ -1,4 +1,4 @@
-// A command line that asks for no work: what a person is told, and the program's status.
+// A command line that asks for no work: what a person reads, and the program's status.
 
 ghost use Rattle.std.specs.Prelude.{IfOk};
 ghost use Rattle.cc_command_line.specs.Work.{IsAllowed};

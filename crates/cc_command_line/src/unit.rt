@@ -43,14 +43,14 @@ With DISK and NAME the image is that of a unit of a library, as it was stored:
 
 Its code lies from 0x00010000 on, the first values of its globals from 0x00200000 on.";
 
-// The same of `source`.
+// The same for `source`.
 const SOURCE_HELP: &str = "\
 What is printed is the source that was stored, to the byte.
 
 Example:
   cclib source units.disk quotient > quotient.c";
 
-// The same of `size`.
+// The same for `size`.
 const SIZE_HELP: &str = "\
 Without further words the program comes on standard input, or in files:
   cclib size -f main.c -f table.c
@@ -139,19 +139,19 @@ fn refused_image(alloc: Global, rule: &'static str) -> Result<Error, AllocError>
     part.error(ErrorKind::ValueValidation, rule)
 }
 
-// The same of `source`.
+// The same for `source`.
 fn refused_source(alloc: Global, rule: &'static str) -> Result<Error, AllocError> {
     let mut part = source_command(alloc)?.bin_name("cclib source")?;
     part.error(ErrorKind::ValueValidation, rule)
 }
 
-// The same of `size`.
+// The same for `size`.
 fn refused_size(alloc: Global, rule: &'static str) -> Result<Error, AllocError> {
     let mut part = size_command(alloc)?.bin_name("cclib size")?;
     part.error(ErrorKind::ValueValidation, rule)
 }
 
-// The part of the unit that the words name; none where a path is empty.
+// The part of the unit that the words name; none if a path is empty.
 fn wanted_of(
     alloc: Global,
     given: &ArgMatches<'_>,
@@ -171,7 +171,7 @@ fn wanted_of(
     }))
 }
 
-// The number of the command that is asked for, if one is; none where it is no number.
+// The number of the command that is asked for, if one is; none if it is no number.
 fn at_of(given: &ArgMatches<'_>) -> Option<Option<u64>> {
     let Some(text) = given.get_str(AT) else {
         return Some(None);
@@ -182,7 +182,7 @@ fn at_of(given: &ArgMatches<'_>) -> Option<Option<u64>> {
     }
 }
 
-/// What `image` asks for: a task for a text where it has no word, else the image of a unit.
+/// What `image` asks for: a task for a text if it has no word, else the image of a unit.
 pub(crate) fn image_of(alloc: Global, given: &ArgMatches<'_>) -> Result<Work, Error>
     ensures { IfOk result IsAllowed }
 {
@@ -222,7 +222,7 @@ pub(crate) fn source_of(alloc: Global, given: &ArgMatches<'_>) -> Result<Work, E
     }
 }
 
-/// What `size` asks for: a task for a text where it has no word, else what the image of a unit takes.
+/// What `size` asks for: a task for a text if it has no word, else what the image of a unit takes.
 pub(crate) fn size_of(alloc: Global, given: &ArgMatches<'_>) -> Result<Work, Error>
     ensures { IfOk result IsAllowed }
 {

@@ -58,7 +58,8 @@ fn put(judged: &mut Judged, name: &Name, audit: Audit) -> Result<(), AllocError>
     Ok(())
 }
 
-// Which of the units of these names, each of which has one, an audit confirms, in the order of the names. A newline goes to `seen` for each.
+// Which of the units with these names an audit confirms, in the order of the names. Each name has a unit. A newline goes to
+// `seen` for each.
 fn judge<S: Write>(
     alloc: Global,
     units: &UnitMap,

@@ -14,7 +14,7 @@ use cc_trace::{Counts, Program, Replay, Traced, Watch, traced_unit, words_of};
 use std::alloc::{AllocError, Global};
 use std::io::{self, Write};
 
-/// How often a line was reached; nothing if it has nothing that is done.
+/// How often a line was reached; nothing if nothing on it is done.
 type Reached = Option<u64>;
 
 // Keeps the higher count of a line.
@@ -57,7 +57,7 @@ fn counts_of(
     Ok(counts)
 }
 
-// Writes a line of a text; a byte by which a terminal could be steered is shown as `?`.
+// Writes a line of a text; a byte that could steer a terminal is shown as `?`.
 fn write_line<W: Write>(line: &[u8], writer: &mut W) -> io::Result<()> {
     for byte in line {
         let shown = if (*byte < 32 && *byte != b'\t') || *byte == 127 {
@@ -70,7 +70,7 @@ fn write_line<W: Write>(line: &[u8], writer: &mut W) -> io::Result<()> {
     writer.write_all(b"\n")
 }
 
-// Writes the lines of a text with their counts, from the line with a number in the whole on; how many there are.
+// Writes the lines of a text with their counts, from the line with a number in the whole on. The result is how many there are.
 fn write_text<W: Write>(
     text: &[u8],
     first: usize,
@@ -153,7 +153,7 @@ impl From<AllocError> for NotCounted {
     }
 }
 
-// Counts a run that the interpreter answers to come out so.
+// Counts a run that ends, by the interpreter's answer, with this outcome.
 fn count_outcome(
     alloc: Global,
     unit: &Unit,
@@ -193,7 +193,7 @@ fn count_outcome(
     }
 }
 
-// Counts one run more; how it stops.
+// Counts one run more. The result is how it stops.
 fn count_run(
     alloc: Global,
     unit: &Unit,
@@ -300,7 +300,7 @@ fn cover_unit<S: Write, W: Write>(
     Ok(write_counts(alloc, &traced, text, texts, &counts, ends, is_one, writer))
 }
 
-// The same of a text.
+// The same for a text.
 fn cover_text<S: Write, W: Write>(
     alloc: Global,
     text: &[u8],
@@ -360,10 +360,10 @@ fn status<W: Write, E: Write + Drop>(
     }
 }
 
-/// Runs the program that texts make on each of these inputs, by the interpreter, for at most so many steps each, and writes each line with how
-/// often it was reached in all: the most often of what is on it. A line with something that is done, and never was, has `never`; the others
-/// have nothing. Then how the runs ended. `seen` gets a newline for each run, so that it may count them. Refusals are those of `interpret`. The
-/// status is 0, or 1 for a fault.
+/// Runs the program that texts make on each of these inputs, by the interpreter, for at most this many steps each, and writes
+/// each line with how often it was reached in all: the highest count on it. A line with something that is done, but never was,
+/// has `never`; the others have nothing. Then it writes how the runs ended. `seen` gets a newline for each run, so that it may
+/// count them. Refusals are those of `interpret`. The status is 0, or 1 for a fault.
 pub fn perform_cover<H: AllocGlobal, S: Write, W: Write, E: Write + Drop>(
     rt: &H,
     steps: u64,

@@ -106,7 +106,7 @@ fn inputs_in<R: Input, F: Files>(
     }
 }
 
-// Writes for a person why there are no inputs.
+// Explains to a person why there are no inputs.
 fn tell_no_inputs<E: Write>(name: &str, why: &NoInputs, told: &mut E) -> io::Result<()> {
     match why {
         NoInputs::Unread(why) => return tell_unread(name, why, told),
@@ -131,7 +131,7 @@ fn tell_no_inputs<E: Write>(name: &str, why: &NoInputs, told: &mut E) -> io::Res
     told.flush()
 }
 
-// The number of the fault for that.
+// The number of that fault.
 fn number_of(why: &NoInputs) -> u32 {
     match why {
         NoInputs::Unread(_) | NoInputs::Taken => 53,
@@ -173,7 +173,8 @@ fn texts_of<R: AllocGlobal + Input, F: Files, W: Write, E: Write>(
     read_or_refuse(rt, files, names.as_slice(), writer, told)
 }
 
-/// Runs the program in these files, or on standard input, as `perform_trace` does; the status. The error is lack of memory before it began.
+/// Runs the program in these files, or on standard input, as `perform_trace` does. The result is the status. The error is lack of
+/// memory before it began.
 pub fn trace_files<R: AllocGlobal + Input, F: Files, W: Write, E: Write + Drop>(
     rt: &R,
     files: &F,
@@ -228,8 +229,8 @@ fn cover_inputs<R: AllocGlobal + Input, F: Files, S: Write, W: Write, E: Write +
     }
 }
 
-/// Runs the program in these files, or on standard input, on input words, as `perform_cover` does; the status. The error is lack of memory before
-/// it began.
+/// Runs the program in these files, or on standard input, on input words, as `perform_cover` does. The result is the status. The
+/// error is lack of memory before it began.
 pub fn cover_files<R: AllocGlobal + Input, F: Files, W: Write, E: Write + Drop>(
     rt: &R,
     files: &F,
@@ -245,8 +246,8 @@ pub fn cover_files<R: AllocGlobal + Input, F: Files, W: Write, E: Write + Drop>(
     cover_inputs(rt, files, names, steps, inputs, true, seen, writer, told)
 }
 
-/// The same on the words of each line of a file; `seen` gets a newline for each. What is no list of words there is 50, a file that can't be read
-/// 53, one of more than 16,777,216 bytes 52.
+/// The same on the words of each line of a file; `seen` gets a newline for each. A line there that is no list of words is 50, a
+/// file that can't be read 53, one of more than 16,777,216 bytes 52.
 pub fn cover_lines<R: AllocGlobal + Input, F: Files, S: Write, W: Write, E: Write + Drop>(
     rt: &R,
     files: &F,

@@ -73,7 +73,7 @@ fn write_open<W: Write>(texts: &[NamedText], call: OpenCall<'_>, writer: &mut W)
     writer.write_all(b"\n")
 }
 
-// Writes the calls that are open, the innermost first, up to so many.
+// Writes the calls that are open, the innermost first, up to this many.
 fn write_open_calls<W: Write>(
     texts: &[NamedText],
     replay: &Replay<'_>,
@@ -221,7 +221,7 @@ fn write_run<W: Write, E: Write + Drop>(
     written
 }
 
-/// Writes the line of a fault of the whole that texts make, and explains it; the status.
+/// Writes the line of a fault of the whole that texts make, and explains it. The result is the status.
 pub(crate) fn refuse<W: Write, E: Write + Drop>(
     alloc: Global,
     fault: &Fault,
@@ -273,7 +273,7 @@ pub(crate) fn status_of<W: Write>(written: io::Result<()>, writer: &mut W) -> u8
     }
 }
 
-// Writes what an answer's run did, and explains it; the status.
+// Writes what an answer's run did, and explains it. The result is the status.
 #[tactic(auto, using(crate::proofs::Stopping::traced))]
 fn answered<W: Write, E: Write + Drop>(
     alloc: Global,
@@ -303,7 +303,7 @@ fn answered<W: Write, E: Write + Drop>(
     status
 }
 
-// The same, over the text that texts make.
+// The same for the text that texts make.
 fn perform<W: Write, E: Write + Drop>(
     alloc: Global,
     task: &Task,
@@ -330,9 +330,9 @@ fn perform<W: Write, E: Write + Drop>(
     }
 }
 
-/// Runs the program that texts make on input words, by the interpreter, for at most so many steps, and writes the last things that it did: calls,
-/// turns of loops, values that names get, words that are read and written; then how it ended, and the calls that were open. Refusals are those of
-/// `interpret`. The status is 0, or 1 for a fault.
+/// Runs the program that texts make on input words, by the interpreter, for at most this many steps, and writes the last things
+/// that it did: calls, turns of loops, values that names get, words that are read and written; then how it ended, and the calls
+/// that were open. Refusals are those of `interpret`. The status is 0, or 1 for a fault.
 pub fn perform_trace<H: AllocGlobal, W: Write, E: Write + Drop>(
     rt: &H,
     steps: u64,

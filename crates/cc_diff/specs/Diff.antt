@@ -1,4 +1,4 @@
--- Where two libraries differ, and why they are not compared.
+-- The differences between two libraries, and why they are not compared.
 use Rattle.std.specs.Prelude.{◌≡◌, ◌↔◌, ℕ, ◌&&◌, ◌||◌, Bool, true, false, IsTrue, List, [], ◌∷◌, ◌++◌, Option, Some, None}
 use Rattle.std.specs.List.{flat_map}
 use Rattle.std.specs.Str.{bytes_eq}
@@ -84,7 +84,7 @@ DiffFaults honest seen_left seen_right left_before left_after right_before right
 DiffFaults honest seen_left seen_right left_before left_after right_before right_after fault.OutOfMemory =
     (left_after ≡ left_before) × (right_after ≡ right_before)
 
--- the number that a fault is known by
+-- the number of a fault
 abbrev pub fault_number : DiffFault → ℕ
 fault_number (fault.Left f) = library_fault_number f
 fault_number (fault.Right f) = library_fault_number f

@@ -1,4 +1,5 @@
--- What stands before a frame is code of a function without one, of steps as the function has them; the rest saves what the function saves.
+-- What is before a frame is code of a function without one, of steps as the function has them; the rest saves what the function
+-- saves.
 use Rattle.std.proofs.Common.{◌≡◌, ℕ, ◌+◌, ◌*◌, ◌<◌, List, [], ◌∷◌, ◌++◌, Option, Some, None, true, false, Bool, refl, sym, ap, ap₂, ◌∙◌, subst, arith}
 use Rattle.std.specs.Prelude.{if◌then◌else◌, ◌==◌, ◌&&◌, ◌||◌, not, option_map, nat_lt}
 use Rattle.std.specs.List.{AllByRecursion}
@@ -269,7 +270,7 @@ last_labels (One (Label n) ∷ ss) last l e = behind ss e
         by false p = one_more ss p
 last_labels (_ ∷ ss) last l e = none_says last e
 
--- where a test leads there is a label
+-- a test leads to a label that is there
 fork_below : (count slots functions : ℕ) (all : List ℕ) (s : Step) (f : Fork) → fork_of s ≡ Some f → AllByRecursion (λ label. label < count) all → IsStep slots functions all s → f.to < count
 fork_below count slots functions all (One (IfNonzero r n)) f e below u = (let q : record { to = n; turned = One (IfZero r n) } ≡ f = cc in subst (λ (z : Fork). z.to < count) q (contained_below count all n u.1 below))
 fork_below count slots functions all (One (IfZero r n)) f e below u = (let q : record { to = n; turned = One (IfNonzero r n) } ≡ f = cc in subst (λ (z : Fork). z.to < count) q (contained_below count all n u.1 below))

@@ -218,7 +218,7 @@ last_place (One (Label n) ∷ ss) last l e = behind ss e
         by false p = one_more ss p
 last_place (_ ∷ ss) last l e = none_says last e
 
--- ---- the run of a whole function, of which the site has the head
+-- ---- the run of a whole function whose head is the site's
 
 module _ (x : Site) (c : ℕ) (code : List Step) (k j : ℕ) where
   abbrev pub effect : ℕ → Question → Effect

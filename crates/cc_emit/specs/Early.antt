@@ -1,7 +1,7 @@
--- Functions that may return before they have a frame. Where a function begins with operations on registers that a call destroys and a test, and
--- the test leads to a label behind which the function returns, at most one such operation further on, these stand before the frame is made:
--- the operations, the test the other way round, what is behind the label, and the return. The test goes on behind them, where the rest stands in
--- its frame as a function's code does.
+-- Functions that may return before they have a frame. Such a function begins with operations on registers that a call destroys,
+-- and a test. The test leads to a label after which the function returns, with at most one such operation before the return. Then
+-- these come before the frame is made: the operations, the test the other way round, what is after the label, and the return. The
+-- test goes on after them, to the rest, which is in its frame as a function's code is.
 use Rattle.std.specs.Prelude.{ℕ, Bool, true, false, not, ◌&&◌, ◌||◌, ◌==◌, nat_le, if◌then◌else◌, Option, Some, None, option_map, List, [], ◌∷◌, ◌++◌}
 use Rattle.cc_ltl.specs.declared.operation.Move.TheVariants.{Between}
 use Rattle.cc_linear_language.specs.declared.item.LinearItem.TheVariants.{Label, IfNonzero, IfZero, Copy, Const, Unary, Binary, Return}
@@ -62,7 +62,7 @@ abbrev pub ending : List Step → Option (List Step)
 ending (One (Label label) ∷ steps) = last_of steps
 ending steps = None
 
--- ---- what stands before the frame
+-- ---- what is before the frame
 
 -- the steps before the frame, followed by the label to which the test goes on, and the steps in the frame
 pub record Early : Type 0 where

@@ -1,6 +1,6 @@
-// What stands before a function's frame: where a function begins with operations on registers that a call destroys and a test, and the test
-// leads to a label behind which the function returns, at most one such operation further on, these stand before the frame is made, with the
-// test the other way round. The test goes on behind them.
+// What is before a function's frame. If a function begins with operations on registers that a call destroys and a test, and the
+// test leads to a label after which the function returns, with at most one such operation before the return, then these come
+// before the frame is made, with the test the other way round. The test goes on after them.
 
 ghost use Rattle.std.specs.Prelude.{◌≡◌, ◌≤◌, ◌+◌, ◌∷◌, ◌++◌, [], List, IfOk, IfSome, drop, take, length, option_map};
 ghost use Rattle.cc_ltl.specs.Registers.{most_slots};
@@ -224,7 +224,7 @@ fn head_with(
     Ok(head)
 }
 
-// What stands before a frame, if there is such.
+// What is before a frame, if there is such.
 fn found(alloc: Global, code: &[Step]) -> Result<Option<Ahead>, AllocError>
     ensures found { IfOk result (λ found. option_map (shown code.now) found ≡ early_from code.now code.now) }
     ensures few { IfOk result (λ found. IfSome found (λ a. (a.taken ≤ length code.now) × (length a.head.items ≤ length code.now + 4))) }

@@ -14,9 +14,8 @@ use std::sync::Arc;
 /// The most steps that are emitted. No memory holds more.
 const MOST_STEPS: usize = 1 << 55;
 
-/// The code of a function of a unit, as its items: those of `specs/Function.antt`, at most 15 for a step.
-/// That the machine does with them what the function does belongs to the answer's type. The LTL is kept beside them, and how many bytes the
-/// frame has.
+/// The code of a function of a unit, as its items: those of `specs/Function.antt`, at most 15 for a step. The answer's type keeps
+/// that the machine does with them what the function does. The LTL is kept beside them, and how many bytes the frame has.
 ///
 /// It fails only for lack of memory (40); the pair is gone then.
 pub fn emit(alloc: Global, pair: SelectedPair) -> Result<Piece, AllocError>

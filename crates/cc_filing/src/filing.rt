@@ -12,7 +12,7 @@ use std::io::{self, Write};
 use std::os::unix::fs::MetadataExt;
 use std::path::Path;
 
-/// What is told where there is no disk on the file for 35.
+/// What a person reads if there is no disk on the file because of 35.
 const NO_FILE: &str =
     "cclib: the file could not be opened, or another process has it open; if it is not there yet, `--format AREA` makes it\n";
 
@@ -23,7 +23,7 @@ const IN_USE: &str =
 /// The same for one that is too small.
 const SMALL: &str = "cclib: the device has fewer than 16 + 2 * AREA bytes\n";
 
-/// The disk on the file, made anew where an area is given.
+/// The disk on the file, made anew if an area is given.
 pub fn disk_of(files: &HostRuntime, path: &str, area: Option<u32>) -> Result<FileDisk, NoDisk> {
     let Some(area) = area else {
         return match FileDisk::open(files, path) {
@@ -39,7 +39,7 @@ pub fn disk_of(files: &HostRuntime, path: &str, area: Option<u32>) -> Result<Fil
     }
 }
 
-// How many bytes a library takes with areas of so many.
+// How many bytes a library takes whose areas have this many.
 fn size_for(area: u32) -> usize {
     16 + 2 * area as usize
 }
@@ -55,7 +55,7 @@ fn formatted(mut disk: FileDisk, area: u32) -> Result<FileDisk, NoDisk> {
     }
 }
 
-/// Tells where others may read or write the file of a library, which has the sources of all units.
+/// Warns if others may read or write the file of a library, which has the sources of all units.
 pub fn tell_wide_disk<E: Write>(files: &HostRuntime, path: &str, told: &mut E) -> io::Result<()> {
     let Ok(found) = fs::metadata(files, path) else {
         return Ok(());
@@ -70,7 +70,7 @@ pub fn tell_wide_disk<E: Write>(files: &HostRuntime, path: &str, told: &mut E) -
     told.flush()
 }
 
-/// Gives a new disk its name, where nothing has it, and syncs that. The name under which it was made goes.
+/// Gives a new disk its name, if nothing has it, and syncs that. The name under which it was made goes.
 pub fn name_disk(files: &HostRuntime, making: &str, path: &str) -> io::Result<()> {
     fs::hard_link(files, making, path)?;
     fs::remove_file(files, making)?;
@@ -92,9 +92,9 @@ fn is_same(files: &HostRuntime, one: &str, other: &str) -> bool {
     }
 }
 
-// Takes what has the name under which a library is made away: what a server left that was killed while it made one. A file that has another
-// name too is a library, of which a server was killed between the two: it loses this name, and is not touched. One that has records was
-// prepared by somebody, and stays.
+// Removes what has the name under which a library is made: what a server left that was killed while it made one. A file that has
+// another name too is a library whose server was killed between the two: it loses this name, and is not touched. One that has
+// records was prepared by somebody, and stays.
 fn clear_name(files: &HostRuntime, making: &str) -> Result<(), NoDisk> {
     let Ok(found) = fs::symlink_metadata(files, making) else {
         return Ok(());
@@ -117,8 +117,9 @@ fn disk_to_name(files: &HostRuntime, making: &str, area: u32) -> Result<FileDisk
     }
 }
 
-/// The disk of a server: the file as it is; where nothing is there and an area is given, a new one. It gets its name when it is whole, so
-/// that a server that was killed while it made the file leaves none. Where an area is given though the file is there, that is told.
+/// The disk of a server: the file as it is; if nothing is there and an area is given, a new one. It gets its name when it is
+/// whole, so a server that was killed while it made the file leaves none. If an area is given though the file is there, a note
+/// says so.
 pub fn disk_to_serve<E: Write>(
     files: &HostRuntime,
     path: &str,
@@ -152,7 +153,7 @@ pub fn disk_to_serve<E: Write>(
     }
 }
 
-// Tells a person why there is no disk.
+// Explains to a person why there is no disk.
 fn explain<E: Write>(reason: NoDisk, path: &str, errors: &mut E) -> io::Result<()> {
     match reason {
         NoDisk::Refused(LibraryFault::DiskFault) => errors.write_all(NO_FILE.as_bytes())?,
@@ -171,7 +172,7 @@ fn explain<E: Write>(reason: NoDisk, path: &str, errors: &mut E) -> io::Result<(
     errors.flush()
 }
 
-/// Writes why there is no disk; the status.
+/// Writes why there is no disk. The result is the status.
 pub fn no_disk<W: Write, E: Write>(reason: NoDisk, path: &str, writer: &mut W, errors: &mut E) -> u8
     ensures { result ≡ 1 }
 {

@@ -1,5 +1,5 @@
-// The folder of a server: taken with the library's disk, and cleaned of what an earlier server left; what is told of it, and what its clients
-// begin with.
+// The folder of a server: taken with the library's disk, and cleaned of what an earlier server left; what is written about it,
+// and what its clients begin with.
 
 ghost use Rattle.std.specs.Prelude.{◌≡◌, ◌≢◌, IfErr, IfOk};
 
@@ -39,7 +39,8 @@ fn write_fault<W: Write>(reason: &NoFolder, writer: &mut W) -> io::Result<()> {
     writer.flush()
 }
 
-/// Writes the fault of a folder that can't be served, 56 or 57, or 40 if memory was refused, and tells why; the status.
+/// Writes the fault of a folder that can't be served, 56 or 57, or 40 if memory was refused, and explains why. The result is the
+/// status.
 pub fn no_folder<W: Write, E: Write>(
     reason: NoFolder,
     folder: &str,
@@ -61,7 +62,7 @@ pub fn no_folder<W: Write, E: Write>(
     1
 }
 
-// The word for so many of a thing: of one, or of any other number.
+// The word for this many of a thing: for one, or for any other number.
 fn word(count: u64, one: &'static str, more: &'static str) -> &'static str
     ensures one { count ≡ 1 → result.now ≡ one.now }
     ensures more { count ≢ 1 → result.now ≡ more.now }
@@ -69,7 +70,7 @@ fn word(count: u64, one: &'static str, more: &'static str) -> &'static str
     if count == 1 { one } else { more }
 }
 
-// Tells of the parts of a folder whose rights are wider than they should be.
+// Warns of the parts of a folder whose rights are wider than they should be.
 fn tell_wide<E: Write>(folder: &str, parts: &[WidePart], told: &mut E) -> io::Result<()> {
     for wide in parts {
         writeln!(
@@ -81,7 +82,7 @@ fn tell_wide<E: Write>(folder: &str, parts: &[WidePart], told: &mut E) -> io::Re
     told.flush()
 }
 
-// Tells what an earlier server had left.
+// Reports what an earlier server had left.
 fn tell_recovered<E: Write>(begun: u64, kept: usize, stuck: u64, told: &mut E) -> io::Result<()> {
     if begun > 0 {
         let scripts = word(begun, "script", "scripts");
@@ -107,7 +108,7 @@ fn tell_recovered<E: Write>(begun: u64, kept: usize, stuck: u64, told: &mut E) -
     told.flush()
 }
 
-// Tells that `new` has more entries than a client looks at.
+// Warns that `new` has more entries than a client looks at.
 fn tell_crowded<E: Write>(folder: &str, waiting: usize, told: &mut E) -> io::Result<()> {
     if waiting > MOST_ENTRIES {
         writeln!(
@@ -118,7 +119,7 @@ fn tell_crowded<E: Write>(folder: &str, waiting: usize, told: &mut E) -> io::Res
     told.flush()
 }
 
-// Answers what an earlier server had begun; the names of the scripts for which that has to be tried again.
+// Answers what an earlier server had begun. The result is the names of the scripts for which that has to be tried again.
 fn clean_folder<E: Write>(
     layout: &FolderLayout,
     asked: &Server,
@@ -127,7 +128,7 @@ fn clean_folder<E: Write>(
     let Recovered { begun, kept, stuck } = recover(layout)?;
     let wide = wide_parts(layout)?;
     let waiting = count_entries(layout, MOST_ENTRIES + 1)?;
-    // What can't be told is no reason to end.
+    // If the report can't be written, that is no reason to end.
     let folder = asked.folder.as_str();
     let _ = tell_recovered(begun, kept.len(), stuck, told);
     let _ = tell_wide(folder, wide.as_slice(), told);
@@ -157,9 +158,9 @@ pub struct Taken {
     pub held: Held,
 }
 
-/// Takes a folder and a library's disk for a server, and answers what an earlier server had begun. Where either can't be had, the line of the
-/// fault is written (56 or 57 for the folder, else as `no_disk` has it), and the status stands in place of the two; nothing is held then. The
-/// error is lack of memory, before anything was taken or written.
+/// Takes a folder and a library's disk for a server, and answers what an earlier server had begun. If either can't be had, the
+/// line of the fault is written (56 or 57 for the folder, otherwise as `no_disk` has it), and the status takes the place of the
+/// two; nothing is held then. The error is lack of memory, before anything was taken or written.
 pub fn take_to_serve<W: Write, E: Write>(
     files: &HostRuntime,
     alloc: Global,
@@ -205,7 +206,7 @@ pub fn take_to_serve<W: Write, E: Write>(
     }))
 }
 
-// Tells that scripts are taken.
+// Reports that scripts are taken.
 fn tell_ready<E: Write>(folder: &str, clients: usize, told: &mut E) -> io::Result<()> {
     let many = word(clients as u64, "client", "clients");
     writeln!(
@@ -215,13 +216,13 @@ fn tell_ready<E: Write>(folder: &str, clients: usize, told: &mut E) -> io::Resul
     told.flush()
 }
 
-// Tells that what nobody fetched was not taken away.
+// Reports that what nobody fetched was not removed.
 fn tell_uncleared<E: Write>(folder: &str, why: &io::Error, told: &mut E) -> io::Result<()> {
     writeln!(told, "cclib: old files in {folder} are not removed: {why}")?;
     told.flush()
 }
 
-/// Tells what a generation did, and why it ended; the error is that of `told`, as in `tell_kept`.
+/// Reports what a generation did, and why it ended; the error is that of `told`, as in `tell_kept`.
 pub fn tell_generation<E: Write>(
     scripts: u64,
     entries: u64,
@@ -240,7 +241,7 @@ pub fn tell_generation<E: Write>(
     told.flush()
 }
 
-/// Who keeps a folder while it is served.
+/// Keeps a folder while it is served.
 #[derive(Drop)]
 pub struct Keeper {
     layout: FolderLayout,
@@ -263,7 +264,7 @@ impl Keeper {
         })
     }
 
-    /// Takes away what nobody fetched. The first time it tells that scripts are taken.
+    /// Removes what nobody fetched. The first time it reports that scripts are taken.
     pub fn tidy<E: Write>(&mut self, told: &mut E) {
         // What can't be removed stays.
         if let Err(why) = clear_old(&self.layout, self.keep) {
@@ -276,8 +277,8 @@ impl Keeper {
     }
 }
 
-/// A spool for each of so many clients, 1 at least, the first of which tries again what the start could not answer. The error is lack of memory;
-/// what was to be tried again stays in the folder then.
+/// A spool for each of this many clients, 1 at least. The first one tries again what the start could not answer. The error is
+/// lack of memory; then what was to be tried again stays in the folder.
 pub fn spools_of(
     alloc: Global,
     layout: &FolderLayout,
@@ -320,7 +321,7 @@ pub fn count_all(spools: &[FolderSpool]) -> AnswerCounts {
     counts
 }
 
-/// Tells how many answers could not be handed over, where there are some.
+/// Reports how many answers could not be handed over, if there are any.
 pub fn tell_kept<E: Write>(kept: u64, told: &mut E) -> io::Result<()> {
     if kept == 0 {
         return Ok(());

@@ -1,9 +1,9 @@
 //! The library in a file: what the program does with one without a service.
 //!
-//! `filing` opens the file or makes it, and tells why it is none; `device` says whether a block device in its place may be overwritten;
-//! `taking` prints a part of a unit that it keeps; `folder` takes a server's folder with it, and tells of that. It knows no session, so it is
-//! proved beside `cc_session`.
-//! Hands out `disk_of`, `no_disk`, `NoDisk` and `take_out_of_file`, and what takes a server's folder, tidies it and tells of it.
+//! `filing` opens the file or makes it, and explains why it is none; `device` says whether a block device in its place may be
+//! overwritten; `taking` prints a part of a unit that it keeps; `folder` takes a server's folder with it, and reports on it. It
+//! knows no session, so it is proved beside `cc_session`. It exports `disk_of`, `no_disk`, `NoDisk` and `take_out_of_file`, and
+//! what takes a server's folder, tidies it and reports on it.
 #![tactic(auto)]
 
 mod device;

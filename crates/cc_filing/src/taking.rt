@@ -14,11 +14,11 @@ use cc_tasks::{Done, PartFault, take_out, write_part};
 use std::alloc::{AllocError, Global};
 use std::io::{self, BufWriter, IsTerminal, Print, Write};
 
-/// What is told where there is no disk on the file for 35.
+/// What a person reads if there is no disk on the file because of 35.
 const NO_FILE: &str =
     "cclib: the file could not be opened, or failed, or another process has it open\n";
 
-/// The same where it is no library, for 38.
+/// The same if it is no library, because of 38.
 const NO_LIBRARY: &str = "cclib: the file is no library\n";
 
 // The bytes of what is wanted.
@@ -39,7 +39,7 @@ fn bytes_of<E: Write>(
     }
 }
 
-/// Tells a person of a fault; of a name that no unit has it is told already.
+/// Explains a fault to a person; a name that no unit has is explained already.
 pub fn explain_part<E: Write>(fault: PartFault, errors: &mut E) -> io::Result<()> {
     match fault {
         PartFault::Library(LibraryFault::DiskFault) => errors.write_all(NO_FILE.as_bytes())?,
@@ -52,7 +52,7 @@ pub fn explain_part<E: Write>(fault: PartFault, errors: &mut E) -> io::Result<()
     errors.flush()
 }
 
-// Tells a person of the fault, if there is one; the status.
+// Explains the fault to a person, if there is one. The result is the status.
 fn told<E: Write>(found: &Result<Vec<u8>, PartFault>, errors: &mut E) -> u8
     ensures { MatchResult found.now (λ _. result ≡ 0) (λ _. result ≡ 1) }
 {
@@ -65,7 +65,8 @@ fn told<E: Write>(found: &Result<Vec<u8>, PartFault>, errors: &mut E) -> u8
     }
 }
 
-/// Writes the bytes, or the fault's line: that was appended to what the writer held and nothing else, or it could not be written.
+/// Writes the bytes, or the fault's line. Either that was appended to what the writer held and nothing else, or it could not be
+/// written.
 pub fn write_found<W: Write, E: Write>(
     found: Result<Vec<u8>, PartFault>,
     writer: &mut W,
@@ -91,8 +92,8 @@ pub fn write_found<W: Write, E: Write>(
     }
 }
 
-/// Writes a part of a unit of the library in a file to standard output: its image as Intel HEX, or its source to the byte; the status. On a
-/// terminal control bytes of the source are shown as `?`. The error is lack of memory before it began.
+/// Writes a part of a unit of the library in a file to standard output: its image as Intel HEX, or its source to the byte. The
+/// result is the status. On a terminal control bytes of the source are shown as `?`. The error is lack of memory before it began.
 pub fn take_out_of_file<R: AllocGlobal + Print, E: Write + Drop>(
     rt: &R,
     files: &HostRuntime,

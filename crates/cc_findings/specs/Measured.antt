@@ -12,7 +12,7 @@ use Rattle.cc_findings.specs.declared.sizing.CyclicCall.{CyclicCall}
 use Rattle.cc_findings.specs.declared.sizing.Measure.{Measure}
 use Rattle.cc_findings.specs.declared.sizing.SizedFunction.{SizedFunction}
 
--- the first function is behind the three words that call main and exit, and each other one is behind the one before
+-- the first function is after the three words that call main and exit, and each other one is after the one before
 abbrev pub place_by : List FunctionSize → (f : ℕ) → ℕ
 place_by sizes f = 0x1000c + 4 * sum_by (λ (size : FunctionSize). size.words) (take f sizes)
 
@@ -39,7 +39,8 @@ pub record AreCycles (program : Source) (calls : List Recursion) (cycles : List 
   pub count : length cycles ≡ length calls
   pub each : (k : ℕ) (one : CyclicCall) → slice_get cycles k ≡ Some one → IsCycle program calls k one
 
--- what an image takes that follows what the text's program shows in the mode, where each function is, and which calls are parts of cycles of calls
+-- what an image takes that follows what the text's program shows in the mode, the place of each function, and which calls are
+-- parts of cycles of calls
 pub record Measures (m : Mode) (text : List ℕ) (it : Measure) : Type 0 where
   pub sized : IsSizedIn m text it.sized
   pub functions : AreFunctions (source (arc_value it.sized.made.typed)) it.sized.size.functions.items it.functions.items

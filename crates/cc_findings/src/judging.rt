@@ -1,7 +1,7 @@
-// Whether a program can go wrong, and where it may.
+// Whether a program can go wrong, and at which places.
 //
-// That it can't is proved. The lines of what may go wrong come of a walk over the instructions on which explanations rest: of functions
-// that need a guard, the operations whose right operand or index is no constant that is evidently right.
+// It is proved if it can't. The lines of what may go wrong come from a walk over the instructions on which explanations rest: in
+// functions that need a guard, the operations whose right operand or index is not a constant that is evidently right.
 
 ghost use Rattle.std.specs.Prelude.{◌≡◌, [], true, IfOk, OnOk};
 ghost use Rattle.std.specs.Arc.{arc_value};
@@ -21,7 +21,7 @@ use std::alloc::{AllocError, Global};
 use std::io::{self, Write};
 use std::sync::Arc;
 
-/// What may go wrong: why, and where in the text; if that is not known, in which function.
+/// What may go wrong: why, and the place in the text; if that is not known, the function.
 #[derive(Drop)]
 pub struct Unsure {
     pub cause: Cause,
@@ -140,7 +140,7 @@ fn is_among(unit: &TypedUnit, numbers: &[usize], name: &[u8]) -> bool {
     false
 }
 
-// Puts what may go wrong in the functions that need a guard behind others.
+// Adds what may go wrong in the functions that need a guard, after others.
 fn add_places(
     alloc: Global,
     lines: &mut Vec<Unsure>,
@@ -248,7 +248,7 @@ fn add_cycles(
     Ok(())
 }
 
-// What may go wrong in a program of which there are instructions.
+// What may go wrong in a program that has instructions.
 fn add_lines(
     alloc: Global,
     lines: &mut Vec<Unsure>,

@@ -1,4 +1,4 @@
-// Which calls of a program are part of a cycle of calls, as `safe` names functions; nobody has to believe it.
+// Which calls of a program are part of a cycle of calls, as `safe` names functions. No promise rests on it.
 //
 // Sets of functions are words, a bit for each: a unit has at most 64.
 
@@ -35,7 +35,8 @@ fn all_reached(alloc: Global, calls: &[u64]) -> Result<Vec<u64>, AllocError> {
     Ok(reached)
 }
 
-/// The calls that are part of a cycle, by who calls and then by who is called, where each function calls so many.
+/// The calls that are part of a cycle, ordered by the function that calls and then by the one that is called, if each function
+/// calls these.
 pub(crate) fn cyclic(alloc: Global, calls: &[u64]) -> Result<Vec<Recursion>, AllocError> {
     let reached = all_reached(alloc, calls)?;
     let mut found = Vec::new(alloc);

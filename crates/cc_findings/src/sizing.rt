@@ -43,7 +43,7 @@ pub struct Measure {
     pub cycles: Vec<CyclicCall>,
 }
 
-// The address behind so many words from an address on; none past the last address.
+// The address after this many words from an address on; none past the last address.
 fn behind(address: u32, words: usize) -> Option<u32>
     ensures { IfSome result (λ next. next ≡ address + 4 * words) }
 {
@@ -51,7 +51,7 @@ fn behind(address: u32, words: usize) -> Option<u32>
     address.checked_add(words.checked_mul(4)?)
 }
 
-// The functions with their names and places. Of a compiled unit each has a name, and no address is too large.
+// The functions with their names and places. In a compiled unit each has a name, and no address is too large.
 fn functions(
     alloc: Global,
     unit: &TypedUnit,

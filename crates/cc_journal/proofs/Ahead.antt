@@ -44,7 +44,7 @@ shows_from offset later m bytes seen le shown =
 pub shows_first : (offset m : ℕ) (bytes seen : List ℕ) → Shows offset bytes seen → Shows offset (take m bytes) seen
 shows_first offset m bytes seen shown = prefix_of_prefix m bytes (drop offset seen) shown
 
--- bytes that are shown and those behind them
+-- bytes that are shown and those after them
 pub shown_and_read : (offset done count : ℕ) (first rest seen : List ℕ) → Shows offset first seen → length first ≡ done → done ≤ count
     → rest ≡ take (count - done) (drop (offset + done) seen) → first ++ rest ≡ take count (drop offset seen)
 shown_and_read offset done count first rest seen shown long le read =
@@ -57,7 +57,7 @@ shown_and_read offset done count first rest seen shown long le read =
 pub shows_none : (offset : ℕ) (bytes seen : List ℕ) → bytes ≡ [] → Shows offset bytes seen
 shows_none offset bytes seen none = none ∙ ap (λ (l : List ℕ). take (length l) (drop offset seen)) (sym none)
 
--- what stands in a list that was filled up behind its first bytes
+-- what a list has that was filled up after its first bytes
 pub filled : (d n : ℕ) (bytes read rest tail : List ℕ) → d ≤ length bytes → n ≡ d + length read → take n ((take d bytes ++ (read ++ rest)) ++ tail) ≡ take d bytes ++ read
 filled d n bytes read rest tail le size =
     let first = take d bytes in
@@ -68,7 +68,7 @@ filled d n bytes read rest tail le size =
 pub read_as : (buffer l : List ℕ) (n m : ℕ) → buffer ≡ take n l → n ≡ m → buffer ≡ take m l
 read_as buffer l n m is same = is ∙ ap (λ (k : ℕ). take k l) same
 
--- what reading one record finds where its bytes were not read
+-- what reading one record finds if its bytes were not read
 pub finds_none : (bytes : List ℕ) (left : ℕ) (fault : JournalFault) → IsBytesFault fault → FindsRecord bytes left (Err fault)
 finds_none bytes left DiskFault is = tt
 finds_none bytes left OutOfMemory is = tt

@@ -1,5 +1,5 @@
--- What bytes that were read say of the bytes of a disk. How: what is read is a part of the disk's bytes, and a header or a
--- record that stands there has its length in those bytes.
+-- What bytes that were read say of the bytes of a disk. How: what is read is a part of the disk's bytes, and a header or a record
+-- there has its length in those bytes.
 use Rattle.std.proofs.Common.{◌≡◌, ℕ, ◌+◌, ◌*◌, ◌%◌, ◌^◌, ◌<◌, Bool, true, false, not, List, [], ◌∷◌, ◌++◌, length, get_or, take, drop, Option, Some, None, IfSome, refl, sym, ◌∙◌, ap, subst, arith, eqb, append_assoc, take-append-drop}
 use Rattle.std.proofs.lemmas.Bool.{false≢true}
 use Rattle.std.proofs.lemmas.Bool.Decides.{Decides-eqb}
@@ -89,7 +89,7 @@ module _ (bytes : List ℕ) where
       ∙ ap (λ (l : List ℕ). to_le_bytes w32 (length body) ++ l) (drop-drop 4 1 bytes ∙ sym (take-append-drop n (drop 5 bytes)) ∙ ap (λ (l : List ℕ). l ++ drop n (drop 5 bytes)) (sym read-body)) in
       gate_read gate read long is ∙ ap (λ (l : List ℕ). open_gate ∷ l) (tail ∙ sym (append_assoc (to_le_bytes w32 (length body)) body (drop n (drop 5 bytes))))
 
-  -- the length that was read is that of a record which stands there
+  -- the length that was read is that of the record there
   pub length_read : (four body rest : List ℕ) (n : ℕ) → four ≡ take 4 (drop 1 bytes) → n ≡ from_le_bytes w32 four → bytes ≡ record_bytes body ++ rest → length body < 2 ^ 32 → n ≡ length body
   length_read four body rest n read n-is is small =
       n-is ∙ ap (λ (l : List ℕ). from_le_bytes w32 l) (read ∙ ap (λ (l : List ℕ). take 4 (drop 1 l)) is) ∙ from_le_bytes-to_le_bytes_4 (length body) small

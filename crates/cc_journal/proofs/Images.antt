@@ -28,7 +28,7 @@ module _ (old new : List ℕ) where
       ap length is ∙ length-append (take offset old) (bytes ++ drop (offset + length bytes) old)
       ∙ omega (arith, fits, length-append bytes (drop (offset + length bytes) old), length-take-le offset old (omega (arith, fits)), length-drop (offset + length bytes) old)
 
-  -- it leaves what stands before its range and behind it
+  -- it leaves what is before its range and after it
   pub written_differs : (offset : ℕ) (bytes : List ℕ) → offset + length bytes ≤ length old → IsWritten old offset bytes new → DiffersWithin offset (length bytes) old new
   written_differs offset bytes fits is =
       let Z = drop (offset + length bytes) old in
@@ -56,7 +56,7 @@ module _ (image : List ℕ) (start area used : ℕ) (bodies : List (List ℕ)) (
   abbrev h : HoldsRecords image area bodies
   h = from.holds
 
-  -- the bytes in front of the closed gate
+  -- the bytes before the closed gate
   abbrev prefix : List ℕ
   prefix = header h.area_byte area ++ (h.other ++ records bodies)
 
@@ -83,7 +83,7 @@ module _ (image : List ℕ) (start area used : ℕ) (bodies : List (List ℕ)) (
     is_area = subst (λ (n : ℕ). IsArea n area) (sym long) h.is_area;
   }
 
-  -- with the new one after it and its gate open it holds the new one too
+  -- with the new one after it and its gate open, it holds the new one too
   pub holds_new : (other body behind : List ℕ) → length other ≡ length image → used + length body + 6 ≤ area → other ≡ prefix ++ open_gate ∷ (frame body ++ behind) → HoldsFrom other start area (bodies ++ body ∷ [])
   holds_new other body behind long room is = record {
     holds = record {
@@ -110,7 +110,7 @@ module _ (image : List ℕ) (start area used : ℕ) (bodies : List (List ℕ)) (
   prefix_gate : prefix ++ h.gate ∷ [] ≡ take (start + used + 1) image
   prefix_gate = sym (ap (λ (l : List ℕ). take (start + used + 1) l) (in_two ∙ sym (append_assoc prefix (h.gate ∷ []) h.behind)) ∙ take_at (prefix ++ h.gate ∷ []) h.behind (start + used + 1) (omega (arith, length-append prefix (h.gate ∷ []), length-prefix)))
 
-  -- the body's write leaves the closed gate in front of whatever it leaves
+  -- the body's write leaves the closed gate before whatever it leaves
   pub behind_gate : (other : List ℕ) (n : ℕ) → DiffersWithin (start + used + 1) n image other → HoldsRecords other area bodies
   behind_gate other n differs =
       let is : other ≡ prefix ++ h.gate ∷ drop (start + used + 1) other =

@@ -7,7 +7,7 @@ module _ {D : Type 0} (moment : D → ℕ) (left_since : D → ℕ → List ℕ 
   pub started : (old : D) (P : List ℕ → Type 0) → ((image : List ℕ) → left_since old (moment old) image → P image) → LeavesOnly moment left_since old old P
   started old P here = record { later = omega arith; each = here; before = λ t image le left. inl left }
 
-  -- one call more, after which a crash leaves what has P
+  -- one more call, after which a crash leaves what has P
   pub goes_on : (old mid new : D) (P may_leave : List ℕ → Type 0) → LeavesOnly moment left_since old mid P → Elapses (moment mid) (moment new) (left_since mid) (left_since new) may_leave
       → ((image : List ℕ) → may_leave image → P image) → LeavesOnly moment left_since old new P
   goes_on old mid new P may_leave so_far time here = record {

@@ -21,7 +21,7 @@ at_zero k area e = ap (λ (n : ℕ). 16 + n * area) e ∙ omega arith
 at_one : (k area : ℕ) → k ≡ 1 → 16 + k * area ≡ 16 + area
 at_one k area e = ap (λ (n : ℕ). 16 + n * area) e ∙ omega arith
 
--- one area begins behind the header, the other right behind it
+-- one area begins after the header, the other right after it
 pub sides : (b area : ℕ) → ((area_begin b area ≡ 16) × (area_begin (other_area b) area ≡ 16 + area)) ⊎ ((area_begin b area ≡ 16 + area) × (area_begin (other_area b) area ≡ 16))
 sides b area =
     ⊎_elim
@@ -104,7 +104,7 @@ old_area_stays old image start area n bodies from small differs =
     (sides b area) in
     holds_from image start area bodies head (subst (λ (k : ℕ). IsArea k area) (sym differs.size) size) there from.holds.fits
 
--- an image that has another area byte alone holds what stands in the area of that byte
+-- an image that has another area byte alone holds what is in the area of that byte
 pub decided : (staged image : List ℕ) (start s area : ℕ) (bodies : List (List ℕ)) → BeginsWith staged start area → IsArea (length staged) area → DiffersWithin 0 1 staged image → 16 ≤ s → s ≡ area_begin (get_or image 0 0) area
     → EndsClosed (drop s staged) bodies → room_of bodies ≤ area → HoldsFrom image s area bodies
 decided staged image start s area bodies b size differs least s_is ends room =
@@ -162,7 +162,7 @@ module _ (old : List ℕ) (start area : ℕ) (bodies : List (List ℕ)) (from : 
       (decided staged image start t area more begins kept.holds.is_area differs (omega arith) (same_side (other_area b) x area (omega (arith, other))) (staged_ends staged is) room).holds))
       (cases_eq (x % 2) (b % 2))
 
-  -- once it was made the new ones stand in the other area
+  -- once it was made the new ones are in the other area
   pub rewritten : (new : List ℕ) → IsCommitted (rewrite_commit b area more) old new → HoldsFrom new t area more
   rewritten new done =
       let staged = done.0 in

@@ -47,14 +47,14 @@ module _ {D : Type 0} (seen : D → List ℕ) (may_leave : D → List ℕ → Ty
   pub through_sync : (d4 : D) → AddsNone (may_leave d3) (may_leave d4) → Elapses (moment d3) (moment d4) (left_since d3) (left_since d4) (may_leave d4) → LeavesOnly moment left_since d0 d4 P
   through_sync d4 images time = goes_on moment left_since d0 d3 d4 P (may_leave d4) through_last time (λ image now. of_last image (images image now))
 
--- where the first write failed, or the sync after it
+-- if the first write failed, or the sync after it
 pub failed_begun : {D : Type 0} (seen : D → List ℕ) (may_leave : D → List ℕ → Type 0) (c : Commit) (d0 d1 d : D) → LeavesAlone (seen d0) (may_leave d0)
     → UnsettlesWithin c.offset (length c.bytes) (may_leave d0) (may_leave d1) → AddsNone (may_leave d1) (may_leave d) → FailsIn c (seen d0) (may_leave d)
 failed_begun seen may_leave c d0 d1 d alone first images = inl (λ image now.
     let from = first image (images image now) in
     subst (λ (old : List ℕ). DiffersWithin c.offset (length c.bytes) old image) (alone from.0 from.1) from.2)
 
--- where its last write failed, or the sync after it
+-- if its last write failed, or the sync after it
 pub failed_ended : {D : Type 0} (seen : D → List ℕ) (may_leave : D → List ℕ → Type 0) (c : Commit) (d0 d1 d2 d3 d : D) → IsWritten (seen d0) c.offset c.bytes (seen d1) → LeavesAlone (seen d1) (may_leave d2)
     → UnsettlesWithin c.deciding_offset 1 (may_leave d2) (may_leave d3) → AddsNone (may_leave d3) (may_leave d) → FailsIn c (seen d0) (may_leave d)
 failed_ended seen may_leave c d0 d1 d2 d3 d first settled last images = inr (

@@ -1,4 +1,4 @@
--- A body by the bytes that are kept of it: these are the body, or all that stands behind the gate of its record.
+-- A body by the bytes that are kept of it: these are the body, or all that is after the gate of its record.
 use Rattle.std.specs.Prelude.{ℕ, ◌-◌, Bool, true, false, List, length, take, drop}
 
 -- the body in these bytes

@@ -1,6 +1,6 @@
--- How records get onto a disk. An `append` and a `rewrite` are each one commit, and the protocol core makes the same commits
--- step by step: bytes are written where they count for nothing yet, and synced; then one byte is written that puts them in
--- force, and synced.
+-- How records get onto a disk. An `append` and a `rewrite` are each one commit, and the protocol core makes the same commits step
+-- by step. First, bytes are written to a place where they count for nothing yet, and synced. Then one byte is written that puts
+-- them in force, and synced.
 use Rattle.std.specs.Prelude.{ℕ, ◌⊎◌, ◌+◌, ◌*◌, ◌%◌, List, [], ◌∷◌, ◌++◌, length}
 use Rattle.std.specs.Int.{w32, to_le_bytes}
 use Rattle.cc_disk.specs.Images.{IsWritten, DiffersWithin}
@@ -13,24 +13,24 @@ pub record Commit : Type 0 where
   pub deciding_offset : ℕ
   pub deciding_byte : ℕ
 
--- what stands behind the gate of a record with this body: the body's length as four bytes, the lowest first, the body, and the
--- next gate, closed
+-- what is after the gate of a record with this body: the body's length as four bytes, the lowest first, the body, and the next
+-- gate, closed
 abbrev pub behind_gate : List ℕ → List ℕ
 behind_gate body = to_le_bytes w32 (length body) ++ (body ++ 0 ∷ [])
 
--- an append: what stands behind the gate at that offset, and then that gate, open
+-- an append: what is after the gate at that offset, and then that gate, open
 abbrev pub append_commit : (gate : ℕ) (body : List ℕ) → Commit
 append_commit gate body = record { offset = gate + 1; bytes = behind_gate body; deciding_offset = gate; deciding_byte = open_gate }
 
--- the offset at which the area begins that this area byte names: A right behind the header, B right behind A
+-- the offset of the area that this area byte names: A is right after the header, B right after A
 abbrev pub area_begin : (area_byte area : ℕ) → ℕ
 area_begin area_byte area = 16 + area_byte % 2 * area
 
--- the byte of the other area: 1 where this one names A, 0 where it names B
+-- the byte of the other area: 1 if this one names A, 0 if it names B
 abbrev pub other_area : ℕ → ℕ
 other_area area_byte = (area_byte + 1) % 2
 
--- a rewrite: all records and the closed gate behind them, at the begin of the other area, and then the byte of that area
+-- a rewrite: all records and the closed gate after them, at the beginning of the other area, and then the byte of that area
 abbrev pub rewrite_commit : (area_byte area : ℕ) (bodies : List (List ℕ)) → Commit
 rewrite_commit area_byte area bodies = record {
   offset = area_begin (other_area area_byte) area;

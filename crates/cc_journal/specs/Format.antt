@@ -1,5 +1,5 @@
--- The bytes of a journal: a header of 16 bytes, area A, and area B right after it. In an area stand records, and after
--- the last a closed gate.
+-- The bytes of a journal: a header of 16 bytes, area A, and area B right after it. An area has records, and a closed gate after
+-- the last one.
 use Rattle.std.specs.Prelude.{◌≡◌, ◌≢◌, ◌⊎◌, ℕ, ◌+◌, ◌*◌, ◌%◌, ◌^◌, ◌≤◌, List, [], ◌∷◌, ◌++◌, length}
 use Rattle.std.specs.Int.{w32, to_le_bytes}
 
@@ -41,8 +41,8 @@ pub record HasHeader (image : List ℕ) (area : ℕ) : Type 0 where
 abbrev pub HasAreaByte : List ℕ → (area_byte area : ℕ) → Type 0
 HasAreaByte image area_byte area = (rest : List ℕ) × (image ≡ header area_byte area ++ rest)
 
--- The image has a right header, and in the area that the area byte names (A where it is even, B where it is odd) stand
--- these records and then a closed gate, within the area.
+-- The image has a right header. The area that the area byte names (A if it is even, B if it is odd) has these records and then a
+-- closed gate, within the area.
 pub record HoldsRecords (image : List ℕ) (area : ℕ) (bodies : List (List ℕ)) : Type 0 where
   pub area_byte : ℕ
   pub other : List ℕ

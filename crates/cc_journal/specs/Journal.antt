@@ -10,7 +10,7 @@ pub record View (D : Type 0) : Type 0 where
   pub bodies : List (List ℕ)
   pub closed : Bool
 
--- where records stand on an image
+-- the place of the records on an image
 pub record HoldsFrom (image : List ℕ) (start area : ℕ) (bodies : List (List ℕ)) : Type 0 where
   pub holds : HoldsRecords image area bodies
   pub begins : start ≡ 16 + length holds.other

@@ -2,7 +2,7 @@
 pub mod Fault
 -- the bytes of a journal, and which records an image holds
 pub mod Format
--- one commit: which bytes go where, and in which order
+-- one commit: the bytes, their offsets, and the order in which they are written
 pub mod Commit
 -- which body the bytes that are kept of it are
 pub mod Body

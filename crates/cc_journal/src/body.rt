@@ -11,7 +11,7 @@ use std::marker::Model;
 /// The bytes of one record. A clause reads it as a list.
 pub struct Body {
     bytes: Vec<u8>,
-    // Whether `bytes` also has what stands around the body in a record: its length before it and a closed gate behind it.
+    // Whether `bytes` also has what is around the body in a record: its length before it and a closed gate after it.
     is_framed: bool,
 }
 
@@ -43,8 +43,8 @@ impl Body {
         Body { bytes, is_framed }
     }
 
-    /// The body of these bytes, which are all that stands behind the gate of its record: its length as four bytes, the lowest
-    /// first, the body, and the next gate, 0. Such a body is appended without a copy. It takes no memory.
+    /// The body of these bytes, which are all that is after the gate of its record: its length as four bytes, the lowest first,
+    /// the body, and the next gate, 0. Such a body is appended without a copy. It takes no memory.
     pub fn from_framed(bytes: Vec<u8>) -> Body
         requires { (body : List ℕ) × (length body < 2 ^ 32) × (bytes.items ≡ behind_gate body) }
         ensures { (body : List ℕ) → bytes.items ≡ behind_gate body → result ≡ body }
@@ -79,7 +79,7 @@ impl Body {
         bytes
     }
 
-    // What stands behind the gate of its record. Where it was made without that, this is a copy.
+    // What is after the gate of its record. If it was made without that, this is a copy.
     pub(crate) fn into_framed(self, alloc: Global) -> Result<Vec<u8>, AllocError>
         requires { length self < 2 ^ 32 }
         ensures { IfOk result (λ bytes. bytes.items ≡ behind_gate self) }
@@ -92,7 +92,7 @@ impl Body {
     }
 }
 
-// What stands behind the gate of the record with this body.
+// What is after the gate of the record with this body.
 pub(crate) fn framed(alloc: Global, body: &[u8]) -> Result<Vec<u8>, AllocError>
     requires { length body.now < 2 ^ 32 }
     ensures { IfOk result (λ bytes. bytes.items ≡ behind_gate body.now) }

@@ -1,4 +1,4 @@
-// The log: where records stand on a disk, and how they get there. It knows no body: who needs the bodies keeps them.
+// The log: the places of records on a disk, and how they get there. It keeps no body: whoever needs the bodies keeps them.
 
 ghost use Rattle.std.specs.Prelude.{◌≡◌, ◌≢◌, ◌⊎◌, ◌+◌, ◌*◌, ◌^◌, ◌<◌, ◌≤◌, ◌++◌, [], ◌∷◌, List, ℕ, true, false, IsTrue, IsNone, length, IfOk, IfErr, IfSome, MatchResult, OnOk, OnErr, IsErrOf, vec_len, vec_capacity};
 ghost use Rattle.cc_disk.specs.Images.{IsWritten, LeavesAlone, LeavesOnly, OnlyReads};
@@ -14,16 +14,16 @@ use cc_disk::{Disk, History};
 use std::alloc::{AllocError, Global};
 use std::marker::Model;
 
-/// Records on a disk, each of which is kept through a power cut once its `append` has answered Ok. It takes no memory for
-/// them: a `Journal` is a log that has its records in memory too.
+/// Records on a disk. Each is kept through a power cut once its `append` has answered Ok. The log takes no memory for them: a
+/// `Journal` is a log that has its records in memory too.
 ///
-/// A clause sees the disk, the size of an area in bytes, the records (`bodies`, the oldest first), and whether the
-/// log is closed. While it is not closed, every image of an honest disk has these records alone.
+/// A clause sees the disk, the size of an area in bytes, the records (`bodies`, the oldest first), and whether the log is closed.
+/// While it is not closed, every image of an honest disk has these records alone.
 pub struct Log<D: Disk> {
     disk: D,
     // What its records are, for contracts alone.
     bodies: History<Body>,
-    // Where the area in use begins, its size, and how many of its bytes the records take.
+    // The offset of the area in use, its size, and how many of its bytes the records take.
     start: usize,
     area: usize,
     used: usize,
@@ -55,21 +55,21 @@ impl<D: Disk> Model for Log<D> {
 }
 
 impl<D: Disk> Log<D> {
-    /// Opens the log on a disk: syncs it, then reads its records, which it hands out.
+    /// Opens the log on a disk: syncs it, then reads its records, which it returns.
     ///
-    /// Refusals, in this order, with the disk handed back: 35 where the device failed in the call, 38 where there is no
-    /// right header, 37 where an open record does not fit its area. 40 where memory ran out.
+    /// Refusals, in this order, with the disk handed back: 35 if the device failed in the call, 38 if there is no right header,
+    /// 37 if an open record does not fit its area. 40 if memory ran out.
     pub fn open(alloc: Global, mut disk: D) -> Result<(Log<D>, Vec<Body>), (JournalFault, D)>
-        // The records that it hands out are its own.
+        // The records that it returns are its own.
         ensures handed { IfOk result (λ x. x.1.items ≡ x.0.bodies) }
 
-        // What was found, of an honest disk, and every image then has it alone.
+        // What was found on an honest disk; every image then has it alone.
         ensures records { IfOk result (λ x. IsTrue D.honest → HoldsRecords (D.seen disk) x.0.area x.0.bodies) }
         ensures kept { IfOk result (λ x. IsTrue D.honest → AllHold (D.may_leave x.0.disk) x.0.area x.0.bodies) }
         ensures settled { IfOk result (λ x. IsTrue D.honest → LeavesAlone (D.seen x.0.disk) (D.may_leave x.0.disk)) }
         ensures open { IfOk result (λ x. x.0.closed ≡ false) }
 
-        // Of every kind of disk: there is room for the areas and for the records, and a small disk is no library.
+        // For every kind of disk: there is room for the areas and for the records, and a small disk is no library.
         ensures room { IfOk result (λ x. IsArea (D.size disk) x.0.area × (room_of x.0.bodies ≤ x.0.area)) }
         ensures small { D.size disk < 144 → IfErr result (λ e. (e.0 ≡ JournalFault.DiskFault) ⊎ (e.0 ≡ JournalFault.NotALibrary)) }
 
@@ -123,8 +123,8 @@ impl<D: Disk> Log<D> {
         self.area
     }
 
-    /// How many bytes of the area its records take: of each 5 and its body. The closed gate after the last one takes one more.
-    /// It takes no memory.
+    /// How many bytes of the area its records take: for each record 5 and its body. The closed gate after the last one takes one
+    /// more. It takes no memory.
     pub fn used(&self) -> usize
         ensures used { result ≡ length (records self.now.bodies) }
         ensures fits { room_of self.now.bodies ≤ self.now.area }
@@ -132,13 +132,13 @@ impl<D: Disk> Log<D> {
         self.used
     }
 
-    /// Whether a record with a body of this many bytes would be taken now: 36 where the log is closed, then 34 where it does
+    /// Answers whether a record with a body of this many bytes would be taken now: 36 if the log is closed, then 34 if it does
     /// not fit. It takes no memory.
     pub fn takes(&self, count: usize) -> Result<(), JournalFault>
         ensures answers { (body : List ℕ) (failures : ℕ) → length body ≡ count
             → AppendAnswers self.now.closed self.now.area self.now.bodies body failures failures result }
         ensures short { OnOk result (count < 2 ^ 30) }
-        // Where no call is made, every image has the records.
+        // If no call is made, every image has the records.
         ensures still { IsTrue D.honest → self.now.closed ≡ false
             → (body : List ℕ) → LeavesOnly D.moment D.left_since self.now.disk self.now.disk (HoldsOldOrNew self.now.area self.now.bodies body) }
     {
@@ -155,19 +155,19 @@ impl<D: Disk> Log<D> {
         Ok(())
     }
 
-    /// Adds a record with this body, which it hands back. At Ok it is kept: every crash from then on leaves it. A body made
-    /// by `Body::from_framed` is not copied.
+    /// Adds a record with this body, which it hands back. At Ok it is kept: every crash from then on leaves it. A body made by
+    /// `Body::from_framed` is not copied.
     ///
-    /// Refusals, in this order: 36 where the log is closed; 34 where the record does not fit, 5 bytes and its body
-    /// beside the records and the closed gate; then 40 where memory ran out, and up to here no device call is made and
-    /// nothing changes; 35 where the device failed in the call, after which the log is closed, and its disk has the
-    /// old records or the old and the new one. Every refusal gives the body up.
+    /// Refusals, in this order: 36 if the log is closed; 34 if the record does not fit, 5 bytes and its body beside the records
+    /// and the closed gate; then 40 if memory ran out, and up to here no device call is made and nothing changes; 35 if the
+    /// device failed in the call, after which the log is closed, and its disk has the old records or the old and the new one.
+    /// Every refusal gives the body up.
     pub fn append(&mut self, alloc: Global, body: Body) -> Result<Body, JournalFault>
         ensures answers { AppendAnswers self.old.closed self.old.area self.old.bodies body (D.failures self.old.disk) (D.failures self.new.disk) result }
         ensures size { D.size self.new.disk ≡ D.size self.old.disk }
         ensures area { self.new.area ≡ self.old.area }
 
-        // At Ok the record stands after the old ones, and every image has them alone.
+        // At Ok the record is after the old ones, and every image has them alone.
         ensures added { OnOk result (self.new.bodies ≡ self.old.bodies ++ body ∷ []) }
         ensures handed { IfOk result (λ kept. kept ≡ body) }
         ensures open { OnOk result (self.new.closed ≡ false) }
@@ -182,7 +182,7 @@ impl<D: Disk> Log<D> {
             → IsCommitted (append_commit (area_begin area_byte self.old.area + length (records self.old.bodies)) body) (D.seen self.old.disk) (D.seen self.new.disk)
             × LeavesAlone (D.seen self.new.disk) (D.may_leave self.new.disk)) }
 
-        // Where the device failed: how that commit left the disk.
+        // If the device failed: how that commit left the disk.
         ensures failed { IsErrOf result JournalFault.DiskFault → IsTrue D.honest → (area_byte : ℕ) → HasAreaByte (D.seen self.old.disk) area_byte self.old.area
             → FailsIn (append_commit (area_begin area_byte self.old.area + length (records self.old.bodies)) body) (D.seen self.old.disk) (D.may_leave self.new.disk) }
 
@@ -222,10 +222,9 @@ impl<D: Disk> Log<D> {
     /// Makes these the records, in the place of all others, and hands them back. At Ok they are kept: every crash from then on
     /// leaves them, and no others. They are written into the area that is not in use, which is in use from then on.
     ///
-    /// Refusals, in this order: 36 where the log is closed; 34 where the records and their closed gate do not fit an
-    /// area; then 40 where memory ran out, and up to here no device call is made and nothing changes; 35 where the device
-    /// failed in the call, after which the log is closed, and its disk has the old records or the new ones. Every
-    /// refusal gives the new ones up.
+    /// Refusals, in this order: 36 if the log is closed; 34 if the records and their closed gate do not fit an area; then 40 if
+    /// memory ran out, and up to here no device call is made and nothing changes; 35 if the device failed in the call, after
+    /// which the log is closed, and its disk has the old records or the new ones. Every refusal gives the new ones up.
     pub fn rewrite(&mut self, alloc: Global, bodies: Vec<Body>) -> Result<Vec<Body>, JournalFault>
         ensures answers { CommitAnswers self.old.closed self.old.area bodies.items (D.failures self.old.disk) (D.failures self.new.disk) result }
         ensures size { D.size self.new.disk ≡ D.size self.old.disk }
@@ -246,7 +245,7 @@ impl<D: Disk> Log<D> {
             → IsCommitted (rewrite_commit area_byte self.old.area bodies.items) (D.seen self.old.disk) (D.seen self.new.disk)
             × LeavesAlone (D.seen self.new.disk) (D.may_leave self.new.disk)) }
 
-        // Where the device failed: how that commit left the disk.
+        // If the device failed: how that commit left the disk.
         ensures failed { IsErrOf result JournalFault.DiskFault → IsTrue D.honest → (area_byte : ℕ) → HasAreaByte (D.seen self.old.disk) area_byte self.old.area
             → FailsIn (rewrite_commit area_byte self.old.area bodies.items) (D.seen self.old.disk) (D.may_leave self.new.disk) }
 
@@ -317,7 +316,7 @@ fn side(start: usize) -> u8
     if start == HEADER { 0 } else { 1 }
 }
 
-// How many bytes these records take, where they and their closed gate fit an area of that many bytes.
+// How many bytes these records take, if they and their closed gate fit an area of this many bytes.
 fn bytes_taken(bodies: &[Body], area: usize) -> Option<usize>
     requires { 1 ≤ area }
     ensures taken { IfSome result (λ used. (used ≡ length (records bodies.now)) × (room_of bodies.now ≤ area)) }

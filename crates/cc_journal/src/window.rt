@@ -1,6 +1,6 @@
-// Reading ahead. Records are short, and a device call for each of their parts would cost more than the parts: so one call
-// reads what follows an offset, as far as a window goes, and the parts of the records there are taken from the window. A
-// body that goes on behind the window is completed by a call of its own, so no byte is read twice.
+// Reads ahead. Records are short, and a device call for each of their parts would cost more than the parts. So one call reads
+// what follows an offset, as far as a window goes, and the parts of the records there are taken from the window. A body that goes
+// on after the window is completed by a call of its own, so no byte is read twice.
 
 ghost use Rattle.std.specs.Prelude.{◌≡◌, ◌+◌, ◌-◌, ◌^◌, ◌<◌, ◌≤◌, [], List, ℕ, IsTrue, length, take, drop, IfOk, IfErr, OnOk};
 ghost use Rattle.cc_disk.specs.Images.{OnlyReads};
@@ -42,7 +42,7 @@ impl Window {
         &self.bytes[offset - self.offset..]
     }
 
-    // The first `count` of these, or all where they are fewer.
+    // The first `count` of these, or all if they are fewer.
     fn part(&self, offset: usize, count: usize) -> &[u8]
         ensures shows { (seen : List ℕ) → Shows self.now.offset self.now.bytes.items seen → Shows offset result.now seen }
         ensures most { length result.now ≤ count }
@@ -54,7 +54,7 @@ impl Window {
         &shown[..count]
     }
 
-    /// Reads ahead from that offset on, within `end`, where it shows fewer bytes than `count` from there.
+    /// Reads ahead from that offset on, within `end`, if it shows fewer bytes than `count` from there.
     pub fn look<D: Disk>(
         &mut self,
         disk: &mut D,
@@ -110,7 +110,7 @@ impl Window {
             return Ok(bytes);
         }
         bytes.resize(count, 0)?;
-        // What goes on behind the window is read into its place.
+        // What goes on after the window is read into its place.
         disk.read_at(offset + first.len(), &mut bytes[first.len()..])?;
         Ok(bytes)
     }

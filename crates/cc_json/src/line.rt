@@ -4,7 +4,7 @@ use super::numbers::{signed, unsigned};
 use super::object::Object;
 use std::alloc::{AllocError, Global};
 
-/// What a line says, as far as it may be explained.
+/// What a line says, if it may be explained.
 #[derive(Clone, Copy)]
 pub(crate) enum Said {
     /// How a run ended.
@@ -27,7 +27,7 @@ fn after<'a>(line: &'a [u8], word: &str) -> Option<&'a [u8]> {
     line.strip_prefix(word.as_bytes())?.strip_prefix(b" ")
 }
 
-// An object of another kind than a fault and an end.
+// An object of a kind other than a fault and an end.
 fn other(object: Object) -> LineObject {
     LineObject {
         object,
@@ -63,11 +63,11 @@ pub(crate) fn plain_line(alloc: Global, line: &[u8]) -> Result<Object, AllocErro
 // How a run ended.
 #[derive(Clone, Copy)]
 enum End<'a> {
-    // So, without a word.
+    // With this name, without a word.
     Bare(&'static str),
-    // So, with this word.
+    // With this name and this word.
     With(&'static str, i32),
-    // It went wrong, for this.
+    // It went wrong, for this cause.
     Wrong(&'a [u8]),
 }
 

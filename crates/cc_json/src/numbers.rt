@@ -2,7 +2,7 @@
 
 use std::str;
 
-// Whether digits are a decimal so.
+// Whether digits are such a decimal.
 fn is_plain(digits: &[u8]) -> bool {
     match digits.split_first() {
         Some((first, rest)) => {
@@ -20,7 +20,7 @@ pub(crate) fn unsigned(text: &[u8]) -> Option<u64> {
     str::from_utf8(text).ok()?.parse().ok()
 }
 
-/// The same of one that may have a `-`, for a number of 32 bits.
+/// The same for one that may have a `-`, for a number of 32 bits.
 pub(crate) fn signed(text: &[u8]) -> Option<i32> {
     let is_number = match text.strip_prefix(b"-") {
         Some(digits) => is_plain(digits) && digits != b"0".as_slice(),

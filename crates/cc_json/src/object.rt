@@ -60,7 +60,7 @@ impl Object {
         put(&mut self.members, self.alloc, name, value)
     }
 
-    /// Adds bytes as a text: what is no UTF-8 becomes U+FFFD.
+    /// Adds bytes as a text: what is not UTF-8 becomes U+FFFD.
     pub(crate) fn bytes(&mut self, name: &str, given: &[u8]) -> Result<(), AllocError>
         ensures { OnOk result (members_view self.new.members.entries ≡ with_member name.now (string (utf8_lossy given.now)) (members_view self.old.members.entries)) }
     {
@@ -68,7 +68,7 @@ impl Object {
         self.words(name, text.as_str())
     }
 
-    /// Adds that something is so.
+    /// Adds that something is true.
     pub(crate) fn truth(&mut self, name: &str) -> Result<(), AllocError> {
         put(&mut self.members, self.alloc, name, Value::from(true))
     }

@@ -20,7 +20,7 @@ use std::rt::Files;
 const NO_MEMORY: &[u8] =
     b"{\"cclib\":1,\"kind\":\"fault\",\"name\":\"OutOfMemory\",\"number\":40}\n";
 
-// Nothing is explained.
+// An explanation of nothing.
 fn nothing(alloc: Global) -> Explanation {
     Explanation {
         words: None,
@@ -91,7 +91,7 @@ struct Asked<'a> {
     is_quiet: bool,
 }
 
-// Writes an answer and explains it; the status.
+// Writes an answer and explains it. The result is the status.
 fn tell_answer<W: Write>(
     alloc: Global,
     asked: &Asked<'_>,
@@ -128,7 +128,7 @@ fn tell_fault<W: Write>(
     write_lines(alloc, asked.texts, lines.as_slice(), &explanation, writer)
 }
 
-// Does a task for the text that texts make; the status.
+// Does a task for the text that texts make. The result is the status.
 fn try_perform<W: Write>(
     alloc: Global,
     task: &Task,
@@ -182,8 +182,9 @@ fn status_of<W: Write>(written: io::Result<u8>, writer: &mut W) -> u8
     status
 }
 
-/// Does a task for the text that texts make, and writes each thing that `perform_and_explain` writes or explains as an object of JSON on a line
-/// of its own; if it is to be quiet what `perform` writes. The status is that of `perform`; 1 too if there was no memory for an object.
+/// Does a task for the text that texts make, and writes each thing that `perform_and_explain` writes or explains as an object of
+/// JSON on a line of its own; if it is to be quiet, each thing that `perform` writes. The status is that of `perform`; 1 too if
+/// there was no memory for an object.
 pub fn perform_in_json<H: AllocGlobal, W: Write>(
     rt: &H,
     task: Task,
@@ -219,7 +220,7 @@ fn unread(alloc: Global, name: &str, why: &io::Error) -> Result<Object, AllocErr
     Ok(object)
 }
 
-// Writes that a text could not be read; the status.
+// Writes that a text could not be read. The result is the status.
 fn refuse<W: Write>(
     alloc: Global,
     names: &[String],

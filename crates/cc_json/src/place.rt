@@ -65,7 +65,7 @@ fn is_excerpt(line: &[u8]) -> bool {
     }
 }
 
-// Whether a line says what the object of a fault says already.
+// Whether the object of a fault says already what a line says.
 fn is_said(line: &[u8]) -> bool {
     let Some(words) = line.strip_prefix(b"cclib: ") else {
         return false;

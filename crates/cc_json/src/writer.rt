@@ -20,7 +20,8 @@ pub enum LineKind {
     Told,
 }
 
-/// A writer of lines. Each line becomes an object of JSON on a line of its own. What is no whole line becomes one when it is flushed.
+/// A writer of lines. Each line becomes an object of JSON on a line of its own. An incomplete line becomes an object when it is
+/// flushed.
 #[derive(Drop)]
 pub struct InJson<W: Drop> {
     alloc: Global,
@@ -67,7 +68,7 @@ impl<W: Write + Drop> InJson<W> {
         }
     }
 
-    /// The writer of the objects. What is no whole line, and was not flushed, is left out.
+    /// The writer of the objects. An incomplete line that was not flushed is left out.
     pub fn into_writer(self) -> W {
         let InJson {
             alloc: _,

@@ -72,7 +72,7 @@ fn answer<W: Write, E: Write>(run: &CountedRun, writer: &mut W, told: &mut E) ->
     settled(write, 0, writer, told)
 }
 
-// Runs a unit line by line; the status.
+// Runs a unit line by line. The result is the status.
 fn answer_lines<R: BufRead, W: Write, E: Write>(
     alloc: Global,
     unit: &StoredUnit,
@@ -118,8 +118,8 @@ fn answer_lines_seen<R: AllocGlobal + Clock + Copy + Drop, I: BufRead, W: Write 
     status
 }
 
-/// Runs a unit of the library in a file on input words, or on the words of each line of standard input; the status. The error is lack of memory
-/// before it began.
+/// Runs a unit of the library in a file on input words, or on the words of each line of standard input. The result is the status.
+/// The error is lack of memory before it began.
 pub fn call_in_file<R: AllocGlobal + Clock + Input + Copy + Drop, A: Write + Drop, E: Write + Drop>(
     rt: &R,
     files: &HostRuntime,

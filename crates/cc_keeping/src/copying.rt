@@ -1,7 +1,7 @@
 // The command `copy`: units of the library in a file, in a new library in a file.
 //
-// The new file is written under a name of this process's alone, and gets its own by a link when all of it is on the medium: nothing is
-// overwritten, and a cut or a kill leaves all of it or nothing by that name.
+// The new file is written under a name of this process alone, and gets its own by a link when all of it is on the medium: nothing
+// is overwritten, and a cut or a kill leaves all of it or nothing by that name.
 
 ghost use Rattle.std.specs.Prelude.{◌≤◌};
 
@@ -20,10 +20,10 @@ use std::io::{self, BufWriter, Print, Write};
 use std::os::unix::fs::{OpenOptionsExt, PermissionsExt};
 use std::rt::Clock;
 
-/// The rights of a file that is made: its owner's alone.
+/// The rights of a new file: only its owner may use it.
 const OWN: u32 = 0o600;
 
-// What is selected of the library in the file, which is closed again.
+// The selected units of the library in the file, which is closed again.
 fn selection_of<S: Write, E: Write>(
     alloc: Global,
     files: &HostRuntime,
@@ -49,7 +49,7 @@ fn selection_of<S: Write, E: Write>(
     }
 }
 
-// Makes an empty file, which nothing may be yet.
+// Makes an empty file at a path where nothing may be yet.
 fn begin(files: &HostRuntime, path: &str) -> io::Result<()> {
     let mut how = OpenOptions::new();
     how.write(true).create_new(true).mode(OWN);
@@ -64,7 +64,7 @@ fn begin(files: &HostRuntime, path: &str) -> io::Result<()> {
     }
 }
 
-// The new library in a file that is this call's, and goes again if it can't be made.
+// The new library in a file that is this call's, and is removed again if it can't be made.
 fn made(
     alloc: Global,
     files: &HostRuntime,
@@ -101,7 +101,7 @@ fn tell_taken<E: Write>(path: &str, told: &mut E) -> LibraryFault {
     LibraryFault::DiskFault
 }
 
-// Makes the new library of these units under a name that it has until it is whole, which nothing may have.
+// Makes the new library of these units under a name that it has until it is whole. Nothing may have that name yet.
 fn write_beside<E: Write>(
     alloc: Global,
     files: &HostRuntime,
@@ -145,7 +145,7 @@ fn write_beside<E: Write>(
     }
 }
 
-// Makes the new library of these units, and says why it could not.
+// Makes the new library of these units, and says why if it could not.
 fn write_new<E: Write>(
     alloc: Global,
     files: &HostRuntime,
@@ -189,8 +189,8 @@ fn write_names<W: Write>(names: &[Name], writer: &mut W) -> io::Result<()> {
     Ok(())
 }
 
-// Writes the names of the units that were copied, what an audit says of those that were left out, and that all is written: whether that could be
-// written.
+// Writes the names of the units that were copied, what an audit says of those that were left out, and that all is written. The
+// result is whether that could be written.
 fn is_told<W: Write>(names: &[Name], left_out: &[LeftOut], writer: &mut W) -> bool {
     if write_names(names, writer).is_err() {
         return false;
@@ -223,8 +223,8 @@ fn selection_seen<R: AllocGlobal + Clock + Copy + Drop, E: Write>(
     selection
 }
 
-/// Copies units of the library in a file into a new library in a file; the status: 0 if none was left out. The error is lack of memory before it
-/// began.
+/// Copies units of the library in a file into a new library in a file. The result is the status: 0 if none was left out. The
+/// error is lack of memory before it began.
 pub fn copy_file<R: AllocGlobal + Clock + Print + Copy + Drop, E: Write + Drop>(
     rt: &R,
     files: &HostRuntime,

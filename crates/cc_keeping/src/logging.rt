@@ -59,7 +59,7 @@ fn answer<W: Write, E: Write>(
     settled(write, 0, writer, told)
 }
 
-// Writes the lines that are asked for, or why not; the status.
+// Writes the lines that are asked for, or why not. The result is the status.
 fn tell<W: Write, E: Write>(
     commands: &[LibraryCommand],
     name: Option<&str>,
@@ -72,8 +72,8 @@ fn tell<W: Write, E: Write>(
     }
 }
 
-/// Writes the commands of the library in a file since its last compaction, or those about one name; the status. The error is lack of memory
-/// before it began.
+/// Writes the commands of the library in a file since its last compaction, or those about one name. The result is the status. The
+/// error is lack of memory before it began.
 pub fn log_of_file<R: AllocGlobal, A: Write + Drop, E: Write + Drop>(
     rt: &R,
     files: &HostRuntime,

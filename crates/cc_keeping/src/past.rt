@@ -10,7 +10,7 @@ use cc_tasks::PartFault;
 use std::alloc::{AllocError, Global};
 use std::io::{self, BufWriter, IsTerminal, Print, Write};
 
-/// What is told where a command stored nothing under the name.
+/// What a person reads if a command stored nothing under the name.
 const NOT_STORED: &str =
     "cclib: that command stored no unit under the name: `cclib log DISK NAME` has those that did\n";
 
@@ -40,8 +40,8 @@ fn bytes_of(
     }
 }
 
-/// Writes a part of what the command of this number stored in the library in a file to standard output; the status. On a terminal control bytes
-/// of the source are shown as `?`. The error is lack of memory before it began.
+/// Writes a part of what the command of this number stored in the library in a file to standard output. The result is the status.
+/// On a terminal control bytes of the source are shown as `?`. The error is lack of memory before it began.
 pub fn take_out_of_past<R: AllocGlobal + Print, E: Write + Drop>(
     rt: &R,
     files: &HostRuntime,
@@ -64,7 +64,7 @@ pub fn take_out_of_past<R: AllocGlobal + Print, E: Write + Drop>(
     Ok(done.status)
 }
 
-// Puts what a command stored back.
+// Puts back what a command stored.
 fn restored(alloc: Global, files: &HostRuntime, asked: &Restoring) -> Result<(), PartFault> {
     match disk_of(files, asked.disk.as_str(), None) {
         Ok(disk) => {
@@ -76,7 +76,8 @@ fn restored(alloc: Global, files: &HostRuntime, asked: &Restoring) -> Result<(),
     }
 }
 
-/// Puts what a command of the library in a file stored back; the status. The error is lack of memory before it began.
+/// Puts back what a command of the library in a file stored. The result is the status. The error is lack of memory before it
+/// began.
 pub fn restore_in_file<R: AllocGlobal + Print, E: Write + Drop>(
     rt: &R,
     files: &HostRuntime,

@@ -128,7 +128,7 @@ impl UnitMap {
         (bytes, names)
     }
 
-    /// The bodies of one Add per name, in the order of the names' bytes, where an area can hold them.
+    /// The bodies of one Add per name, in the order of the names' bytes, if an area can hold them.
     pub fn bodies(&self, alloc: Global) -> Result<Vec<Body>, AllocError>
         requires { room_of (compacted self.now) ≤ 2 ^ 30 }
         ensures { IfOk result (λ bodies. AreSpelled bodies.items (adds_of self.now)) }

@@ -7,7 +7,7 @@ use Rattle.cc_simulation.specs.Meaning.{Meaning}
 use Rattle.cc_emit.specs.declared.item.PieceItem.{PieceItem}
 use Rattle.cc_emit.specs.Contract.{Code, ObjectLayout, Placed, Meets, CallsMeet, IsEnough, IsPlace, PieceMeets}
 
--- the rate of a call, where this many more may be open
+-- the rate of a call, if this many more may be open
 unfoldable pub power : ℕ → ℕ → ℕ
 power rate zero = 1
 power rate (suc k) = suc rate * power rate k

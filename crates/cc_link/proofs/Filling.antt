@@ -66,7 +66,7 @@ function_added p a i bodies d ws new all lt is e h =
     ap (λ l. l ++ encoded rest) e ∙ append_assoc ws (encoded first) (encoded rest) ∙ ap (λ l. ws ++ l) (sym (map-append encoding_of first rest))
     ∙ ap (λ (bs : List Lent). ws ++ encoded (fill_all p a (lent bs))) (sym split) ∙ h
 
--- ---- where functions stand
+-- ---- the places of functions
 
 pub places_long : (a : ℕ) (fs : List (List PieceItem)) → length (places_from a fs) ≡ length fs
 places_long a [] = refl

@@ -1,4 +1,4 @@
--- What linking's answer tells of pieces, and that the unit which it makes agrees.
+-- What linking's answer says of pieces, and that the unit which it makes agrees.
 use Rattle.std.proofs.Common.{◌≡◌, ℕ, zero, suc, ◌+◌, ◌<◌, ◌≤◌, ◌==◌, Bool, true, false, if◌then◌else◌, nat_lt, List, [], ◌∷◌, length, get_or, map, Option, Some, None, is_some, Result, Ok, Err, refl, sym, ap, ◌∙◌, subst, arith}
 use Rattle.std.proofs.Math.Logic.{∥∥₁_elim, ∥∥₁_map, ∥∥₁_map₂, ∥∥₁_prop}
 use Rattle.std.proofs.lemmas.Bool.{ltb-false, eqb-true}

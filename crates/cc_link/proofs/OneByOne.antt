@@ -14,7 +14,7 @@ missing_here ps f n lt e =
     let more : n - f ≡ suc (n - (f + 1)) = omega (arith, lt) in
     ap (λ k. missing ps f k) more ∙ ap (λ (o : Option Piece). if is_some o then missing ps (suc f) (n - (f + 1)) else Some (Missing f)) e
 
--- behind one that has a piece
+-- after one that has a piece
 pub missing_next : (ps : List Piece) (f n : ℕ) (p : Piece) → f < n → piece_of ps f ≡ Some p → missing ps f (n - f) ≡ missing ps (f + 1) (n - (f + 1))
 missing_next ps f n p lt e =
     let more : n - f ≡ suc (n - (f + 1)) = omega (arith, lt) in

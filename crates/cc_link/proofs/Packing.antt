@@ -1,4 +1,4 @@
--- Packing four bytes into a word, from the byte behind which all is packed: what one word more adds, and what stays.
+-- Packing four bytes into a word, from the byte after which all is packed: what one word more adds, and what stays.
 use Rattle.std.proofs.Common.{◌≡◌, ℕ, zero, suc, ◌+◌, ◌*◌, ◌^◌, ◌<◌, ◌≤◌, List, [], ◌∷◌, ◌++◌, length, get_or, drop, refl, sym, ◌∙◌, ap, arith, append_assoc}
 use Rattle.std.proofs.lemmas.List.{get_or-drop, drop-drop, drop_all, length-drop}
 use Rattle.cc_words.specs.declared.operators.Width.TheVariants.{Byte}

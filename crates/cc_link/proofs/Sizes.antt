@@ -1,4 +1,4 @@
--- The objects of a checked unit: how many words they have, which stand in the image, and what their elements are.
+-- The objects of a checked unit: how many words of the image they have, and what their elements are.
 use Rattle.std.proofs.Common.{◌≡◌, ℕ, zero, suc, ◌+◌, ◌≤◌, Bool, true, false, if◌then◌else◌, nat_lt, List, [], ◌∷◌, ◌++◌, length, map, refl, ap, ◌∙◌, arith}
 use Rattle.std.proofs.lemmas.Bool.{ltb-false}
 use Rattle.cc_words.specs.Widths.{words_of}

@@ -18,10 +18,10 @@ use Rattle.cc_link.specs.declared.audit_answer.Audit.TheVariants.{Confirmed, NoC
 use Rattle.cc_link.specs.declared.audit_answer.FailedPart.{FailedPart}
 use Rattle.cc_link.specs.declared.audit_answer.FailedPart.TheVariants as part
 
--- The image agrees with the text. The certificate spells one function of LTL for each function of the text, and the run of each keeps up
--- with its function: so its allocation is one that was shown to be right, and not any LTL beside a right image. And pieces that were
--- compiled in the mode link to the three: the image is of their items, the certificate of their LTL, which keeps up by a piece's type. So the
--- image follows what the program shows in the mode, on every input.
+-- The image agrees with the text. The certificate spells one function of LTL for each function of the text, and the run of each
+-- keeps up with its function: so its allocation is one that was shown to be right, and not any LTL beside a right image. And
+-- pieces that were compiled in the mode link to the three: the image is made of their items, the certificate of their LTL, which
+-- keeps up by a piece's type. So the image follows what the program shows in the mode, on every input.
 pub record IsConfirmedIn (mode : Mode) (text certificate : List ℕ) (image : Image) : Type 0 where
   pub tree : List External
   pub spelled : ∥ SpellsText text tree ∥₁
@@ -31,14 +31,14 @@ pub record IsConfirmedIn (mode : Mode) (text certificate : List ℕ) (image : Im
   pub keep_up : ∥ EachKeepsUpIn mode tree spells.ltls ∥₁
   pub made : IsMadeIn mode (record { source = text; image = image; certificate = Some certificate })
 
--- an audit reports that the certificate is missing exactly if it is, and confirms only what is so
+-- an audit reports that the certificate is missing exactly if it is, and confirms only what holds
 abbrev pub AuditSaysIn : Mode → (text : List ℕ) → (certificate : Option (List ℕ)) → Image → Audit → Type 0
 AuditSaysIn mode text None image audit = audit ≡ NoCertificate
 AuditSaysIn mode text (Some certificate) image Confirmed = IsConfirmedIn mode text certificate image
 AuditSaysIn mode text (Some certificate) image Unconfirmed = Unit {0}
 AuditSaysIn mode text (Some certificate) image NoCertificate = ⊥
 
--- of plain images
+-- for plain images
 abbrev pub AuditSays : (text : List ℕ) → (certificate : Option (List ℕ)) → Image → Audit → Type 0
 AuditSays text certificate image audit = AuditSaysIn Plain text certificate image audit
 

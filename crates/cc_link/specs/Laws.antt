@@ -1,4 +1,4 @@
--- What linking promises of definitions alone, each the contract of a function of this crate.
+-- What linking promises by its definitions alone. Each is the contract of a function of this crate.
 use Rattle.std.specs.Prelude.{◌≡◌, ℕ, List, All, Some, Ok, length}
 use Rattle.cc_ast.specs.Tree.{External, Source}
 use Rattle.cc_ast.specs.Parse.{SpellsText}
@@ -19,8 +19,8 @@ abbrev pub LinkedUnitsAgree : Type 0
 LinkedUnitsAgree = (s : Source) (pieces : List Piece) (u : StoredUnit) → ∥ SpellsText s.text s.externals ∥₁ → IsChecked s → All IsPieceOfUnit pieces → linked s pieces ≡ Ok u
     → (u.source ≡ s.text) × Agree s.text u.image
 
--- So in each mode: the unit that pieces make in the mode has its text, and on each input the run of its image follows what its program shows
--- in the mode. Of checked pieces it follows `checked_behavior`.
+-- The same in each mode: the unit that pieces make in the mode has its text, and on each input the run of its image follows what
+-- its program shows in the mode. For checked pieces that is `checked_behavior`.
 abbrev pub LinkedUnitsFollow : Type 0
 LinkedUnitsFollow = (mode : Mode) (s : Source) (pieces : List Piece) (u : StoredUnit) → ∥ SpellsText s.text s.externals ∥₁ → IsChecked s → All IsPieceOfUnit pieces → linked_in mode s pieces ≡ Ok u
     → (u.source ≡ s.text) × AgreeIn mode s.text u.image

@@ -8,9 +8,9 @@ pub mod Link
 pub mod Packed
 -- the certificate that LTL makes
 pub mod Certificate
--- why pieces are refused, and else the unit that they make
+-- why pieces are refused, and otherwise the unit that they make
 pub mod Linked
--- how much stack an image takes, and that it agrees on a board that backs so much
+-- how much stack an image takes, and that it agrees on a board that backs this much
 pub mod Stack
 -- that this unit agrees
 pub mod Laws
@@ -28,5 +28,5 @@ pub mod Fault
 pub mod Compile
 -- no promise rests on these
 pub mod internal
--- Pages of crates below that clauses here cite, handed on.
+-- Pages of lower crates that clauses here cite, passed on.
 pub use Rattle.cc_c_semantics.specs.Meaning

@@ -1,4 +1,4 @@
--- What linking comes to: why pieces are refused, and else the unit that they make.
+-- What linking answers: why pieces are refused, and otherwise the unit that they make.
 use Rattle.std.specs.Borrow.{Bor}
 use Rattle.std.specs.Prelude.{ℕ, zero, suc, map, ◌==◌, nat_eq, nat_lt, Bool, true, false, ◌||◌, if◌then◌else◌, List, [], ◌∷◌, ◌++◌, length, Option, Some, None, is_some, Result, Ok, Err}
 use Rattle.std.specs.Option.{option_or}
@@ -41,7 +41,7 @@ same_mode a b = false
 abbrev pub is_own : Mode → (text : List ℕ) → Piece → Bool
 is_own mode text p = if same_mode p.mode mode then same_bytes (source p.unit).text text else false
 
--- 28: the first piece of a unit of another text, or in another mode; the first one of these is at `at` in the list
+-- 28: the first piece of a unit of another text, or in another mode; the first piece of the list has the place `at`
 abbrev pub stranger : Mode → (text : List ℕ) (at : ℕ) → List Piece → Option LinkFault
 stranger mode text at [] = None
 stranger mode text at (p ∷ ps) = if is_own mode text p then stranger mode text (suc at) ps else Some (Stranger p.function at)
@@ -51,7 +51,7 @@ abbrev pub is_among : List ℕ → ℕ → Bool
 is_among [] f = false
 is_among (g ∷ gs) f = (g == f) || is_among gs f
 
--- 27: the first piece of a function that came before it; before the first one of these came pieces of the functions `before`
+-- 27: the first piece of a function that came before it; pieces of the functions `before` came before the first one of the list
 abbrev pub doubled : (before : List ℕ) (at : ℕ) → List Piece → Option LinkFault
 doubled before at [] = None
 doubled before at (p ∷ ps) = if is_among before p.function then Some (Doubled p.function at) else doubled (before ++ p.function ∷ []) (suc at) ps
@@ -66,7 +66,7 @@ abbrev pub missing : List Piece → (from count : ℕ) → Option LinkFault
 missing pieces from zero = None
 missing pieces from (suc count) = if is_some (piece_of pieces from) then missing pieces (suc from) count else Some (Missing from)
 
--- a piece in front of others, where there is one
+-- a piece in front of others, if there is one
 abbrev pub put_first : Option Piece → List Piece → List Piece
 put_first None ps = ps
 put_first (Some p) ps = p ∷ ps
@@ -95,7 +95,7 @@ bodies unit pieces = all_items (ordered unit pieces)
 abbrev pub too_large : List (List PieceItem) → Option LinkFault
 too_large fs = if nat_lt most_code (code_words fs) then Some ImageTooLarge else None
 
--- why pieces do not make an image of a unit: 28, else 27, else 26, else 25
+-- why pieces do not make an image of a unit: 28, or else 27, or else 26, or else 25
 abbrev pub link_refusal : Mode → Source → List Piece → Option LinkFault
 link_refusal mode s pieces =
     option_or (stranger mode s.text 0 pieces) (option_or (doubled [] 0 pieces)
@@ -115,12 +115,12 @@ certified unit pieces = certificate_of (all_ltl (ordered unit pieces))
 abbrev pub unit_of : Source → List Piece → StoredUnit
 unit_of s pieces = record { source = s.text; image = image_of s.externals (bodies s.externals pieces); certificate = Some (certified s.externals pieces) }
 
--- the unit, where nothing is refused
+-- the unit, if nothing is refused
 abbrev pub unless_refused : Option LinkFault → StoredUnit → Result StoredUnit LinkFault
 unless_refused None u = Ok u
 unless_refused (Some fault) u = Err fault
 
--- what linking in a mode comes to
+-- what linking in a mode answers
 abbrev pub linked_in : Mode → Source → List Piece → Result StoredUnit LinkFault
 linked_in mode s pieces = unless_refused (link_refusal mode s pieces) (unit_of s pieces)
 

@@ -15,7 +15,7 @@ pub record IsCompiled (piece : Piece) : Type 0 where
   pub checked : IsChecked (source piece.unit)
   pub of_unit : IsPieceOfUnit piece
 
--- pieces that some calls have made in this mode, in whatever order, link to this unit
+-- pieces that some calls have made in this mode, in any order, link to this unit
 pub record IsMadeIn (mode : Mode) (unit : StoredUnit) : Type 0 where
   pub of : Source
   pub spelled : ∥ SpellsText of.text of.externals ∥₁

@@ -1,4 +1,4 @@
-// From where the allocations of a unit's functions come, in the order of definitions.
+// The origin of the allocations of a unit's functions, in the order of definitions.
 
 use crate::certificate::{first_ltl, number_at};
 use crate::watching::Allocation;

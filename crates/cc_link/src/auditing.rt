@@ -1,9 +1,9 @@
-// Whether a stored unit is what this compiler makes of its text along its certificate: it is compiled again, by the allocations that are read
-// from the certificate.
+// Whether a stored unit is what this compiler makes of its text along its certificate: it is compiled again, by the allocations
+// that are read from the certificate.
 //
-// Nothing is believed of the three parts. The unit is made anew from the text and the functions of LTL that are read, and is then the
-// stored one or not: since a function of LTL has one spelling, no byte of the certificate can be left over, or be another. What a unit that
-// was made is right in belongs to its type.
+// Nothing is believed about the three parts. The unit is made anew from the text and the functions of LTL that are read, and is
+// then the stored one or not: since a function of LTL has one spelling, no byte of the certificate can be left over, or be
+// another. The type of a unit that was made keeps what is right about it.
 
 ghost use Rattle.std.specs.Prelude.{◌≡◌, ◌↔◌, ℕ, List, Some, MatchOption, IfOk, IfErr, IfSome, IsTrue};
 ghost use Rattle.std.specs.Option.{option_map};
@@ -83,8 +83,8 @@ pub fn failed_part_in(
     }
 }
 
-/// What a text compiles to in a mode along a certificate, with the pieces, if that is the unit of these three parts: just if `audit_in`
-/// confirms it. It fails only if memory ran out.
+/// What a text compiles to in a mode along a certificate, with the pieces, if that is the unit of these three parts: exactly if
+/// `audit_in` confirms it. It fails only if memory ran out.
 pub fn compile_along_in(
     alloc: Global,
     mode: Mode,

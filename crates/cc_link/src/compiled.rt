@@ -11,8 +11,9 @@ use cc_unit::StoredUnit;
 use std::marker::Model;
 use std::sync::Arc;
 
-/// A unit whose image agrees with its source: the source spells a program, and on every input the image's run follows the program's.
-/// That, and that pieces which were compiled link to it, belongs to the type, so nobody holds another unit. Contracts see the unit as it is stored.
+/// A unit whose image agrees with its source: the source spells a program, and on every input the image's run follows the
+/// program's. The type keeps that, and that pieces which were compiled link to it, so nobody holds another unit. Contracts see
+/// the unit as it is stored.
 pub struct CompiledUnit {
     stored: Arc<StoredUnit>,
 }

@@ -42,7 +42,7 @@ pub fn compile_functions_in(
     pieces_by(alloc, mode, unit, Allocations::Chosen)
 }
 
-// The same by these allocations.
+// The same, by these allocations.
 fn pieces_by(
     alloc: Global,
     mode: Mode,
@@ -73,7 +73,7 @@ fn pieces_by(
     Ok(pieces)
 }
 
-// A program compiled in a mode by these allocations, whose tree this is.
+// A program with this tree, compiled in a mode by these allocations.
 fn compile_unit(
     alloc: Global,
     mode: Mode,
@@ -98,7 +98,8 @@ fn compile_unit(
     }
 }
 
-/// Compiles a text in a mode by these allocations, and hands out with the unit what it was made of. It answers what `compile_in` does.
+/// Compiles a text in a mode by these allocations, and returns with the unit what it was made of. It answers what `compile_in`
+/// does.
 pub(crate) fn compile_by(
     alloc: Global,
     mode: Mode,
@@ -114,7 +115,7 @@ pub(crate) fn compile_by(
     }
 }
 
-/// Compiles a text in a mode, and hands out with the unit what it was made of. It answers what `compile_in` does.
+/// Compiles a text in a mode, and returns with the unit what it was made of. It answers what `compile_in` does.
 pub fn compile_whole_in(alloc: Global, mode: Mode, text: &[u8]) -> Result<Compilation, BuildFault>
     ensures whole { IfOk result (IsWholeIn mode text.now) }
     ensures refused { IfErr result (λ fault. IsBuildRefusalIn mode text.now fault) }

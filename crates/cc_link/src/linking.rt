@@ -1,7 +1,7 @@
 // From the pieces of a unit's functions to the unit that the library keeps.
 //
-// Pieces come in any order. First it is seen that there is one of each function, and that all are of this text. Then all places depend on
-// nothing but the functions' items in the order of definitions.
+// Pieces come in any order. First it is checked that there is one of each function, and that all are of this text. From then on
+// all places depend only on the functions' items in the order of definitions.
 
 ghost use Rattle.std.specs.Prelude.{◌≡◌, ◌⊎◌, ◌≤◌, ◌<◌, ◌^◌, Some, Ok, Err, All, length, IfOk, IfErr};
 ghost use Rattle.std.specs.Arc.{arc_value};
@@ -66,7 +66,7 @@ fn image(alloc: Global, unit: &TypedUnit, bodies: &[&[PieceItem]]) -> Result<Ima
     Ok(Image { code, globals })
 }
 
-// What the library keeps of a unit and its functions, whose pieces these are.
+// What the library keeps of a unit and its functions with these pieces.
 fn stored(
     alloc: Global,
     unit: &TypedUnit,

@@ -1,6 +1,6 @@
 // The piece of each function: the refusals 28, 27 and 26, and the functions' pieces in the order of definitions.
 //
-// There are at most 64 functions, so a piece that is looked for is found by going over all of them.
+// There are at most 64 functions, so a piece is found by going over all of them.
 
 ghost use Rattle.std.specs.Prelude.{◌≡◌, ◌⊎◌, [], None, Some, All, IfOk, IfErr, IfNone, MatchOption};
 ghost use Rattle.cc_emit.specs.Piece.{IsPieceOfUnit};

@@ -69,7 +69,7 @@ fn lowered<W: Watch>(
     }
 }
 
-// What of Cminor in a mode is seen anew.
+// Shows what is new of Cminor in a mode.
 fn show_guarded<W: Watch>(mode: Mode, pair: &CminorPair, watch: &mut W) -> Result<(), AllocError> {
     match mode {
         Mode::Plain => Ok(()),
@@ -138,7 +138,7 @@ pub(crate) fn prepared<W: Watch>(
     }
 }
 
-// The fault of LTL that was refused, once that was seen.
+// The fault of LTL that was refused, after it was shown.
 fn told<W: Watch>(fault: ValidateFault, watch: &mut W) -> ValidateFault {
     match fault {
         ValidateFault::Unvalidated { label } => match watch.see(Seen::Refused(label)) {
@@ -177,7 +177,7 @@ fn judged<W: Watch>(
     }
 }
 
-// LTL that comes of one allocator alone.
+// LTL that one allocator alone makes.
 fn accepted<W: Watch>(
     alloc: Global,
     pair: RtlPair,

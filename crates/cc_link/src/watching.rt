@@ -1,4 +1,4 @@
-// The source of a function's allocation, and who watches the function go through the passes.
+// The source of a function's allocation, and the watcher of a function on its way through the passes.
 
 use cc_cminor::CminorPair;
 use cc_linear_language::LinearPair;
@@ -7,7 +7,7 @@ use cc_rtl::Rtl;
 use cc_select::SelectedPair;
 use std::alloc::AllocError;
 
-/// The source of a function's allocation. Nothing is believed of any: the validator judges each.
+/// The source of a function's allocation. Nothing is believed about any: the validator judges each.
 #[derive(Drop)]
 pub enum Allocation {
     /// Registers, and a slot for each value if the validator refuses these.
@@ -21,9 +21,9 @@ pub enum Allocation {
 /// Who made LTL.
 #[derive(Clone, Copy)]
 pub enum Allocator {
-    /// It has values in registers.
+    /// An allocator with values in registers.
     Colour,
-    /// It has a slot for each value.
+    /// An allocator with a slot for each value.
     Spill,
     /// It was given.
     Given,
@@ -52,7 +52,7 @@ pub enum Seen<'a> {
     Selected(&'a SelectedPair),
 }
 
-/// Who watches a function go through the passes.
+/// Watches a function on its way through the passes.
 pub trait Watch {
     /// Sees what a pass made. After an `Err` the function goes no further, and is refused as if memory had run out (40).
     fn see(&mut self, seen: Seen<'_>) -> Result<(), AllocError>;

@@ -1,7 +1,7 @@
 // The words of an image's code: each item is filled in at its address.
 //
-// A function's items become words one after the other. Only the distances of calls and jumps depend on the function's place, and all lies so
-// near that every distance fits a jump.
+// A function's items become words one after the other. Only the distances of calls and jumps depend on the function's place, and
+// all are so near that every distance fits a jump.
 
 ghost use Rattle.std.specs.Prelude.{◌≡◌, ◌+◌, ◌-◌, ◌%◌, ◌^◌, ◌<◌, ◌≤◌, ◌++◌, ◌↔◌, length, slice_index, IsTrue, IfOk, OnOk};
 ghost use Rattle.cc_emit.specs.Contract.{IsPlace, filled};

@@ -165,6 +165,7 @@ module _ (objects : List Size) where
       by true = let a = code_nodes n 0 [] s in omega arith
       by false = let a = code_nodes n 0 [] s in omega arith
 
-  -- so of at most t tokens, of which the code has at most 12 t statements and expressions and t operations, it has at most 23 t + 4 nodes
+  -- so at most t tokens, for which the code has at most 12 t statements and expressions and t operations, give at most 23 t + 4
+  -- nodes
   pub guarded_nodes : (n t : ℕ) (s : Statement) → statement_size s ≤ 12 * t → code_partials s ≤ t → function_nodes (guarded_function objects n s) ≤ 23 * t + 4
   guarded_nodes n t s small few = let a = guarded_few n s in let b = nodes_few s in omega arith

@@ -6,7 +6,7 @@ use Rattle.cc_types.specs.Typed.{definitions}
 use Rattle.cc_c_semantics.specs.declared.mode.Mode.{Mode}
 use Rattle.cc_c_semantics.specs.declared.mode.Mode.TheVariants.{Plain, Checked}
 
--- a definition of at most so many tokens is never too large: guards take nodes and variables
+-- a definition of at most this many tokens is never too large: guards take nodes and variables
 abbrev pub surely_small : Mode → ℕ
 surely_small Plain = 256
 surely_small Checked = 177

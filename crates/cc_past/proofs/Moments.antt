@@ -44,7 +44,7 @@ module _ {D : Type 0} (seen : D → List ℕ) (may_leave : D → List ℕ → Ty
   deeper f (inl a) = inl (f a)
   deeper f (inr p) = inr (inr p)
 
-  -- a disk that was read, and of which a crash then leaves at most P
+  -- a disk that was read; a crash then leaves at most P of it
   pub read_then : (P : List ℕ → Type 0) (old mid new : D) → ((image : List ℕ) → left_since old (moment old) image → may_leave old image)
       → OnlyReads seen may_leave moment left_since old mid → LeavesOnly moment left_since mid new P → LeavesOnly moment left_since old new (λ image. may_leave old image ⊎ P image)
   read_then P old mid new only_now first second = record {

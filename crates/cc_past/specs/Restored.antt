@@ -20,9 +20,9 @@ use Rattle.cc_past.specs.Past.{IsNotStoredOn, IsStored, IsStoredOn}
 abbrev pub putting : Units → (name : List ℕ) → StoredUnit → LibraryCommand
 putting units name unit = if contains_key units name then Replace name unit else Add name unit
 
--- The disk had the records of commands, and the one of this number stored the unit under the name. Every image now has the records of these
--- commands and of the one that puts the unit, and of no others: nothing is compacted. So it recovers to the map that they made, with that unit
--- under the name, and to no other.
+-- The disk had the records of commands, and the one of this number stored the unit under the name. Every image now has the
+-- records of these commands and of the one that puts the unit, and of no others: nothing is compacted. So it recovers to the map
+-- that they made, with that unit under the name, and to no other.
 pub record IsRestoredBy (seen name : List ℕ) (number : ℕ) (unit : StoredUnit) (images : List ℕ → Type 0) : Type 0 where
   pub commands : List LibraryCommand
   pub has : HasCommands seen commands
@@ -40,7 +40,8 @@ abbrev pub HasNoRoom : (seen name : List ℕ) → StoredUnit → Type 0
 HasNoRoom seen name unit =
     (commands : List LibraryCommand) × (has : HasCommands seen commands) × (has.area < room_of (has.bodies ++ body_of (putting (library_of commands) name unit) ∷ []))
 
--- why a unit is not put into a library: the library is not opened; or there is no room, and this is so then; or the device failed
+-- why a unit is not put into a library: the library is not opened; or there is no room, and `no_room` holds then; or the device
+-- failed
 abbrev pub IsNotPut : (honest : Bool) (seen : List ℕ) (before after : ℕ) (no_room : Type 0) → LibraryFault → Type 0
 IsNotPut honest seen before after no_room Full = (after ≡ before) × (IsTrue honest → no_room)
 IsNotPut honest seen before after no_room DiskFault = after ≡ before + 1

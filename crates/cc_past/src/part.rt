@@ -22,7 +22,7 @@ pub fn part_at<D: Disk + Drop>(
     part: Part,
     number: usize,
 ) -> (Result<Vec<u8>, PartFault>, D)
-    // On an honest disk: of the commands whose records it has.
+    // On an honest disk: among the commands whose records it has.
     ensures part { IfOk result.0 (λ bytes. IsTrue D.honest → IsPartAt (D.seen disk) name.now number part bytes.items) }
     ensures refused { IfErr result.0 (λ fault. IsNotStoredOn D.honest (D.seen disk) (D.failures disk) (D.failures result.1) name.now number fault) }
     ensures reads { IsTrue D.honest → OnlyReads D.seen D.may_leave D.moment D.left_since disk result.1 }

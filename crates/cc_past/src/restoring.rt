@@ -62,7 +62,8 @@ pub fn restore<D: Disk + Drop>(
     name: &[u8],
     number: usize,
 ) -> (Result<(), PartFault>, D)
-    // Of an honest disk every image then has one record more, and recovers to the map before with the unit that the command stored.
+    // On an honest disk every image then has one record more, and recovers to the map before with the unit that the command
+    // stored.
     ensures restored { OnOk result.0 (IsTrue D.honest
         → (unit : StoredUnit) × IsRestoredBy (D.seen disk) name.now number unit (D.may_leave result.1)) }
     // Whatever the answer, at every moment a crash leaves what one could have left before, or the earlier map, or the map after the change.

@@ -10,7 +10,7 @@ use Rattle.cc_pool.specs.declared.item.Item.{Item}
 use Rattle.cc_pool.specs.declared.item.Item.TheVariants.{Piece, Stop}
 use Rattle.cc_pool.specs.Rule.{SameItems}
 
--- 1 where both numbers are the same, else 0
+-- 1 if both numbers are the same, else 0
 abbrev same : ℕ → ℕ → ℕ
 same a b = cond (eqb a b) 1 0
 

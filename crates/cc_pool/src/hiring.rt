@@ -78,7 +78,7 @@ fn another<N: Queued>(back: &Sender<Taker<N>>) -> Result<Sender<Taker<N>>, Alloc
     Ok(back.clone()?)
 }
 
-// Starts a thread that works so. Answers whether it was started.
+// Starts a thread that works in this way. Answers whether it was started.
 fn spawned<N, R, G>(
     rt: R,
     alloc: Global,
@@ -98,7 +98,7 @@ where
         .is_ok()
 }
 
-// Tells each of this many workers to stop, and takes the pass of each back.
+// Makes each of this many workers stop, and takes the pass of each back.
 pub(crate) fn dismiss<N: Queued, R: Wait>(
     rt: &R,
     ends: &Ends<N>,
@@ -139,7 +139,7 @@ fn take_back<N: Queued, R: Wait>(
     Ok(())
 }
 
-// Tells this many workers to stop, by one item each.
+// Makes this many workers stop, by one item each.
 fn stop<N: Queued, R: Wait>(
     rt: &R,
     ends: &Ends<N>,

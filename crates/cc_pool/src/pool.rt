@@ -60,10 +60,11 @@ impl<N: Queued> Model for Pool<N> {
 }
 
 impl<N: Queued + Send + Sync + 'static> Pool<N> {
-    /// Starts this many workers, which call the gate before each piece. Each has a stack of 8 MiB. The contract promises the pool's own
-    /// number of workers, from which `finish` counts.
+    /// Starts this many workers, which call the gate before each piece. Each has a stack of 8 MiB. The contract promises the
+    /// pool's own number of workers, from which `finish` counts.
     ///
-    /// Refusals: 40 if memory ran out; 41 if a thread could not be started. The workers that were started have then been told to stop.
+    /// Refusals: 40 if memory ran out; 41 if a thread could not be started. The workers that were started have then been asked to
+    /// stop.
     pub fn start<R, G>(
         rt: &R,
         alloc: Global,
@@ -211,9 +212,9 @@ impl<N: Queued + Send + Sync + 'static> Pool<N> {
         ticket.collect(rt, alloc)
     }
 
-    /// Ends the pool. It tells each worker to stop, after all that was sent, waits until the workers have handed their passes back, and
-    /// takes in these and the given passes. All that was sent, by these passes and to stop the workers, has been taken, each item once, so
-    /// none is left on the queue.
+    /// Ends the pool. It asks each worker to stop, after all that was sent, waits until the workers have handed their passes
+    /// back, and takes in these and the given passes. All that was sent, by these passes and to stop the workers, has been taken,
+    /// each item once, so none is left on the queue.
     ///
     /// Refusal: 41 if the passes are not all that were made, or if an item is left.
     pub fn finish<R: Wait>(self, rt: &R, passes: Vec<Pass<N>>) -> Result<Drained<N>, PoolFault>

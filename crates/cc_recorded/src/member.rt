@@ -70,7 +70,7 @@ impl<N: Based> Member<N> {
         }
     }
 
-    /// Adds its share to the rest of the ledger, and hands out its receipts.
+    /// Adds its share to the rest of the ledger, and returns its receipts.
     pub fn leave(self, rest: &mut Share<N>) -> Vec<Receipt>
         ensures receipts { result.items ≡ self.receipts }
         ensures parts { rest.new.parts ≡ rest.old.parts + 1 }

@@ -255,10 +255,11 @@ impl<N: Based, D: Disk> RecordedLibrary<N, D> {
         Ok(self.library.space())
     }
 
-    /// Writes the library's records anew, one Add per name. It makes no entry in the history, and the map stays, at every moment.
+    /// Writes the library's records again, one Add per name. It makes no entry in the history, and the map stays the same at
+    /// every moment.
     ///
-    /// Refusals, in this order: 36 where the device has failed before, 34 where the new records do not fit, 35 where the device
-    /// failed. 40 where memory ran out, before the first device call. After 34, 36 and 40 all is as before.
+    /// Refusals, in this order: 36 if the device has failed before, 34 if the new records do not fit, 35 if the device failed. 40
+    /// if memory ran out, before the first device call. After 34, 36 and 40 everything is as before.
     pub fn compact(&mut self, alloc: Global) -> Result<(), BookFault>
         ensures compacted { IsBookCompacted D.Disk self.old self.new result }
     {

@@ -1,7 +1,7 @@
 // Counts the instructions of a run.
 //
-// A machine says what its run has come to, but not after how many instructions. So one machine goes on in slices, up to the slice in which
-// its run ends. A second one goes up to that slice at once, and then instruction by instruction.
+// A machine says how far its run has come, but not after how many instructions. So one machine goes on in slices, up to the slice
+// in which its run ends. A second one goes up to that slice at once, and then instruction by instruction.
 
 ghost use Rattle.std.specs.Prelude.{◌≡◌, ◌≤◌, true, IfOk, Some};
 ghost use Rattle.cc_rv32.specs.Machine.{machine_behavior};

@@ -33,7 +33,7 @@ taken (Some bytes) piece next end true remaining more inside kept = sym kept ∙
 taken (Some bytes) piece next end false None more inside kept = kept
 taken (Some bytes) piece next end false (Some later) more inside kept = sym kept ∙ ap (λ (held : List ℕ). held ++ later) (range_more piece next end more inside)
 
--- bytes behind bytes
+-- bytes after bytes
 pub consumed_on : (before between after : Option (List ℕ)) (prefix back : List ℕ) → Consumes before between prefix → Consumes between after back
     → Consumes before after (prefix ++ back)
 consumed_on None between after prefix back one two = tt
@@ -100,7 +100,7 @@ at_end before after n m Holds over holds =
 
 -- ---- why nothing more was read
 
--- a byte is there, of which no more may be handed out
+-- a byte is there, but no more may be handed out
 pub more_there : (before : Option (List ℕ)) (held : List ℕ) (is_over : Bool) (remaining : Option (List ℕ)) (left : ℕ) → left ≡ 0 → 0 < length held
     → Keeps before (rest_from held is_over remaining) → IfSome before (λ bytes. left < length bytes)
 more_there None held is_over remaining left none some kept = tt

@@ -8,8 +8,8 @@ use Rattle.cc_script.specs.declared.command.ScriptCommand.TheVariants as command
 use Rattle.cc_script.specs.declared.command.Dialect.{Dialect}
 use Rattle.cc_script.specs.declared.command.Dialect.TheVariants.{Plain, Served}
 
--- what a script asks for: a change with a number of bytes of source after its line, or with two such numbers, one without, or a look; or a run with a number of
--- bytes of input after its line
+-- what a script asks for: a change with a number of bytes of source after its line, or with two such numbers, a change without
+-- source, or a look; or a run with a number of bytes of input after its line
 -- ORDER ScriptCommand
 pub data ScriptRequest : Type 0 where
   Add : (name : List ℕ) → (length : ℕ) → ScriptRequest
@@ -44,7 +44,7 @@ asked_by command.Space = Space
 
 -- ---- numbers
 
--- the number that some digits make, behind those of n; none where a byte is no digit
+-- the number that some digits make, after those of n; none if a byte is no digit
 abbrev pub number_from : ℕ → List ℕ → Option ℕ
 number_from n [] = Some n
 number_from n (byte ∷ bytes) = if is_ascii_digit byte then number_from (10 * n + (byte - 48)) bytes else None
@@ -54,7 +54,7 @@ abbrev pub at_most : (limit : ℕ) → Option ℕ → Option ℕ
 at_most limit (Some n) = if nat_le n limit then Some n else None
 at_most limit None = None
 
--- the number of 1 to this many digits, not above the limit, that stands there
+-- the number of 1 to this many digits, not above the limit, that is there
 abbrev pub number_in : (digits limit : ℕ) → List ℕ → Option ℕ
 number_in digits limit bytes = if nat_lt 0 (length bytes) && nat_le (length bytes) digits then at_most limit (number_from 0 bytes) else None
 
@@ -68,11 +68,11 @@ steps_in bytes = number_in 10 1000000000 bytes
 
 -- ---- lines
 
--- the words of a line, which stand between single spaces
+-- the words of a line, which are separated by single spaces
 abbrev pub words : List ℕ → List (List ℕ)
 words line = slice_split (λ b. b == 32) line
 
--- a word is no word of a line where it has no byte, as between two spaces
+-- whether a word may be a word of a line: one with no byte, as between two spaces, may not
 abbrev pub is_word : List ℕ → Bool
 is_word bytes = nat_lt 0 (length bytes)
 
@@ -106,7 +106,7 @@ abbrev pub two_words : Dialect → (verb name : List ℕ) → Option ScriptReque
 two_words Plain verb name = two_plain_words verb name
 two_words Served verb name = two_served_words verb name
 
--- what is asked of a name with a number, where there is one
+-- what is asked of a name with a number, if there is one
 abbrev pub with_number : (ℕ → ScriptRequest) → Option ℕ → Option ScriptRequest
 with_number make (Some n) = Some (make n)
 with_number make None = None
@@ -120,7 +120,7 @@ three_words verb name digits =
     else None)
     else None
 
--- what is asked of a name with two numbers, where both are there
+-- what is asked of a name with two numbers, if both are there
 abbrev pub with_numbers : (ℕ → ℕ → ScriptRequest) → Option ℕ → Option ℕ → Option ScriptRequest
 with_numbers make (Some n) second = with_number (make n) second
 with_numbers make None second = None

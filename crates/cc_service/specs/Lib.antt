@@ -17,7 +17,7 @@ pub mod Stored
 pub mod Space
 -- what serves private contracts
 pub mod internal
--- Pages of lower crates that clauses here cite, handed on.
+-- Pages of lower crates that clauses here cite, passed on.
 pub use Rattle.cc_recorded.specs.Book
 pub use Rattle.cc_recorded.specs.Fault as BookFault
 pub use Rattle.cc_recorded.specs.Opened

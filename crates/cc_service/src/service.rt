@@ -684,9 +684,9 @@ impl<N: Named + Send + Sync + 'static, D: Disk> Service<N, D> {
         }
     }
 
-    /// Ends the service, whoever its clients were, and hands out its disk and whether these are all its clients: every receipt of theirs
-    /// matches the history, no two have the same number, and every entry of the history has a receipt. It takes no memory, so it ends a
-    /// service that `finish` refuses to end, or one that has lost a client.
+    /// Ends the service, whoever its clients were, and returns its disk and whether these are all its clients: every receipt of
+    /// theirs matches the history, no two have the same number, and every entry of the history has a receipt. It takes no memory,
+    /// so it ends a service that `finish` refuses to end, or one that has lost a client.
     pub fn give_up<R: Wait>(self, rt: &R, alloc: Global, clients: Vec<Client<N>>) -> (D, bool)
         ensures { IsGivenUp D.Disk N.failures N.base N.from N.left (members clients.items) result.1 result.0 }
     {

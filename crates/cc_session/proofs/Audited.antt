@@ -22,7 +22,7 @@ use Rattle.cc_session.proofs.Playing.{appended}
 from_name : (names : List (List ℕ)) (i : ℕ) (name : List ℕ) → i < length names → name ≡ get_or names i name → drop i names ≡ name ∷ drop (i + 1) names
 from_name names i name within is = drop_more names i name within ∙ ap (λ (n : List ℕ). n ∷ drop (i + 1) names) (sym is)
 
--- what is written of a unit that is not audited: why not
+-- what is written for a unit that is not audited: why not
 not_audited : (mode : Mode) → (name : List ℕ) (answer : Result Receipt ServiceFault) → (text : List ℕ) × SaysAudit mode name false answer text
 not_audited mode name (Ok receipt) = (no_memory_text, refl)
 not_audited mode name (Err fault) = (refusal_text [] fault, refl)
@@ -34,7 +34,7 @@ audited_last mode names i name bytes within is same old new called =
     subst (λ (l : List (List ℕ)). AuditsEach mode l false old new) (sym (from_name names i name within is))
     (inl (refl, subst (λ (n : List ℕ). CallsAndWrites (GetAnswers n) (SaysAudit mode n false) old new) same called))
 
--- so if it could not be written
+-- the same if it could not be written
 pub audited_unwritten : (mode : Mode) → (names : List (List ℕ)) (i : ℕ) (name bytes : List ℕ) → i < length names → name ≡ get_or names i name → bytes ≡ name → (old new : Talk) (fault : ScriptFault)
     → AuditsName mode bytes old new (let r : Result Bool ScriptFault = Err fault in r) → (fault ≡ WriteFault) × (written : Option (List ℕ)) × AuditsEach mode (drop i names) false old (talk new.client written)
 audited_unwritten mode names i name bytes within is same old new fault it =

@@ -6,7 +6,7 @@ use Rattle.cc_session.specs.Spooling.{Given, given_by}
 use Rattle.cc_session.specs.declared.end.SessionEnd.{SessionEnd}
 use Rattle.cc_session.specs.declared.end.SessionEnd.TheVariants.{Finished, Fault}
 
--- a spool that has given and was handed the same
+-- a spool that has given the same and was handed the same
 pub same_given : {S : Type 0} (taken : S → List Taken) (ended : S → List Delivered) (x y : S) → taken x ≡ taken y → ended x ≡ ended y
     → given_by taken ended x ≡ given_by taken ended y
 same_given taken ended x y one two = λ i. record { taken = one i; ended = two i }

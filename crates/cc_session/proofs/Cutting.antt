@@ -27,7 +27,7 @@ IsOther fault = Unit {0}
 not_stopped : {A : Type 0} → Stopped ≡ WriteFault → A
 not_stopped {A} is = absurd (subst (λ (f : ScriptFault). IsOther f) is tt)
 
--- ---- what is written of a unit that was found
+-- ---- what is written for a unit that was found
 
 told_not : (fault : ScriptFault) (most : Option ℕ) (steps : ℕ) (receipt : Receipt) (old new : Option (List ℕ)) (text : List ℕ) → SaysRun steps (Ok receipt) text → fault ≡ WriteFault
     → TellsRunNot most steps receipt old new fault
@@ -43,7 +43,7 @@ pub told_run : {T : Type 0} (result : Result T ScriptFault) (most : Option ℕ) 
 told_run (Ok done) most steps receipt old new text says told = (text, says, told.1)
 told_run (Err fault) most steps receipt old new text says told = told_not fault most steps receipt old new text says told.0
 
--- ---- what is written of a name
+-- ---- what is written for a name
 
 runs_not : (fault : ScriptFault) (most : Option ℕ) (name : List ℕ) (steps : ℕ) (receipt : Receipt) (old new : Talk) → GetAnswers name old.client new.client (Ok receipt)
     → TellsRunNot most steps receipt old.written new.written fault → RunsNot most name steps old new fault
@@ -108,7 +108,7 @@ pub run_grows : {T : Type 0} (result : Result T ScriptFault) (most : Option ℕ)
 run_grows (Ok done) most name steps old new it = get_grows name old.client new.client it.0 it.1
 run_grows (Err fault) most name steps old new it = grows_not fault most name steps old new it
 
--- whoever called for a run that was cut, called for one whose answer was that memory ran out
+-- whoever asked for a run that was cut made the same call as for one whose answer was that memory ran out
 pub cut_obeyed : (mode : Mode) → (asked : Option ScriptRequest) (rest : List ℕ) (old last new : Talk) → new.client ≡ last.client → CutsLine asked old last
     → (w : Option (List ℕ)) × Obeys mode asked rest rest old (talk new.client w)
 cut_obeyed mode (Some (Run name steps)) rest old last new same (receipt, get, cut, written) = (

@@ -1,4 +1,4 @@
--- What was read before a service was opened changes nothing of how it ended.
+-- What was read before a service was opened does not change how it ended.
 use Rattle.std.proofs.Common.{◌≡◌, ◌∙◌, ℕ, List, Bool, true, false, IsTrue, ap, inl, inr, refl, sym, subst, arith}
 use Rattle.std.specs.Prelude.{◌⊎◌}
 use Rattle.cc_disk.specs.declared.disk.Disk.{Ghosts}
@@ -24,7 +24,7 @@ use Rattle.cc_session.specs.internal.Ends.{given_up_after}
 use Rattle.cc_session.specs.declared.end.SessionEnd.{SessionEnd}
 use Rattle.cc_session.specs.declared.end.SessionEnd.TheVariants.{Finished, Fault}
 
--- the library's opening, of the bytes that were seen before
+-- the library's opening, for the bytes that were seen before
 pub open_faults_on : (honest : Bool) (seen later : List ℕ) (before after : ℕ) (fault : LibraryFault) → (IsTrue honest → later ≡ seen)
     → OpenFaults honest later before after fault → OpenFaults honest seen before after fault
 open_faults_on honest seen later before after library.DiskFault same it = it
@@ -68,7 +68,7 @@ not_started honest seen base before after service.ImageTooLarge not same recover
 not_started honest seen base before after (service.Book f) not same recovers = not
 not_started honest seen base before after (service.Changed receipt) not same recovers = not
 
--- so a session that was not opened
+-- the same for a session that was not opened
 pub unopened_on : (honest : Bool) (seen later : List ℕ) (before after : ℕ) (end : SessionEnd) → (IsTrue honest → later ≡ seen)
     → IsUnopened honest later before after end → IsUnopened honest seen before after end
 unopened_on honest seen later before after Finished same it = it
@@ -84,7 +84,7 @@ given_up_whole (Fault first) = inl refl
 
 module _ {Disk : Type 0} (D : Ghosts Disk) (failures : ℕ) (named : Units) (from : ℕ) (left : List ℕ → Type 0)
     (bytes : List ℕ) (begun : IsTrue D.honest → Recovers bytes named) (clients : List MemberView) (played : SessionEnd) where
-  -- with all that its end says of the book
+  -- with all that its end says about the book
   pub kept_by : (book : BookView Disk) (after : Disk) → after ≡ book.library.disk → IsSound D named from left book → FailedByDevice D failures book → IsClosed book.history clients → AreOwn clients
       → IsEnded D failures bytes from left clients played played after
   kept_by book after disk sound blamed closed own =
@@ -99,7 +99,7 @@ module _ {Disk : Type 0} (D : Ghosts Disk) (failures : ℕ) (named : Units) (fro
 
 -- ---- what was read before it was opened
 
--- what is left of a service, said of the bytes that were seen before
+-- what is left of a service, stated for the bytes that were seen before
 left_on : {Disk : Type 0} (D : Ghosts Disk) (failures : ℕ) (bytes later : List ℕ) (from : ℕ) (left : List ℕ → Type 0) (Holds : List Entry → List MemberView → Type 0) (clients : List MemberView) (after : Disk)
     → (IsTrue D.honest → later ≡ bytes) → IsLeft D failures later from left Holds clients after → IsLeft D failures bytes from left Holds clients after
 left_on D failures bytes later from left Holds clients after same it =
@@ -114,7 +114,7 @@ left_on D failures bytes later from left Holds clients after same it =
       holds = it.holds;
     }
 
--- so of one that was ended or given up
+-- the same for one that was ended or given up
 ended_on : {Disk : Type 0} (D : Ghosts Disk) (failures : ℕ) (bytes later : List ℕ) (from : ℕ) (left : List ℕ → Type 0) (clients : List MemberView) (played end : SessionEnd) (after : Disk)
     → (IsTrue D.honest → later ≡ bytes) → IsEnded D failures later from left clients played end after → IsEnded D failures bytes from left clients played end after
 ended_on D failures bytes later from left clients played end after same (inl kept) =
@@ -136,7 +136,7 @@ module _ {Disk : Type 0} (D : Ghosts Disk) where
     moments = λ t image early left. one.moments t image early (two.moments t image (omega (arith, one.later, early)) left);
   }
 
-  -- how a service ended, said of the disk before it was looked at
+  -- how a service ended, stated for the disk before it was looked at
   on_first : (from : ℕ) (begins : List ℕ → Type 0) (Untouched : Type 0) (HaveDone : List MemberView → SessionEnd → Type 0) (a b after : Disk) (end : SessionEnd)
       → D.failures b ≡ D.failures a → (IsTrue D.honest → OnlyReads D.seen D.may_leave D.moment D.left_since a b)
       → EndsSince D from begins Untouched HaveDone b after end
@@ -166,7 +166,7 @@ module _ {Disk : Type 0} (D : Ghosts Disk) where
       subst (λ (d : Disk). EndsSince D (D.moment d) (D.may_leave d) Untouched HaveDone a after end) is
       (on_first (D.moment first) (D.may_leave first) Untouched HaveDone a b after end sound reads it)
 
-  -- none was opened, for this reason, which is told
+  -- none was opened, for this reason, which is reported
   pub unserved_by : (from : ℕ) (begins : List ℕ → Type 0) (Untouched : Type 0) (HaveDone : List MemberView → SessionEnd → Type 0) (base : Units)
       (fault : ServiceFault) (a b after : Disk) (end : SessionEnd) → after ≡ b → end ≡ Fault (fault_number fault) → IsNotOpened D.honest (D.seen a) base (D.failures a) (D.failures b) fault
       → (IsTrue D.honest → OnlyReads D.seen D.may_leave D.moment D.left_since a b) → Untouched

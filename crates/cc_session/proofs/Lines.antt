@@ -1,4 +1,4 @@
--- The lines of a script are its steps, each of one byte at least, and where it stopped its client is as they left it.
+-- The lines of a script are its steps, each of at least one byte. If it stopped, its client is as these steps left it.
 use Rattle.std.proofs.Common.{◌≡◌, ℕ, ◌+◌, ◌<◌, ◌≤◌, List, [], ◌∷◌, ◌++◌, length, take, Option, Some, None, ap, refl, sym, ◌∙◌, subst, arith, inl, inr}
 use Rattle.std.specs.Prelude.{◌⊎◌, ◌≢◌, IfSome}
 use Rattle.std.specs.Io.KnownBytes.{Appends}
@@ -20,7 +20,7 @@ use Rattle.cc_session.proofs.Playing.{asks_short, between_none, between_on, know
 
 -- ---- lines that are done
 
--- what has been played so far, by so many lines, from this client on
+-- what has been played so far, by this many lines, from this client on
 pub record Played (mode : Mode) (dialect : Dialect) (most : Option ℕ) (count : ℕ) (start now : Talk) (b a : List ℕ) : Type 0 where
   pub takes : count + length a ≤ length b
   pub few : IsWithin most count
@@ -32,7 +32,7 @@ within_none : (most : Option ℕ) → IsWithin most 0
 within_none None = tt
 within_none (Some most) = omega arith
 
--- one line more may be done where that were not all
+-- one line more may be done if those were not all
 within_more : (most : Option ℕ) (count : ℕ) → IsWithin most count → most ≢ Some count → IsWithin most (count + 1)
 within_more None count few more = tt
 within_more (Some most) count few more =
@@ -117,7 +117,7 @@ script_ends mode dialect most x y z count start now line one next =
     known_then x y (Played mode dialect most count start now) (λ b. b ≡ []) (λ b. IsPlayed mode dialect most b start now) one (known_by y z (λ b a. IsNext b End line a) (λ b. b ≡ []) next (λ b a none. none))
     (λ b m it none. played mode dialect most b start it.turns m now (few_of mode dialect most count start now b m it) it.plays none)
 
--- why it stopped after the lines so far: of what is left, whether a line of it was begun, and `Stops`
+-- why it stopped after the lines so far: what is left, whether a line of it was begun, and `Stops`
 abbrev pub Halts : (dialect : Dialect) (most : Option ℕ) (count : ℕ) (now last : Talk) (Stops : List ℕ → ℕ → List ℕ → MemberView → Type 0) (rest : List ℕ) → Type 0
 Halts dialect most count now last Stops rest = IsBegun (BeginsBad dialect rest) now last × ((script : List ℕ) → IsWithin most count → Stops script count rest now.client)
 
@@ -146,7 +146,7 @@ anywhere mode dialect most x y count start now last one begun =
 unbegun : (dialect : Dialect) (o : Option (List ℕ)) (now : Talk) → IfSome o (λ rest. IsBegun (BeginsBad dialect rest) now now)
 unbegun dialect o now = known o (λ rest. IsBegun (BeginsBad dialect rest) now now) (λ rest. inl refl)
 
--- for it has more bytes than it may have
+-- because it has more bytes than it may have
 by_bytes : (most : Option ℕ) (script : List ℕ) (first : MemberView) (lines : ℕ) (rest : List ℕ) (now : MemberView) → 16777216 < length script → IsTooLong most script first lines rest now
 by_bytes None script first lines rest now long = long
 by_bytes (Some most) script first lines rest now long = inl long
@@ -168,7 +168,7 @@ too_long_there mode dialect most x y count start now last whole one more begun =
       stops = by_bytes most b start.client (length it.1.turns) it.1.rest it.1.between.client it.0;
     })
 
--- for as many lines are done as may be, or the receipts hold too much
+-- because as many lines are done as may be, or the receipts hold too much
 at_bound : (most : Option ℕ) (script : List ℕ) (first : MemberView) (lines : ℕ) (rest : List ℕ) (now : MemberView) → EndsBehind most first lines now ScriptTooLong → rest ≢ []
     → IsTooLong most script first lines rest now
 at_bound most script first lines rest now bound some = subst (λ (o : Option ℕ). IsTooLong o script first lines rest now) (sym bound.1) (inr (some, bound.2))
@@ -187,7 +187,7 @@ unread_ends mode dialect most x y count start now last left ReadFault whole one 
 unread_ends mode dialect most x y count start now last left WriteFault whole one begun why = absurd why
 unread_ends mode dialect most x y count start now last left Stopped whole one begun why = absurd why
 
--- more of it is left, which is to be ended so
+-- more of it is left, and it is to be ended for that reason
 limit_ends : (mode : Mode) → (dialect : Dialect) (most : Option ℕ) (x y : Ahead) (count : ℕ) (start now : Talk) (fault : ScriptFault) → Between x y (Played mode dialect most count start now)
     → EndsBehind most start.client count now.client fault → IfSome y.rest (λ b. b ≢ []) → IsHaltedBy mode dialect most x.rest start now fault
 limit_ends mode dialect most x y count start now BadLine one bound some = absurd bound
@@ -213,7 +213,7 @@ limit_ends mode dialect most x y count start now Stopped one bound some = (
   }),
 )
 
--- none came, for that reason, or since it can't be read
+-- none came, for that reason, or because it can't be read
 pub no_line_ends : (mode : Mode) → (dialect : Dialect) (most : Option ℕ) (x y : Ahead) (count : ℕ) (start now : Talk) (left : ℕ) (limit : Option ScriptFault) (fault : ScriptFault) → x.left ≡ 16777216
     → Between x y (Played mode dialect most count start now) → IsLimit most start.client count now.client limit → IsNoLine limit y left fault → IsHaltedBy mode dialect most x.rest start now fault
 no_line_ends mode dialect most x y count start now left limit fault whole one bound (inl why) =
@@ -225,7 +225,7 @@ no_line_ends mode dialect most x y count start now left limit fault whole one bo
 pub line_follows : (most : Option ℕ) (first : MemberView) (lines : ℕ) (now : MemberView) (limit : Option ScriptFault) → IsLimit most first lines now limit → limit ≡ None → MayGoOn most first lines now
 line_follows most first lines now limit bound none = subst (λ (o : Option ScriptFault). IsLimit most first lines now o) none bound
 
--- a line that is too long was refused, which could not be written; or it could not be skipped
+-- a line that is too long was refused, but the refusal could not be written; or it could not be skipped
 pub skip_ends : (mode : Mode) → (dialect : Dialect) (most : Option ℕ) (x y m : Ahead) (count : ℕ) (start old new : Talk) (line : List ℕ) (left : ℕ) (fault : ScriptFault) → x.left ≡ 16777216 → new.client ≡ old.client
     → Between x y (Played mode dialect most count start old) → Between y m (λ b a. IsNext b TooLong line a)
     → (fault ≡ WriteFault) ⊎ (Appends old.written new.written (script_fault_text BadLine) × IsNotRead m left fault) → IsHaltedBy mode dialect most x.rest start new fault
@@ -370,7 +370,7 @@ part_of : (mode : Mode) → (dialect : Dialect) (most : Option ℕ) (script : Li
 part_of mode dialect most script Stops old between new same it =
     played_up_to mode dialect most script old it.turns it.rest it.between new it.few it.plays (inl (same ∙ client_of (BeginsBad dialect it.rest) it.between between it.begun))
 
--- what is known of a client is known of one that is the same
+-- what is known about a client is known about one that is the same
 in_part_of : (mode : Mode) → (dialect : Dialect) (most : Option ℕ) (script : List ℕ) (old between new : Talk) → new.client ≡ between.client → IsPlayedInPart mode dialect most script old between → IsPlayedInPart mode dialect most script old new
 in_part_of mode dialect most script old between new same it =
     played_up_to mode dialect most script old it.turns it.rest it.between new it.few it.plays (elim it.then_is [

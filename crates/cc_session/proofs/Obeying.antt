@@ -29,7 +29,7 @@ obeyed_from mode (Err ReadFault) most asked x z old new it = it
 obeyed_from mode (Err WriteFault) most asked x z old new it = it
 obeyed_from mode (Err Stopped) most asked x z old new it = absurd it
 
--- a step of what is asked
+-- a step for what is asked
 pub obeyed_as : (mode : Mode) → {T : Type 0} (most : Option ℕ) (answer : Result T ScriptFault) (asked wanted : Option ScriptRequest) (x z : Ahead) (old new : Talk) → wanted ≡ asked
     → IsDone (λ b a o n. Obeys mode wanted b a o n) (λ rest. IsCutShort wanted rest) (λ rest. HasUnended wanted rest) x z old new answer → IsObeyed mode most asked x z old new answer
 obeyed_as mode most answer asked wanted x z old new same it =
@@ -50,7 +50,7 @@ pub tells_call : {T : Type 0} (result : Result T ScriptFault) (Answers : MemberV
 tells_call (Ok done) Answers Says old new it = (it.0, it.1, it.2, it.3, it.4.1)
 tells_call (Err fault) Answers Says old new it = (it.4.0, append_known old.written it.2, (it.0, it.1, it.2, it.3, appended old.written it.2))
 
--- what is done is more than this
+-- more than this is done
 pub tells_more : {T : Type 0} (result : Result T ScriptFault) (First Second : Talk → Talk → Type 0) (old new : Talk) → ((n : Talk) → First old n → Second old n) → DoesAndTells First old new result
     → DoesAndTells Second old new result
 tells_more (Ok done) First Second old new on it = on new it

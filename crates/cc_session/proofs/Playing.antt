@@ -23,7 +23,7 @@ use Rattle.cc_session.specs.declared.reading.Sent.{Sent}
 
 -- ---- from step to step
 
--- one part behind another, of which neither gave back a byte
+-- one part after another; neither gave back a byte
 read_then : (x y z : Option (List ℕ)) (n k m : ℕ) (P Q S : List ℕ → List ℕ → Type 0) → Known x y (IsRead n k P) → Known y z (IsRead k m Q)
     → ((b c a : List ℕ) → length c ≤ length b → length a ≤ length c → P b c → Q c a → S b a) → Known x z (IsRead n m S)
 read_then None y z n k m P Q S one two on = tt
@@ -124,7 +124,7 @@ done_of (Err e) Does IsShort IsBad x y old new text told gives =
     (known_by x y (λ b a. Does b a old (talk new.client written)) (λ b. (new.client ≡ old.client) ⊎ ((a : List ℕ) × (w : Option (List ℕ)) × Does b a old (talk new.client w)))
     (gives written (appended old.written text)) (λ b a does. inr (a, written, does)))
 
--- one behind whose line nothing is read
+-- a step that reads nothing after its line
 pub does_of : {T : Type 0} (answer : Result T ScriptFault) (Does : Talk → Talk → Type 0) (Obeyed : List ℕ → List ℕ → Talk → Talk → Type 0) (IsShort IsBad : List ℕ → Type 0) (x : Ahead) (old new : Talk)
     → DoesAndTells Does old new answer → ((b : List ℕ) (n : Talk) → Does old n → Obeyed b b old n) → IsDone Obeyed IsShort IsBad x x old new answer
 does_of (Ok t) Does Obeyed IsShort IsBad x old new it gives = between_none x (λ b a. Obeyed b a old new) (λ b. gives b new it)
@@ -132,7 +132,7 @@ does_of (Err e) Does Obeyed IsShort IsBad x old new it gives =
     subst (λ (fault : ScriptFault). IsNotDone Obeyed IsShort IsBad x old new fault) (sym it.0)
     (known x.rest (λ b. (new.client ≡ old.client) ⊎ ((a : List ℕ) × (w : Option (List ℕ)) × Obeyed b a old (talk new.client w))) (λ b. inr (b, it.1, gives b (talk new.client it.1) it.2)))
 
--- what could not be read behind a part that was read
+-- what could not be read after a part that was read
 pub unread_before : (x y : Ahead) (P : List ℕ → List ℕ → Type 0) (left : ℕ) (fault : ScriptFault) → Between x y P → IsNotRead y left fault → IsNotRead x left fault
 unread_before x y P left BadLine one why = absurd why
 unread_before x y P left EndOfScript one why = absurd why
@@ -189,7 +189,7 @@ line_behind before prefix between rest after is plain line = record {
   ];
 }
 
--- a line is there, where one came
+-- a line is there if one came
 line_left : (before after line : List ℕ) (next : NextLine) → IsNext before next line after → next ≢ End → before ≢ []
 line_left before after line End is other = absurd (other refl)
 line_left before after line (Line n) is other = is.0
@@ -259,7 +259,7 @@ some_left x y next line it other = known_by x y (λ b a. IsNext b next line a) (
 
 -- ---- lines that are refused, and sources
 
--- a step whose line is skipped, of which 50 is written first
+-- a step whose line is skipped; 50 is written for it first
 pub skipped : {T : Type 0} (answer : Result T ScriptFault) (Does : List ℕ → List ℕ → Talk → Talk → Type 0) (IsShort IsBad : List ℕ → Type 0) (x y z : Ahead) (left : ℕ) (old new : Talk)
     (P : List ℕ → List ℕ → Type 0) → new.client ≡ old.client → Between x y P → OnOk answer (Between y z (λ b a. (rest : List ℕ) × IsLine b rest a))
     → OnOk answer (Appends old.written new.written (script_fault_text BadLine))
@@ -274,7 +274,7 @@ skipped (Err e) Does IsShort IsBad x y z left old new P same one two wrote (inl 
 skipped (Err e) Does IsShort IsBad x y z left old new P same one two wrote (inr why) bad on =
     not_read Does IsShort IsBad x left old new e (inr (known_by x y P IsBad one (λ b m p. bad b m p), (same, why.0))) (unread_before x y P left e one why.1)
 
--- a source, and what stands behind it
+-- a source, and what comes after it
 pub sent_step : (b m a : List ℕ) (count : ℕ) (source : Option (Vec ℕ Global)) (is_ended : Bool) (sent : Sent) → IsSentAs source is_ended sent
     → IsSource b count (option_map (λ bytes. bytes.items) source) m → IsLineEnd m is_ended a → HasSent b count sent a
 sent_step b m a count (Some bytes) true sent is read ended =
@@ -295,7 +295,7 @@ sent_on x y z count source is_ended sent is read ended =
     between_then x y z (λ b a. IsSource b count (option_map (λ bytes. bytes.items) source) a) (λ b a. IsLineEnd b is_ended a) (λ b a. HasSent b count sent a) read ended
     (λ b m a one two. sent_step b m a count source is_ended sent is one two)
 
--- a script of which nothing has been read
+-- a script that has not been read at all
 pub unread : (remaining : Option (List ℕ)) → ◌≡◌ {A = Ahead} (record { rest = rest_from [] false remaining; left = 16777216 }) (record { rest = remaining; left = 16777216 })
 unread None = refl
 unread (Some bytes) = refl

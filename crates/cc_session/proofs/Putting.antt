@@ -39,7 +39,7 @@ sent_step (Err fault) Does bytes sent same count x y old new read it =
     (known_by x y (λ b a. HasSent b count (Source bytes) a) (λ b. (new.client ≡ old.client) ⊎ ((a : List ℕ) × (w : Option (List ℕ)) × IsSentTo Does count b a old (talk new.client w))) read
     (λ b a has. inr (a, it.1, sent_as Does bytes sent same count b a old (talk new.client it.1) has it.2)))
 
--- those after which another byte stands than a newline
+-- those followed by another byte than a newline
 pub skip_step : {T : Type 0} (answer : Result T ScriptFault) (Does : List ℕ → Talk → Talk → Type 0) (count : ℕ) (x y z : Ahead) (left : ℕ) (old new : Talk)
     → new.client ≡ old.client → Between x y (λ b a. HasSent b count Unended a) → OnOk answer (Between y z (λ b a. (rest : List ℕ) × IsLine b rest a))
     → OnOk answer (Appends old.written new.written (script_fault_text BadLine))
@@ -162,7 +162,7 @@ twice_unasked mode answer name many count x y z old new read it =
     (λ b m a n one two. sent_twice mode name one.0 one.1 m many count None b a old n one.2 one.3 one.4 tt two)
     (λ b m one two. inr (one.0, one.1, m, one.2, one.3, one.4, two)) (λ b m one two. inr (one.0, one.1, m, one.2, one.3, one.4, two))
 
--- another byte stands after the first one
+-- the first one is followed by another byte
 pub twice_skip : (mode : Mode) → {T : Type 0} (answer : Result T ScriptFault) (name : List ℕ) (many count : ℕ) (x y z : Ahead) (left : ℕ) (old new : Talk)
     → new.client ≡ old.client → Between x y (λ b a. HasSent b many Unended a) → OnOk answer (Between y z (λ b a. (rest : List ℕ) × IsLine b rest a))
     → OnOk answer (Appends old.written new.written (script_fault_text BadLine))

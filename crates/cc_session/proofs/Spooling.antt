@@ -1,4 +1,4 @@
--- What is done of the scripts of a spool is carried from script to script, and then said of all clients.
+-- What is done with the scripts of a spool is carried from script to script, and then stated for all clients.
 use Rattle.std.proofs.Common.{◌≡◌, ◌∙◌, ℕ, ◌<◌, List, [], ◌∷◌, ◌++◌, length, map, take, get_or, Option, Some, None, Result, Ok, Err, refl, sym, ap, subst, append_assoc, arith, inl, inr}
 use Rattle.std.specs.Prelude.{All, slice_get}
 use Rattle.std.specs.Option.{option_map}
@@ -76,7 +76,7 @@ or_this None d = d
 from_some : {A : Type 0} (a b : A) → Some a ≡ Some b → a ≡ b
 from_some {A} a b same = ap (λ (o : Option A). or_this o a) same
 
--- what stands at an index of a mapped list
+-- what is at an index of a mapped list
 at : {P B : Type 0} (xs : List P) (f : P → B) (i : ℕ) (d : P) (b : B) → i < length xs → slice_get (map f xs) i ≡ Some b → f (get_or xs i d) ≡ b
 at {P} {B} xs f i d b within is =
     from_some (f (get_or xs i d)) b (sym (slice_get-map f xs i ∙ ap (λ (o : Option P). option_map f o) (slice_get-get_or xs i d within)) ∙ is)
@@ -117,7 +117,7 @@ module _ (mode : Mode) {P : Type 0} (given : P → Given) (member : P → Member
 whole : {P : Type 0} (n : ℕ) (news rest : List P) → length news ≡ n → take n (news ++ rest) ≡ news
 whole n news rest many = subst (λ (m : ℕ). take m (news ++ rest) ≡ news) many (take-append_seam news rest)
 
--- so of clients with their spools, which are taken apart then
+-- the same for clients with their spools, which are taken apart then
 module _ (mode : Mode) {P S C : Type 0} (spool : P → S) (client : P → C) (by : S → Given) (member : C → MemberView) where
   pub have_done_by : (olds news rest : List P) (given left : List S) (clients : List C) (n : ℕ) → map spool olds ≡ given → length news ≡ n → length olds ≡ n
       → All (λ p. (member (client p)).receipts ≡ []) olds → Each mode (λ p. by (spool p)) (λ p. member (client p)) olds news

@@ -1,4 +1,4 @@
--- What the receipts hold that a client got since a script's beginning is counted along.
+-- What the receipts hold that a client got since a script's beginning is counted on the way.
 use Rattle.std.proofs.Common.{◌≡◌, ◌∙◌, ℕ, ◌+◌, ◌<◌, ◌≤◌, List, [], ◌++◌, drop, length, sym, ap, subst, append_assoc, arith}
 use Rattle.std.proofs.Math.Seq.{drop-append_seam}
 use Rattle.std.proofs.lemmas.List.{append-nil}
@@ -14,7 +14,7 @@ use Rattle.cc_session.specs.declared.held.Held.{Held}
 pub counts_none : (first : List Receipt) (held : Held) → held.seen ≡ length first → held.bytes ≡ 0 → CountsSince first first held
 counts_none first held seen bytes = record { more = []; now_is = sym (append-nil first); seen = seen; bytes = bytes }
 
--- two counts of which each says the most that can be said
+-- two counts, each of which is cut at the most that can be reported
 told_both : (a b : ℕ) → at_most_told (at_most_told a + at_most_told b) ≡ at_most_told (a + b)
 told_both a b = grind (arith)
 
@@ -45,7 +45,7 @@ counted first now held counts =
     counts.bytes ∙ ap (λ (l : List Receipt). at_most_told (receipts_bytes l))
     (sym (subst (λ (l : List Receipt). drop (length first.receipts) l ≡ counts.more) (sym counts.now_is) (drop-append_seam first.receipts counts.more)))
 
--- so many bytes can be told, so the count passes them where the receipts do
+-- a count can report this many bytes, so it passes them if the receipts do
 pub much : (first now : MemberView) (held : Held) → CountsSince first.receipts now.receipts held → 268435456 < held.bytes → 268435456 < held_since first now
 much first now held counts more = let is = counted first now held counts in grind (arith, is, more)
 

@@ -12,5 +12,5 @@ pub mod Session
 pub mod Spooling
 -- How the generations of serving follow one another.
 pub mod Generations
--- What only private contracts speak of.
+-- What only private contracts use.
 pub mod internal

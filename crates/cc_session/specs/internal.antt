@@ -1,4 +1,4 @@
--- What only private contracts speak of.
+-- What only private contracts use.
 -- what a command does and writes
 pub mod Calls
 -- how far a script has been done

@@ -20,17 +20,20 @@ use std::alloc::Global;
 use std::io::{self, Read, Write};
 use std::sync::Wait;
 
-// The most lines of a script from a spool that are done. So one that asks for nothing but errors holds its client for a bounded time.
+// The most lines of a script from a spool that are done. So a script that asks for nothing but errors holds its client for a
+// bounded time.
 const MOST_LINES: usize = 65_536;
 
-/// Does what a script asks for in a mode by a client of a service, up to its end or a fault that ends it, 51 to 54, whose line is written then. If
-/// that line can't be written the fault is 54, which has no line. Clients on other threads may play theirs on the same service.
+/// Does what a script asks for, in a mode, by a client of a service, up to its end or a fault that ends it, 51 to 54. The line of
+/// that fault is then written. If that line can't be written the fault is 54, which has no line. Clients on other threads may
+/// play theirs on the same service.
 ///
-/// The script comes from `reader`; each answer goes to `writer`, which is flushed after it: at the end it holds the lines of the script's turns
-/// in their order, and no other byte. What helps a person with a fault goes to `explanations`; if such a write fails the script goes on.
-/// `dialect` says which lines it may have. If there is a bound on its lines, `most`, so many are done at most, and 52 ends a script that has
-/// more: at 0 every script that has a byte. A line counts with the source after it, whatever is answered. 52 also ends such a script behind the
-/// line with which the receipts that the client got for it hold more than 256 MiB (`held_since` of `Client`), if it has more.
+/// The script comes from `reader`; each answer goes to `writer`, which is flushed after it: at the end it holds the lines of the
+/// script's turns in their order, and no other byte. What helps a person with a fault goes to `explanations`; if such a write
+/// fails the script goes on. `dialect` says which lines it may have. If there is a bound on its lines, `most`, at most that many
+/// are done, and 52 ends a script that has more: at 0 every script that has a byte. A line counts with the source after it,
+/// whatever is answered. 52 also ends such a script, if it has more, after the line with which the receipts that the client got
+/// for it hold more than 256 MiB (`held_since` of `Client`).
 pub fn play_in<N, H, R: Read, W: Write, E: Write, D>(
     rt: &H,
     alloc: Global,
@@ -182,8 +185,8 @@ where
     spool.deliver(script, answer, end_of(played));
 }
 
-// Does the next script of a spool, where there is one; whether more may come. The meter counts it from when it was taken until its answer is
-// handed over, with the receipts that it brought.
+// Does the next script of a spool, if there is one. The result is whether more may come. The meter counts the script from when it
+// was taken until its answer is handed over, with the receipts that it brought.
 fn attend_one<N, H, S, D>(
     rt: &H,
     alloc: Global,
@@ -216,15 +219,16 @@ where
     true
 }
 
-/// Does the scripts of a spool in a mode one after another, by one client of a service, until the spool says that no more is to be taken, or the
-/// meter is full that all clients of the service share. Of each 65,536 lines are done at most, and none behind those whose receipts hold more
-/// than 256 MiB; of one that has more the answer ends in the line of 52.
+/// Does the scripts of a spool in a mode one after another, by one client of a service, until the spool says that no more is to
+/// be taken, or the meter that all clients of the service share is full. At most 65,536 lines of each script are done, and none
+/// after those whose receipts hold more than 256 MiB; if a script has more, its answer ends in the line of 52.
 ///
-/// A script that has been at work for long ends by 61 behind the line at work, or within a `run`, if others wait (`is_long`, `is_awaited`) or the
-/// meter is full, and if it has more.
+/// A script that has been at work for long ends by 61 after the line at work, or within a `run`, if others wait (`is_long`,
+/// `is_awaited`) or the meter is full, and if it has more.
 ///
-/// A fault that ends a script, 51 to 54 or 61, ends it alone: its answer is handed over with the fault's number, and the next is taken. The line
-/// of the fault is the answer's last, but of 54 there is none: what becomes of an answer that can't be written is the spool's matter.
+/// A fault that ends a script, 51 to 54 or 61, ends it alone: its answer is handed over with the fault's number, and the next is
+/// taken. The line of the fault is the answer's last, but 54 has no line: what becomes of an answer that can't be written is the
+/// spool's matter.
 pub fn attend_in<N, H, S, D>(
     rt: &H,
     alloc: Global,

@@ -16,7 +16,7 @@ pub(crate) struct Audited {
     failed: Option<FailedPart>,
 }
 
-// The bytes of a unit's certificate, where it has one.
+// The bytes of a unit's certificate, if it has one.
 fn certificate_of(unit: &StoredUnit) -> Option<&[u8]>
     ensures { option_map (λ c. c.now) result ≡ unit.now.certificate }
 {

@@ -39,7 +39,8 @@ use std::sync::Wait;
 // The most bytes of input words after a line.
 const MOST_INPUT: usize = 65_536;
 
-// What plays the scripts of a service's clients, in a mode: of each so many lines at most, if there is a bound, and then while there is patience.
+// What plays the scripts of a service's clients, in a mode: of each at most this many lines, if there is a bound, and then while
+// there is patience.
 #[derive(Drop)]
 pub(crate) struct Player<'a, N: Named, H, D: Disk, P> {
     pub(crate) rt: &'a H,
@@ -51,8 +52,8 @@ pub(crate) struct Player<'a, N: Named, H, D: Disk, P> {
 }
 
 impl<'a, N: Named + Send + Sync + 'static, H: Wait, D: Disk, P: Patience> Player<'a, N, H, D, P> {
-    // Puts a unit whose source this is, read up to here, and hands those of the next commands to the workers while it waits. If memory was refused, or a
-    // worker is gone, no hint stays, and it is tried once more.
+    // Puts a unit with this source, read up to here, and hands the sources of the next commands to the workers while it waits. If
+    // memory was refused, or a worker is gone, no hint stays, and it is tried once more.
     fn put_source<R: Read>(
         &self,
         client: &mut Client<N>,
@@ -98,7 +99,7 @@ impl<'a, N: Named + Send + Sync + 'static, H: Wait, D: Disk, P: Patience> Player
         }
     }
 
-    // Adds or replaces a unit, whose source this is.
+    // Adds or replaces a unit with this source.
     fn change<R: Read, W: Write, E: Write>(
         &self,
         client: &mut Client<N>,
@@ -152,8 +153,8 @@ impl<'a, N: Named + Send + Sync + 'static, H: Wait, D: Disk, P: Patience> Player
         }
     }
 
-    // Puts a unit of this source in the place of that of a name, if that one's source is the expected one. No source of a later command is
-    // handed in meanwhile.
+    // Replaces the unit of a name by one of this source, if the old one's source is the expected one. No source of a later
+    // command is handed in meanwhile.
     fn exchange<W: Write, E: Write>(
         &self,
         client: &mut Client<N>,
@@ -205,7 +206,7 @@ impl<'a, N: Named + Send + Sync + 'static, H: Wait, D: Disk, P: Patience> Player
         }
     }
 
-    // Puts a unit in the place of that of a name, if that one's source is the one that comes next; the unit's own source comes after it.
+    // Replaces the unit of a name, if its source is the one that comes next; the new unit's source comes after it.
     fn update<R: Read, W: Write, E: Write>(
         &self,
         client: &mut Client<N>,
@@ -348,7 +349,7 @@ impl<'a, N: Named + Send + Sync + 'static, H: Wait, D: Disk, P: Patience> Player
         }
     }
 
-    // Runs it on the input words that these bytes are.
+    // Runs it on the input words in these bytes.
     fn call_on<W: Write, E: Write>(
         &self,
         client: &mut Client<N>,
@@ -464,7 +465,8 @@ impl<'a, N: Named + Send + Sync + 'static, H: Wait, D: Disk, P: Patience> Player
         tell_room(self.alloc, answer, answers, explanations)
     }
 
-    // Writes what an audit says of a unit that was found, or that memory ran out in it: whether it said anything.
+    // Writes what an audit says of a unit that was found, or that memory ran out in it. The result is whether the audit said
+    // anything.
     fn audit_unit<W: Write, E: Write>(
         &self,
         name: &[u8],
@@ -489,7 +491,7 @@ impl<'a, N: Named + Send + Sync + 'static, H: Wait, D: Disk, P: Patience> Player
         }
     }
 
-    // Audits the unit of a name: whether it was found and the audit said anything.
+    // Audits the unit of a name. The result is whether it was found and the audit said anything.
     fn audit_name<W: Write, E: Write>(
         &self,
         client: &mut Client<N>,
@@ -508,7 +510,8 @@ impl<'a, N: Named + Send + Sync + 'static, H: Wait, D: Disk, P: Patience> Player
         }
     }
 
-    // Audits the units of these names, up to the first that is not found or whose audit says nothing: whether none was.
+    // Audits the units of these names, up to the first that is not found or whose audit says nothing. The result is whether there
+    // was no such unit.
     fn audit_names<W: Write, E: Write>(
         &self,
         client: &mut Client<N>,

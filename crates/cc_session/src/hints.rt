@@ -1,8 +1,9 @@
 // The sources of a script's next commands, handed to the workers before their turn.
 //
-// What a script's reader has given already is looked through for them. Nothing is read for that, so a script that somebody types line by line is
-// answered line by line. What was handed in is a hint: at its turn the source of a command is compared with it, and a hint that was refused, or
-// whose memory or worker is gone, is as if there were none. So answers and their order are those of a script whose sources are compiled one by one.
+// They are found in what a script's reader has given already. Nothing is read for that, so a script that somebody types line by
+// line is answered line by line. What was handed in is a hint: at its turn the source of a command is compared with it. A hint
+// that was refused, or whose memory or worker is gone, counts as no hint. So answers and their order are those of a script whose
+// sources are compiled one by one.
 
 ghost use Rattle.std.specs.Prelude.{◌≡◌, IfSome};
 
@@ -45,7 +46,7 @@ fn line_at(held: &[u8], begin: usize) -> Option<&[u8]> {
     }
 }
 
-// Where the next source stands that is there as a whole, with the newline after it: where it begins, and where it ends.
+// The place of the next source that is there as a whole, with the newline after it: its beginning and its end.
 fn next_source(held: &[u8], from: usize) -> Option<(usize, usize)> {
     let mut begin = from;
     for _ in 0..held.len() {
@@ -93,7 +94,7 @@ impl<N: Named + Send + Sync + 'static> Hints<N> {
         }
     }
 
-    // Lets all go.
+    // Drops all.
     pub(crate) fn forget(&mut self) {
         self.hints.clear();
     }
@@ -107,7 +108,7 @@ impl<N: Named + Send + Sync + 'static> Hints<N> {
         MOST_SOURCES <= self.hints.len() || ENOUGH_FUNCTIONS <= functions
     }
 
-    // What was handed in of a source, which was read up to here, if it is this one. Those of commands before it are let go.
+    // What was handed in for a source, which was read up to here, if it is this one. Those of commands before it are dropped.
     pub(crate) fn take(&mut self, mode: Mode, at: usize, source: &[u8]) -> Option<Prepared<N>>
         ensures text { IfSome result (λ prepared. prepared.text ≡ source.now) }
         ensures mode { IfSome result (λ prepared. prepared.mode ≡ mode) }
@@ -128,7 +129,7 @@ impl<N: Named + Send + Sync + 'static> Hints<N> {
         None
     }
 
-    // Hands the sources of the next commands to the workers, of a script that was read up to here and of which these bytes are there.
+    // Hands the sources of the next commands to the workers, for a script that was read up to here. These bytes of it are there.
     pub(crate) fn look_ahead<H: Wait, D: Disk>(
         &mut self,
         rt: &H,

@@ -1,4 +1,4 @@
-// Whether a script is to end though more of it is left, and the run of an image, at which that is asked from time to time.
+// Whether a script is to end though more of it is left. The run of an image asks this from time to time.
 
 ghost use Rattle.std.specs.Prelude.{◌+◌, ℕ, [], IfOk};
 ghost use Rattle.cc_rv32.specs.Simulation.{IsAfter};
@@ -16,9 +16,9 @@ use std::alloc::{AllocError, Global};
 // How many instructions of a run are done between two looks at whether others wait.
 const SLICE: u64 = 10_000_000;
 
-// Who says whether a script is to end.
+// Decides whether a script is to end.
 pub(crate) trait Patience {
-    // Whether it is to end now. It is asked after each line, and behind each slice of a run.
+    // Whether it is to end now. It is asked after each line, and after each slice of a run.
     fn is_out(&self) -> bool;
 }
 
@@ -32,7 +32,7 @@ impl Patience for Unhurried {
     }
 }
 
-// Others wait for a script of a spool's.
+// Others wait for a script of a spool.
 #[derive(Drop)]
 pub(crate) struct Others<'a, S> {
     pub(crate) spool: &'a S,
@@ -46,7 +46,7 @@ impl<'a, S: Spool> Patience for Others<'a, S> {
     }
 }
 
-// What a machine has written and come to behind so many instructions more.
+// What a machine has written and reached after this many more instructions.
 fn run_to_end(alloc: Global, machine: &mut Machine, steps: u64) -> Result<ImageRun, AllocError>
     ensures { IfOk result (λ run. (image : Image) (done : ℕ) → IsAfter image [] done machine.old → IsRunOf image (done + steps) [] run) }
 {
@@ -59,8 +59,8 @@ fn run_to_end(alloc: Global, machine: &mut Machine, steps: u64) -> Result<ImageR
     }
 }
 
-// What an image does on no input within this many instructions, as `run_image` says. None if it may stop and is to, behind a slice: then it is
-// not at its end.
+// What an image does on no input within this many instructions, as `run_image` says. None if it may stop and is to, after a
+// slice: then it is not at its end.
 pub(crate) fn run_in_slices<P: Patience>(
     alloc: Global,
     image: &Image,

@@ -34,11 +34,11 @@ pub(crate) enum Sent {
     Source(Vec<u8>),
     // There is no room for it.
     NoRoom,
-    // A byte other than a newline stands behind it.
+    // A byte other than a newline comes after it.
     Unended,
 }
 
-// What was sent by a source, where there was room for it, and what stands behind it.
+// What was sent by a source, if there was room for it, and what comes after it.
 fn behind_line(source: Option<Vec<u8>>, is_ended: bool) -> Sent
     ensures { IsSentAs source is_ended result }
 {
@@ -72,7 +72,7 @@ impl<R: Read> Reading<R> {
         self.script.held()
     }
 
-    // The script's next line; where one comes, and there is a limit, that fault.
+    // The script's next line; if one comes and there is a limit, that fault.
     #[tactic(auto, using(crate::proofs::Playing::some_left))]
     pub(crate) fn next_line(
         &mut self,

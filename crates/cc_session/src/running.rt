@@ -32,7 +32,8 @@ use std::snapshot::Snapshot;
 use std::sync::Wait;
 use std::thread::Threads;
 
-// What a service begins with: the library as its opening left it, whose disk is known as it was before, and what no type names yet.
+// What a service begins with: the library as its opening left it, whose disk is known as it was before, and what no type names
+// yet.
 #[derive(Drop)]
 pub(crate) struct Begun<D: Disk> {
     pub(crate) library: Library<D>,
@@ -66,8 +67,9 @@ pub(crate) fn begin<D: Disk + Drop>(alloc: Global, disk: D) -> Result<Begun<D>, 
     }
 }
 
-// The end of a service that was given up. If its clients' receipts are not all there it is 39, whatever fault ended their work. If they are, it is
-// the fault that ended the work; else 40, for there was no memory to end. A fault that comes first here has its line written.
+// The end of a service that was given up. If its clients' receipts are not all there it is 39, whatever fault ended their work.
+// If they are, it is the fault that ended the work; otherwise 40, since there was no memory to end. The line of a fault that
+// comes up first here is written.
 fn given_up<W: Write, E: Write>(
     alloc: Global,
     are_all: bool,
@@ -151,7 +153,7 @@ fn disk_of<D: Disk>(closed: Closed<D>) -> D
     library.into_disk()
 }
 
-// Ends a service whose clients' work ended so; where its end is refused, it is given up.
+// Ends a service whose clients' work ended so; if its end is refused, the service is given up.
 pub(crate) fn finish<N, H, W, E, D>(
     rt: &H,
     alloc: Global,
@@ -251,9 +253,9 @@ where
     }
 }
 
-/// Does the commands of a script in a mode as `session` does, and writes to `explanations` what helps a person with a fault: the place in the source
-/// that was sent, as `check` tells it, or a few words. Where such a write fails the session goes on. The workers pass `gate`, so that who
-/// waits can be told how far a long `add` is.
+/// Does the commands of a script in a mode as `session` does, and writes to `explanations` what helps a person with a fault: the
+/// place in the source that was sent, as `check` reports it, or a few words. If such a write fails the session goes on. The
+/// workers pass `gate`, which can show how far a long `add` is.
 pub fn session_and_explain_in<H, R: Read, W: Write, E: Write, D: Disk + Drop, G>(
     rt: &H,
     alloc: Global,
@@ -327,17 +329,18 @@ where
     )
 }
 
-/// Opens the library on a disk as a service with this many workers, 1 to 8, does the commands of a script by one client, and ends the
-/// service.
+/// Opens the library on a disk as a service with this many workers, 1 to 8, does the commands of a script by one client, and ends
+/// the service.
 ///
-/// The script, a plain one, comes from `reader`, each answer goes to `writer`, which is flushed after it. If the session ends as the script did
-/// (`Finished`, or 51 to 53) the writer got the lines of the script's turns in their order, and no other byte. A refusal writes its fault's line, and the
-/// session goes on; a fault of the opening, of the script (51 to 54; of 54 there is no line) or of the service's end (39, 40) ends it. The
-/// end is the first of them, but 39 goes before a fault of the script. The disk is handed back after each.
+/// The script, a plain one, comes from `reader`, each answer goes to `writer`, which is flushed after it. If the session ends as
+/// the script did (`Finished`, or 51 to 53) the writer got the lines of the script's turns in their order, and no other byte. A
+/// refusal writes its fault's line, and the session goes on; a fault of the opening, of the script (51 to 54; 54 has no line) or
+/// of the service's end (39, 40) ends it. The end is the first of them, but 39 goes before a fault of the script. The disk is
+/// handed back after each.
 ///
-/// 51 comes only if the script has fewer bytes than a line's source, 52 only if it has more than 16,777,216. After each end but 39 the library
-/// is kept with all that the client's receipts say. 39 says that a receipt is not in the history, or that other calls are: then some legal
-/// history is kept.
+/// 51 comes only if the script has fewer bytes than a line's source, 52 only if it has more than 16,777,216. After each end but
+/// 39 the library is kept with all that the client's receipts say. 39 says that a receipt is not in the history, or that other
+/// calls are: then some legal history is kept.
 pub fn session<H, R: Read, W: Write, D: Disk + Drop>(
     rt: &H,
     alloc: Global,

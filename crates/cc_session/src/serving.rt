@@ -42,7 +42,7 @@ struct Post<N: Named, S> {
     spool: S,
 }
 
-// Room for the clients and the spools, while they work and behind it.
+// Room for the clients and the spools, while they work and afterwards.
 #[derive(Drop)]
 struct Room<N: Named, S> {
     posts: Vec<Post<N, S>>,
@@ -65,7 +65,7 @@ fn room_for<N: Named, S: Drop>(alloc: Global, count: usize) -> Result<Room<N, S>
     })
 }
 
-// Makes so many clients of a service; 30 where it has fewer.
+// Makes this many clients of a service; 30 if it has fewer.
 fn hire<N, H, D>(
     rt: &H,
     alloc: Global,
@@ -159,8 +159,8 @@ where
     );
 }
 
-// Each client does the scripts of its spool, in a thread of its own where one can be made. Those for which none can be made begin when others
-// have ended.
+// Each client does the scripts of its spool, in a thread of its own if one can be made. Clients without a thread begin when
+// others have ended.
 fn attend_all<N, H, S, D>(
     rt: &H,
     alloc: Global,
@@ -190,7 +190,7 @@ where
     );
 }
 
-// What is there when the clients have ended their work: they, their spools, and how it ended.
+// What is there when the clients have ended their work: the clients, their spools, and how it ended.
 #[derive(Drop)]
 struct Worked<N: Named, S> {
     clients: Vec<Client<N>>,
@@ -198,7 +198,7 @@ struct Worked<N: Named, S> {
     end: SessionEnd,
 }
 
-// A client for each spool does what this gives. Where the service has too few of them nothing is done.
+// A client for each spool does what the spool gives. If the service has too few clients, nothing is done.
 fn work<N, H, S, E, D, T>(
     rt: &H,
     alloc: Global,
@@ -259,7 +259,7 @@ pub struct Served<D: Drop, S: Drop> {
     pub end: SessionEnd,
 }
 
-// What is left where no service was opened, for this reason.
+// What is left if no service was opened, for this reason.
 fn unserved<S: Spool + Drop, D: Disk + Drop>(
     spools: Vec<S>,
     disk: D,
@@ -335,7 +335,7 @@ where
     Served { disk, spools, end }
 }
 
-// Opens a service for the spools, where there is room for them.
+// Opens a service for the spools, if there is room for them.
 fn serve_begun<N, H, S, E, D, G, T>(
     rt: &H,
     alloc: Global,
@@ -440,15 +440,15 @@ where
     }
 }
 
-/// Opens the library on a disk as a service with this many workers, 1 to 8, and a client for each spool, 1,024 at most. Each client does
-/// the scripts that its spool gives in a mode, as `attend_in` says, until this is over or the clients together have done as much as `bounds` says; then
-/// the service is ended. It does so in a thread of its own where one can be made; those for which none can be made begin when others have
-/// ended. The workers pass `gate`, so that who waits can be told how far a long `add` is. `steward` is told when scripts are taken and, where
-/// they were, how the service ended.
+/// Opens the library on a disk as a service with this many workers, 1 to 8, and a client for each spool, 1,024 at most. Each
+/// client does the scripts that its spool gives in a mode, as `attend_in` says, until the spool is over or the clients together
+/// have done as much as `bounds` says; then the service is ended. Each client does so in a thread of its own if one can be made;
+/// those for which none can be made begin when others have ended. The workers pass `gate`, which can show how far a long `add`
+/// is. `steward` is called when scripts are taken and, if they were, with how the service ended.
 ///
-/// The line of a fault of the opening (35, 37, 38, 40, 41; 30 where there are too many spools) or of the end (39, 40) goes to `writer`,
-/// and what helps a person with it to `explanations`. `end` is the first, or 39, and is written. A fault that ends a script is told in its
-/// answer alone. Disk and spools are handed back after each.
+/// The line of a fault of the opening (35, 37, 38, 40, 41; 30 if there are too many spools) or of the end (39, 40) goes to
+/// `writer`, and what helps a person with it to `explanations`. `end` is the first, or 39, and is written. A fault that ends a
+/// script is reported in its answer alone. Disk and spools are handed back after each.
 pub fn serve_in<H, S, W, E, D, G, T>(
     rt: &H,
     alloc: Global,
@@ -474,7 +474,7 @@ where
     requires few { workers ≤ 8 }
     ensures answers { ServingEnds mode D.Disk
         (map (given_by S.taken S.ended) spools.items) (map (given_by S.taken S.ended) result.spools.items) disk result.disk result.end }
-    // Nothing is written where no fault ended it.
+    // Nothing is written if no fault ended it.
     ensures still { result.end ≡ Finished → W.contents writer.new ≡ W.contents writer.old }
 {
     let left = serve_quietly(
@@ -518,7 +518,7 @@ where
     requires few { workers ≤ 8 }
     ensures answers { ServingEnds Plain D.Disk
         (map (given_by S.taken S.ended) spools.items) (map (given_by S.taken S.ended) result.spools.items) disk result.disk result.end }
-    // Nothing is written where no fault ended it.
+    // Nothing is written if no fault ended it.
     ensures still { result.end ≡ Finished → W.contents writer.new ≡ W.contents writer.old }
 {
     serve_in(

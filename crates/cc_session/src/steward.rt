@@ -1,4 +1,4 @@
-// Who is told what a server does.
+// What a server does is reported here.
 
 use crate::end::SessionEnd;
 use std::io::Write;
@@ -29,9 +29,9 @@ pub struct Generation {
     pub end: SessionEnd,
 }
 
-/// Who is told when a generation begins and ends, and may do something then: write a line, clean a folder. Both calls come from the thread
-/// that serves, between generations, so no script is being done and none is taken before they return. `told` is where what helps a person
-/// with a fault goes.
+/// It is called when a generation begins and ends, and may do something then: write a line, clean a folder. Both calls come from
+/// the thread that serves, between generations, so no script is being done and none is taken before they return. What helps a
+/// person with a fault goes to `told`.
 pub trait Steward {
     /// The library is open, and scripts are taken from now on.
     fn opened<E: Write>(&mut self, told: &mut E);
@@ -40,7 +40,7 @@ pub trait Steward {
     fn ended<E: Write>(&mut self, generation: Generation, told: &mut E);
 }
 
-/// Who does nothing.
+/// Does nothing.
 #[derive(Drop)]
 pub struct NoSteward;
 

@@ -8,7 +8,8 @@ use Rattle.cc_size.specs.declared.recursion.Recursion.{Recursion}
 abbrev pub DoesCall : (bodies : List (List PieceItem)) → (caller called : ℕ) → Type 0
 DoesCall bodies f g = Contains (get_or bodies f []) (Call g)
 
--- calls lead from a function to another, to each of these in turn; the last of these is the other one. Without a call a function leads to itself
+-- calls lead from a function to another, through each of these in turn; the last of these is the other one. Without a call a
+-- function leads to itself
 abbrev pub LeadsBy : (bodies : List (List PieceItem)) → (way : List ℕ) → (from to : ℕ) → Type 0
 LeadsBy bodies [] f g = f ≡ g
 LeadsBy bodies (h ∷ way) f g = DoesCall bodies f h × LeadsBy bodies way h g

@@ -2,6 +2,6 @@
 pub mod Cycles
 -- what the functions of a unit take, and its image
 pub mod Size
--- that so much is enough
+-- that this much is enough
 pub mod Sized
 pub mod internal

@@ -1,4 +1,4 @@
--- What only private contracts and proofs speak of.
+-- What only private contracts and proofs use.
 -- the table of what functions take
 pub mod Deeper
 -- from which functions calls lead to one

@@ -94,8 +94,8 @@ fn size_of(alloc: Global, made: &Compilation) -> Result<UnitSize, AllocError>
     )
 }
 
-/// Compiles a text in a mode, and says what the unit takes. On a board that backs the stack that it names, or more, the image follows on every
-/// input what the program shows in the mode.
+/// Compiles a text in a mode, and measures what the unit takes. On a board that backs the stack that it names, or more, the image
+/// follows on every input what the program shows in the mode.
 ///
 /// Refusals: those of `compile_in`.
 pub fn size_in(alloc: Global, mode: Mode, text: &[u8]) -> Result<Sized, BuildFault>
@@ -112,8 +112,8 @@ pub fn size_in(alloc: Global, mode: Mode, text: &[u8]) -> Result<Sized, BuildFau
     }
 }
 
-/// The same of the unit of these three parts, made again along its certificate; none if `audit_in` does not confirm it. It fails only if
-/// memory ran out.
+/// The same for the unit of these three parts, made again along its certificate; none if `audit_in` does not confirm it. It fails
+/// only if memory ran out.
 pub fn size_along_in(
     alloc: Global,
     mode: Mode,

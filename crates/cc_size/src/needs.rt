@@ -1,4 +1,4 @@
-// Tables over the functions of a unit: what each takes, and what the functions take that it calls, as deep as calls may go.
+// Tables over the functions of a unit: what each takes, and what the functions that it calls take, as deep as calls may go.
 
 ghost use Rattle.std.specs.Prelude.{◌≡◌, ◌≤◌, ℕ, ◌∷◌, [], length, get_or, IfOk};
 ghost use Rattle.cc_emit.specs.Contract.{largest_frame, most_open};
@@ -36,7 +36,7 @@ fn most_called(table: &[u32], items: &[PieceItem]) -> u32
     most
 }
 
-// The table in which one call more may be open than in this one. Each function takes so many bytes of its own.
+// The table in which one call more may be open than in this one. Each function takes this many bytes of its own.
 fn deeper(
     alloc: Global,
     own: &[u32],
@@ -55,8 +55,8 @@ fn deeper(
     Ok(more)
 }
 
-/// The table of the most that a call of each function takes, if so many calls may be open, that one counted, and each function takes so many
-/// bytes of its own.
+/// The table of the most that a call of each function takes, if this many calls may be open, including that one, and each
+/// function takes this many bytes of its own.
 pub(crate) fn needs(
     alloc: Global,
     own: &[u32],

@@ -1,4 +1,4 @@
-// Which calls are part of a cycle of calls: of each function it is found from which functions calls lead to it.
+// Which calls are part of a cycle of calls. For each function, the functions are found from which calls lead to it.
 
 ghost use Rattle.std.specs.Prelude.{◌≡◌, ◌<◌, ◌+◌, ◌==◌, ◌&&◌, ◌||◌, ◌++◌, ℕ, false, length, get_or, IfOk, OnOk};
 ghost use Rattle.cc_link.specs.Linked.{all_items, lent_pieces};
@@ -81,7 +81,7 @@ fn nearer(alloc: Global, pieces: &[&Piece], table: &[bool]) -> Result<Vec<bool>,
     Ok(more)
 }
 
-// Of each function whether calls lead from it to the target, at most as many as there are functions.
+// For each function whether calls lead from it to the target, at most as many as there are functions.
 fn leading(alloc: Global, pieces: &[&Piece], target: usize) -> Result<Vec<bool>, AllocError>
     requires { target < length pieces.now }
     ensures long { IfOk result (λ table. length table.items ≡ length pieces.now) }
@@ -133,7 +133,8 @@ fn add_of(
     Ok(())
 }
 
-/// The calls of a unit that are part of a cycle of calls, by who calls and then by who is called; the pieces are in the order of the functions.
+/// The calls of a unit that are part of a cycle of calls, ordered by the function that calls and then by the one that is called;
+/// the pieces are in the order of the functions.
 pub(crate) fn recursions(alloc: Global, pieces: &[&Piece]) -> Result<Vec<Recursion>, AllocError>
     ensures { IfOk result (λ found. AreCyclic (all_items (lent_pieces pieces.now)) found.items) }
 {

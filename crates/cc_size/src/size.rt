@@ -12,7 +12,7 @@ pub struct FunctionSize {
     pub frame: u32,
     /// The most bytes of stack that a call of it takes, with the calls in it, as deep as calls may go.
     pub stack: u32,
-    /// The longest chain of calls from it, itself counted: at most 1,024, as deep as calls may go.
+    /// The longest chain of calls from it, including itself: at most 1,024, as deep as calls may go.
     pub calls: u32,
 }
 
@@ -27,7 +27,7 @@ pub struct UnitSize {
     pub globals: usize,
     /// The calls that are part of a cycle of calls.
     pub recursions: Vec<Recursion>,
-    /// How many calls are open at most, that of main counted.
+    /// How many calls are open at most, including that of main.
     pub calls: u32,
     /// The bytes of stack that are enough for it.
     pub stack: u32,

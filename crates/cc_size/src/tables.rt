@@ -1,4 +1,4 @@
-// Tables of the functions whose pieces these are, in their order.
+// Tables of the functions with these pieces, in their order.
 
 ghost use Rattle.std.specs.Prelude.{◌≡◌, ℕ, get_or, IfOk};
 ghost use Rattle.cc_emit.specs.Contract.{largest_frame};

@@ -1,4 +1,4 @@
--- What is read of an answer last, and whether its lines and sources tell a fault, is one thing.
+-- The fault that is read last from an answer is the fault that its lines and sources report.
 use Rattle.std.proofs.Common.{◌≡◌, ◌≢◌, ◌∙◌, inl, inr, ℕ, ◌+◌, ◌-◌, ◌*◌, ◌<◌, ◌≤◌, zero, suc, min, Bool, true, false, true≢false, ◌&&◌, ◌==◌, nat_lt, if◌then◌else◌, List, [], ◌∷◌, ◌++◌, length, get_or, take, Option, Some, None, refl, sym, ap, subst, add-one, append_assoc, append-nil, arith, codes}
 use Rattle.std.specs.Prelude.{All, slice_index}
 use Rattle.std.specs.Char.{digit_value, is_ascii_digit}
@@ -27,7 +27,7 @@ either P false x y so never = never refl
 
 -- ---- what was read since the last whole part, by where that led
 
--- within the source that comes after a line, of which so many bytes are left
+-- within the source that comes after a line; this many of its bytes are left
 record IsIn (text : List ℕ) (left : ℕ) : Type 0 where
   line : List ℕ
   count : ℕ
@@ -49,7 +49,7 @@ record IsPast (text : List ℕ) : Type 0 where
   rest : List ℕ
   text_is : text ≡ line ++ 10 ∷ (source ++ byte ∷ rest)
 
--- however the line goes on it is none that a source comes after
+-- however the line goes on, no source comes after it
 abbrev NoHeader : List ℕ → Type 0
 NoHeader text = (more : List ℕ) (count : ℕ) → ¬ IsHeader (text ++ more) count
 
@@ -71,7 +71,7 @@ Reads Broken text = IsPast text
 
 -- ---- lines that a source comes after
 
--- where two texts are one, a byte of the first is that of the second
+-- if two texts are equal, a byte of the first is that of the second
 same_at : (text : List ℕ) (byte : ℕ) (more whole rest : List ℕ) → text ++ byte ∷ more ≡ whole ++ rest → length text < length whole → byte ≡ get_or whole (length text) 0
 same_at [] byte more [] rest e short = absurd (omega arith)
 same_at [] byte more (w ∷ whole) rest e short = cc
@@ -281,7 +281,7 @@ short_no_header text short = λ count h.
     let some = h.some in
     omega (arith, ap (λ (l : List ℕ). length l) h.line_is, length-append (codes "source ") h.digits, short, some)
 
--- a line that led to no length is none that a source comes after
+-- no source comes after a line that led to no length
 no_length : (place : Place) (text : List ℕ) → IsLinePlace place → ((number : ℕ) → place ≢ Length number) → Reads place text → (count : ℕ) → ¬ IsHeader text count
 no_length (Fault n) text line never r = short_no_header text (let few = r.1 in omega (arith, ap (λ (l : List ℕ). length l) r.0, length-take n (codes "fault "), few))
 no_length (Number n) text line never r = λ count h.
@@ -500,7 +500,7 @@ is_told lines some = either Is (is_within lines.place) (Some 55) lines.last (λ 
 is_cut : (lines : Lines) → is_within lines.place ≡ true → Is (last_told lines)
 is_cut lines within = either Is (is_within lines.place) (Some 55) lines.last (λ t. tt) (λ f. absurd (true≢false (sym within ∙ f)))
 
--- whatever was told before, the bytes are read to the beginning of a line
+-- whatever was reported before, the bytes are read to the beginning of a line
 abbrev Leads : (bytes : List ℕ) (last : Option ℕ) → Type 0
 Leads bytes last = (later : Option ℕ) × ((rest : List ℕ) → read_bytes (between last) (bytes ++ rest) ≡ read_bytes (between later) rest)
 

@@ -1,4 +1,4 @@
--- Who reads a source in an answer is behind it where it was before.
+-- A reader is in the same state after a source in an answer as before it.
 use Rattle.std.proofs.Common.{◌≡◌, ◌∙◌, ℕ, ◌+◌, ◌*◌, ◌<◌, ◌≤◌, suc, List, [], ◌∷◌, ◌++◌, length, Option, Result, Ok, Err, Vec, Global, refl, sym, ap, subst, append_assoc, arith, codes}
 use Rattle.std.specs.Prelude.{IfOk}
 use Rattle.std.specs.Char.{digit_value}
@@ -21,7 +21,7 @@ pub read_on : (lines : Lines) (x y : List ℕ) → read_bytes lines (x ++ y) ≡
 read_on lines [] y = refl
 read_on lines (b ∷ x) y = read_on (read_byte lines b) x y
 
--- where the byte leads is where the rest is read from
+-- the rest is read from the place to which the byte leads
 pub from_there : (place : Place) (last : Option ℕ) (byte : ℕ) (rest : List ℕ) (there : Place) → place_behind place byte ≡ there → told_at there last ≡ last
     → read_bytes (at place last) (byte ∷ rest) ≡ read_bytes (at there last) rest
 from_there place last byte rest there is same =

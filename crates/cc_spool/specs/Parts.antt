@@ -1,8 +1,8 @@
--- Of what an answer is made: lines, and sources, each after a line that says how many bytes it has. Whether it tells a fault.
+-- What an answer consists of: lines, and sources, each after a line that says how many bytes it has. Whether it reports a fault.
 use Rattle.std.specs.Prelude.{◌≡◌, ◌≢◌, ◌⊎◌, ◌<◌, ℕ, min, All, List, [], ◌∷◌, ◌++◌, length, Option, Some, None, codes}
 use Rattle.std.specs.Str.Parse.{AllDigits, digits_value}
 
--- the line says that a source comes after it, of this many bytes: `source` and a number, which counts as far as 32 bits go
+-- the line says that a source comes after it, of this many bytes: `source` and a number, which counts up to 32 bits
 pub record IsHeader (line : List ℕ) (count : ℕ) : Type 0 where
   pub digits : List ℕ
   pub some : 0 < length digits
@@ -39,7 +39,7 @@ abbrev pub parts_text : List Part → List ℕ
 parts_text [] = []
 parts_text (part ∷ parts) = part_text part ++ parts_text parts
 
--- ---- what an answer tells
+-- ---- what an answer reports
 
 -- a line that is not within a source begins with `fault `
 pub record HasFaultLine (answer : List ℕ) : Type 0 where
@@ -63,7 +63,7 @@ pub record EndsInSource (answer : List ℕ) : Type 0 where
 abbrev pub TellsFault : (answer : List ℕ) → Type 0
 TellsFault answer = HasFaultLine answer ⊎ EndsInSource answer
 
--- whether a fault is told is known
+-- whether a fault is reported is known
 abbrev pub Tells : {N : Type 0} → (answer : List ℕ) → (told : Option N) → Type 0
 Tells answer None = ¬ TellsFault answer
 Tells answer (Some number) = TellsFault answer

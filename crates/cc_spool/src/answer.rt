@@ -11,8 +11,8 @@ use std::io::{self, BufWriter, Write};
 /// The most bytes of an answer.
 const MOST_BYTES: u64 = 16_777_216;
 
-/// An answer that is being written, of 16,777,216 bytes at most. After a write or a flush that was refused all later ones are, since what
-/// stands in the file is not what was to be written.
+/// An answer that is being written, of 16,777,216 bytes at most. After a write or a flush was refused, all later ones are refused
+/// too: the file no longer has what was to be written.
 #[derive(Drop)]
 pub struct AnswerFile {
     writer: BufWriter<File>,
@@ -36,7 +36,7 @@ impl AnswerFile {
         })
     }
 
-    /// Writes what is left to write, and settles it. An `Err` where something of the answer was refused.
+    /// Writes what is left to write, and syncs it. An `Err` if something of the answer was refused.
     pub(crate) fn settle(&mut self) -> io::Result<()>
         ensures whole { OnOk result (self.old.is_refused ≡ false) }
     {

@@ -1,4 +1,4 @@
-// How each line of a script was answered, as its answer is written: by the line that ends the answer to it.
+// How each line of a script was answered. The line that ends the answer shows it, as the answer is written.
 
 use std::alloc::Global;
 
@@ -23,7 +23,7 @@ pub(crate) enum Word {
 /// How the lines were answered whose answers were written.
 #[derive(Drop)]
 pub(crate) struct AnswerWords {
-    // The line that is being written, as far as it matters.
+    // The line that is being written, up to the bytes that matter.
     line: Vec<u8>,
     // How many bytes of a source, with its newline, are to come.
     within: u64,
@@ -32,7 +32,7 @@ pub(crate) struct AnswerWords {
     is_whole: bool,
 }
 
-// The number that a word is, as far as it is one.
+// The number that the digits of a word spell.
 fn number_of(word: &[u8]) -> u32 {
     let mut number = 0u32;
     for byte in word {

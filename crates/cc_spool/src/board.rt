@@ -1,11 +1,12 @@
 // What waits in `new`, as all clients of one server know it.
 //
-// One client at a time looks through `new`, and all clients take the names that it found, the least first, each once. A look costs as much as
-// `new` has entries, and anybody may put entries there that can't be claimed. So no look is made while `new` is what it was, and a name that
-// could not be claimed is passed over for a while, which doubles each time. Then it is tried again without a look, after the names that were
-// never tried, and with so many others a second at most: so names that can't be claimed take no more of a processor the more they are, and a
-// script waits for few of them. If there are more names than are kept, and none of these could be claimed, the next look is for the names
-// after them: so names that can't be claimed hide no script.
+// One client at a time looks through `new`. All clients take the names that it found, the least first, each once. A look costs as
+// much as `new` has entries, and anybody may put entries there that can't be claimed. So no look is made while `new` is
+// unchanged, and a name that could not be claimed is passed over for a while, which doubles each time. Then it is tried again
+// without a look, after the names that were never tried, together with at most a fixed number of others a second. So names that
+// can't be claimed take no more of a processor the more there are, and a script waits for few of them. If there are more names
+// than are kept, and none of these could be claimed, the next look is for the names after them. So names that can't be claimed
+// hide no script.
 
 use crate::claims::may_be_claimed;
 use crate::entries::Entry;
@@ -20,7 +21,7 @@ use std::time::{Duration, Instant};
 /// The most entries of `new` that are looked at in one go, whatever they are.
 pub const MOST_ENTRIES: usize = 1_048_576;
 
-/// The most names that are kept of a look, the least ones, and the most that are passed over.
+/// The most names of a look that are kept, which are the least ones, and the most that are passed over.
 const MOST_NAMES: usize = 131_072;
 
 /// For how long a name is passed over that could not be claimed, in seconds: at first, and at most.
@@ -28,11 +29,11 @@ const LEAST_PASS: u64 = 1;
 
 const MOST_PASS: u64 = 30;
 
-/// A look is made after so many seconds even if `new` is what it was.
+/// A look is made after this many seconds even if `new` is unchanged.
 const LOOK_AGAIN: u64 = 10;
 
-/// The most names that were passed over and are tried again in one go, and the pause between two of these, in seconds. All that are kept are
-/// tried in less than the longest pass.
+/// The most names that were passed over and are tried again in one go, and the pause between two such goes, in seconds. All that
+/// are kept are tried in less than the longest pass.
 const MOST_AGAIN: usize = 5_000;
 
 const AGAIN: u64 = 1;
@@ -40,10 +41,11 @@ const AGAIN: u64 = 1;
 /// The most names that are looked at when it is asked whether a script waits.
 const MOST_LOOKED: usize = 64;
 
-/// How many seconds after the last change of `new` a look has to begin so that it saw all: a change within the clock's grain has the same time.
+/// How many seconds after the last change of `new` a look has to begin to see all: a change within the clock's grain has the same
+/// time.
 const GRAIN: u64 = 1;
 
-/// How many times as long as it took a look that may not have seen all is not made again, while `new` is what it was.
+/// A look that may not have seen all is not made again for this many times as long as it took, while `new` is unchanged.
 const REST: u32 = 16;
 
 /// A name that may be a script's.
@@ -57,13 +59,14 @@ pub(crate) struct Candidate {
 // A name that could not be claimed.
 #[derive(Drop)]
 struct Passed {
-    // By which it is found: each name of a look is looked for among all of these, and numbers are compared sooner than names.
+    // The key by which it is found: each name of a look is searched among all of these, and numbers are faster to compare than
+    // names.
     key: u64,
     name: String,
     // For how long it is passed over, in seconds, and until when.
     pass: u64,
     until: Instant,
-    // Whether the look that is being made saw it.
+    // Whether the look that is being made has seen it.
     is_seen: bool,
 }
 
@@ -85,7 +88,7 @@ struct Look {
 pub(crate) struct Board {
     // The names that are to be tried, the least last.
     waiting: Vec<Candidate>,
-    // Those that were passed over and are to be tried after these.
+    // Those that are passed over, ordered by key, and for one key by name.
     again: Vec<Candidate>,
     // Those that are passed over, in the order of their keys, and of one key in that of the names.
     passed: Vec<Passed>,
@@ -94,12 +97,12 @@ pub(crate) struct Board {
     // The first moment at which one of these is to be tried again, and the last one at which some were.
     next_try: Option<Instant>,
     tried: Option<Instant>,
-    // After which name to look, if there were more than are kept, and none of those could be claimed.
+    // The name after which to look, if there were more names than are kept, and none of those could be claimed.
     from: Option<String>,
     last: Option<Look>,
 }
 
-// The key of a name. Names that have one key are told apart all the same.
+// The key of a name. Names that have the same key are still distinguished.
 fn key_of(name: &str) -> u64 {
     let mut key = 0xcbf2_9ce4_8422_2325u64;
     for byte in name.as_bytes() {
@@ -118,7 +121,7 @@ impl Passed {
     }
 }
 
-// The earlier of two moments, of which the first may not be.
+// The earlier of two moments; the first may be missing.
 fn earlier(first: Option<Instant>, other: Instant) -> Option<Instant> {
     match first {
         Some(first) if first <= other => Some(first),
@@ -135,7 +138,7 @@ fn first_try(passed: &[Passed]) -> Option<Instant> {
     first
 }
 
-// Brings names back that are to be tried again now, as long as there are fewer than so many.
+// Brings names back that are to be tried again now, until there are this many.
 fn bring_back(passed: &mut Vec<Passed>, again: &mut Vec<Candidate>, alloc: Global, now: Instant) {
     for it in passed.iter_mut() {
         if again.len() < MOST_AGAIN && it.until <= now {
@@ -331,7 +334,7 @@ impl Board {
         for _ in 0..MOST_ENTRIES {
             match entries.next() {
                 Entry::Named(name) => self.note(name)?,
-                // A name that is no UTF-8 is none that is taken.
+                // A name that is not UTF-8 is not taken.
                 Entry::Odd => {}
                 Entry::Refused(refusal) => return Err(refusal),
                 Entry::End => return Ok(true),
@@ -391,7 +394,7 @@ impl Board {
         self.next_try = self.first_try();
     }
 
-    // After which name to look if none of those that wait can be claimed: none if these are all.
+    // The name after which to look if none of those that wait can be claimed: none if these are all.
     fn last_name(&self, alloc: Global) -> Result<Option<String>, Refusal> {
         match self.waiting.last() {
             Some(last) if self.waiting.len() == MOST_NAMES => {

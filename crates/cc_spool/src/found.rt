@@ -1,4 +1,4 @@
-// What a look at a file found: of all that the system tells, what the spool asks for.
+// What a look at a file found: the facts that the spool asks for, among all that the system reports.
 
 use crate::refusal::Refusal;
 use std::fs::{File, Metadata};
@@ -24,13 +24,13 @@ pub(crate) struct Found {
     pub(crate) user: u32,
     pub(crate) group: u32,
     pub(crate) bytes: u64,
-    /// When it was last written: the seconds since 1970, and the nanoseconds behind these.
+    /// When it was last written: the seconds since 1970, and the nanoseconds after these.
     pub(crate) seconds: i64,
     pub(crate) nanoseconds: i64,
 }
 
 impl Found {
-    /// Of what the system tells, what the spool asks for.
+    /// What the spool asks for, among what the system reports.
     pub(crate) fn of(told: &Metadata) -> Found {
         Found {
             device: told.dev(),

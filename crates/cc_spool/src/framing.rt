@@ -27,13 +27,13 @@ fn written(alloc: Global, source: &[u8]) -> Result<Vec<u8>, AllocError>
 pub fn frame(alloc: Global, source: &[u8]) -> Result<Vec<u8>, AllocError>
     requires { length source.now ≤ 65536 }
     ensures framed { IfOk result (λ text. text.items ≡ framed source.now) }
-    // Who reads an answer is behind it where it was before: no line within it counts.
+    // A reader is in the same state after the answer as before it: no line within it counts.
     ensures skipped { IfOk result (λ text. (last : Option ℕ) → read_bytes (between last) text.items ≡ between last) }
 {
     written(alloc, source)
 }
 
-/// The source that an answer is, where it has a source of 65,536 bytes at most and nothing else.
+/// The source in an answer, if the answer has one source of 65,536 bytes at most and nothing else.
 pub fn source_in(alloc: Global, answer: &[u8]) -> Result<Option<&[u8]>, AllocError>
     ensures { IfOk result (λ source. IfSome source (λ bytes. answer.now ≡ framed bytes.now)) }
 {
@@ -52,7 +52,7 @@ pub fn source_in(alloc: Global, answer: &[u8]) -> Result<Option<&[u8]>, AllocErr
     Ok(if is_it { Some(source) } else { None })
 }
 
-/// The lines of an answer that tell faults; behind them that of 55, where the answer ends within a source.
+/// The lines of an answer that report faults; after them the line of 55 if the answer ends within a source.
 pub fn fault_lines(alloc: Global, answer: &[u8]) -> Result<Vec<u8>, AllocError> {
     let mut told = Vec::new(alloc);
     let mut lines = Lines::new();

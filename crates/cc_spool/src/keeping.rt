@@ -1,10 +1,11 @@
 // What a server keeps in `done`, and for how long.
 //
-// Answers that nobody took away go after some days. If all of them together take more than they may, the oldest go before that, but none that is
-// younger than ten minutes, since its client may be about to read it. While these alone take more than they may, no script is claimed: so
-// nobody fills the disk by scripts whose answers are large.
+// Answers that nobody removed are removed after some days. If all of them together take more than they may, the oldest are
+// removed before that, but none that is younger than ten minutes, since its client may be about to read it. While these alone
+// take more than they may, no script is claimed. So nobody fills the disk by scripts whose answers are large.
 //
-// How much they take is counted as answers are handed over, and known anew after each look through `done`. A file counts as so many blocks.
+// How much they take is counted as answers are handed over, and determined again by each look through `done`. A file counts as a
+// number of blocks.
 
 use crate::entries::Entry;
 use crate::layout::FolderLayout;
@@ -16,7 +17,7 @@ use std::time::Instant;
 /// How many bytes a block has.
 const BLOCK: u64 = 4096;
 
-/// How old an answer has to be before it goes to make room, in seconds.
+/// How old an answer has to be before it is removed to make room, in seconds.
 const LEAST_AGE: i64 = 600;
 
 /// How often answers are cleared, in seconds, and how often if they take more than they may.
@@ -62,7 +63,7 @@ pub(crate) struct Keeping {
     is_told: bool,
 }
 
-/// How many bytes of blocks a file of so many bytes takes: one block at least.
+/// How many bytes the blocks of a file of this many bytes take: one block at least.
 pub(crate) fn taken_by(bytes: u64) -> u64 {
     bytes.div_ceil(BLOCK).max(1).saturating_mul(BLOCK)
 }
@@ -77,14 +78,15 @@ impl Keeping {
         }
     }
 
-    /// Clears answers if it is time, or if `taken` bytes of them are more than there may be; how many bytes are left then.
+    /// Clears answers if it is time, or if `taken`, the bytes that they take, is more than there may be. The result is how many
+    /// bytes are left then.
     pub(crate) fn clear_if_due(
         &mut self,
         layout: &FolderLayout,
         taken: u64,
     ) -> Result<Option<u64>, Refusal> {
         let now = Instant::now(&layout.rt)?;
-        // Once they are counted to take too much they are looked at; then, if none of them may go, now and again.
+        // Once they are counted to take too much they are looked at; then, if none of them may be removed, only now and again.
         let each = if taken <= self.limits.bytes {
             EACH
         } else if self.is_full {
@@ -112,7 +114,8 @@ impl Keeping {
         is_new && !self.limits.is_quiet
     }
 
-    // Lets the answers go that are too old, and the oldest of the others as long as they take too much; how many bytes are left.
+    // Removes the answers that are too old, and the oldest of the others while they take too much. The result is how many bytes
+    // are left.
     fn clear(&self, layout: &FolderLayout) -> Result<u64, Refusal> {
         layout.must_be_held()?;
         let now = i64::try_from(since_1970(&layout.rt)?.as_secs()).unwrap_or(0);
@@ -122,7 +125,7 @@ impl Keeping {
         for it in kept.iter() {
             left = left.saturating_add(it.bytes);
         }
-        // If some have to go for their size, an eighth of the room is made, so that not each next answer asks for a look.
+        // If some have to be removed for their size, an eighth of the room is made, so that not each next answer asks for a look.
         let most = if self.limits.bytes < left {
             self.limits.bytes - self.limits.bytes / 8
         } else {

@@ -7,7 +7,7 @@
 //     lock    held by the server
 //     stop    asks the server to end
 //
-// Clients write to `tmp` and `new`, so what stands there may be anything: it is looked at without following a link before it is opened, or
+// Clients write to `tmp` and `new`, so anything may be there: it is looked at without following a link before it is opened, or
 // not opened at all.
 
 use crate::board::Board;
@@ -52,7 +52,7 @@ pub struct FolderLayout {
     pub(crate) path: String,
     // The rights of files that are made in it.
     pub(crate) file_rights: u32,
-    // The file `lock`, where this server holds it.
+    // The file `lock`, if this server holds it.
     held: Option<Found>,
     // What all clients of one server know of it.
     pub(crate) common: Arc<Common>,
@@ -75,13 +75,13 @@ pub(crate) struct Common {
     // How many clients there are, and for how many seconds one may do a script while others wait.
     clients: u64,
     patience: u64,
-    // Whether the answers in `done` that may not go yet take more than they may. As long as they were not counted, that is taken to be so.
+    // Whether the answers in `done` that may not be removed yet take more than they may. Until they are counted, this is true.
     is_full: AtomicBool,
     // Whether the folder could not be used for a while.
     is_lost: AtomicBool,
 }
 
-/// The lock of a folder, held as long as it lives.
+/// The lock of a folder, held while this value exists.
 #[derive(Drop)]
 pub struct Held {
     file: File,
@@ -93,7 +93,7 @@ impl FolderLayout {
         FolderLayout::for_server(rt, alloc, path, ALL)
     }
 
-    /// The same, as a server has it that has these limits.
+    /// The same, as a server with these limits has it.
     pub fn for_server(
         rt: HostRuntime,
         alloc: Global,
@@ -142,7 +142,7 @@ impl FolderLayout {
         Ok(layout)
     }
 
-    /// Looks which rights files have that are made in it: where others may not write to `new`, it is a group's.
+    /// Looks which rights files get in it: if others may not write to `new`, it is a group's.
     pub(crate) fn look_for_rights(&mut self) {
         self.file_rights = match self.look_at("new") {
             Ok(Some(found)) if found.rights() & 0o002 == 0 => GROUP_FILE,
@@ -155,7 +155,7 @@ impl FolderLayout {
         self.file_rights == GROUP_FILE
     }
 
-    /// Takes the folder for this server, until what is returned is let go. None where another one has had it for a second.
+    /// Takes the folder for this server, until what is returned is released. None if another server held it for a whole second.
     pub(crate) fn lock(&self) -> Result<Option<Held>, Refusal> {
         let file = match self.look_at("lock")? {
             Some(found) if !found.is_file() => return Err(Refusal::NoLock),
@@ -181,7 +181,7 @@ impl FolderLayout {
         Ok(())
     }
 
-    /// An `Err` where the folder is another one than that whose lock is held, or can't be looked at.
+    /// An `Err` if the folder is not the one whose lock is held, or can't be looked at.
     pub(crate) fn must_be_held(&self) -> Result<(), Refusal> {
         let Some(held) = self.held else {
             return Ok(());
@@ -192,7 +192,7 @@ impl FolderLayout {
         }
     }
 
-    /// Whether a server holds the folder. A shared lock tells, which is let go at once.
+    /// Whether a server holds the folder. The answer comes from a shared lock, which is released at once.
     pub(crate) fn is_held(&self) -> Result<bool, Refusal> {
         match self.look_at("lock") {
             Ok(Some(found)) if found.is_file() => {
@@ -208,7 +208,7 @@ impl FolderLayout {
         self.common.is_lost.load(Ordering::SeqCst)
     }
 
-    /// Tells all that have this folder that it could not be used for a while.
+    /// Reports to all that have this folder that it could not be used for a while.
     pub(crate) fn give_up(&self) {
         self.common.is_lost.store(true, Ordering::SeqCst);
     }
@@ -218,7 +218,7 @@ impl FolderLayout {
         self.common.taken.load(Ordering::SeqCst)
     }
 
-    /// Notes that an answer was handed over which takes so many bytes.
+    /// Notes that an answer was handed over that takes this many bytes.
     pub(crate) fn note_taken(&self, bytes: u64) {
         self.common.taken.fetch_add(bytes, Ordering::SeqCst);
     }
@@ -228,7 +228,7 @@ impl FolderLayout {
         self.common.taken.store(bytes, Ordering::SeqCst);
     }
 
-    /// Whether the answers in `done` that may not go yet take more than they may.
+    /// Whether the answers in `done` that may not be removed yet take more than they may.
     pub(crate) fn is_full(&self) -> bool {
         self.common.is_full.load(Ordering::SeqCst)
     }
@@ -249,7 +249,7 @@ impl FolderLayout {
         self.common.busy.fetch_add(1, Ordering::SeqCst);
     }
 
-    /// Notes that a client is at the end of one that it began.
+    /// Notes that a client has ended a script that it began.
     pub(crate) fn note_ended(&self, client: u64) {
         self.common.busy.fetch_sub(1, Ordering::SeqCst);
         if self.is_leaving(client) {
@@ -273,7 +273,7 @@ impl FolderLayout {
         self.common.leaving.load(Ordering::SeqCst) == 0
     }
 
-    /// A client is to end its script for one that waits. It is asked by who has the board, so one at a time.
+    /// A client is to end its script for one that waits. The caller has the board, so this is done for one client at a time.
     pub(crate) fn leave(&self, client: u64) {
         self.common.leaving.store(client, Ordering::SeqCst);
     }
@@ -296,7 +296,8 @@ impl FolderLayout {
         }
     }
 
-    /// Takes back that the server is asked to end. An `Err` if `stop` can't be removed, or the folder is no longer the one that is held.
+    /// Withdraws the request that the server ends. An `Err` if `stop` can't be removed, or the folder is no longer the one that
+    /// is held.
     pub fn unstop(&self) -> io::Result<()> {
         Ok(self.take_stop_back()?)
     }
@@ -309,7 +310,8 @@ impl FolderLayout {
         }
     }
 
-    /// Takes back what asked an earlier server to end: a `stop` that was made before a file of this start. One that was made since asks this one.
+    /// Withdraws the request that an earlier server ends: a `stop` that was made before a file of this start. One that was made
+    /// since is for this server.
     pub(crate) fn take_old_stop_back(&self, begun: &Found) -> Result<(), Refusal> {
         match self.look_at("stop")? {
             Some(found) if found.is_older(begun) => self.take_stop_back(),
@@ -317,13 +319,13 @@ impl FolderLayout {
         }
     }
 
-    /// Settles which names a part has.
+    /// Syncs the names of a part.
     pub(crate) fn sync_part(&self, part: &str) -> Result<(), Refusal> {
         let part = self.open_part(part)?;
         settle(&part)
     }
 
-    /// Settles what was claimed, and which answers are being written.
+    /// Syncs what was claimed, and which answers are being written.
     pub(crate) fn sync_claims(&self) -> Result<(), Refusal> {
         self.sync_part("cur")
     }
@@ -335,15 +337,15 @@ impl FolderLayout {
         {
             return Err(refusal);
         }
-        // Else a power cut could lose a script that waits. If it is refused, the script waits all the same.
+        // Otherwise a power cut could lose a script that waits. If it is refused, the script waits all the same.
         let _ = self.sync_part("new");
         // If the old name stays, the file has two: the new one counts.
         let _ = self.remove(Place::Written, written);
         Ok(())
     }
 
-    // Whether a script is in `new` though the call was refused that put it there: over a network a call may be done and its answer be lost.
-    // If its name there is gone by then, the file has its second one in `cur`: a server has claimed it.
+    // Whether a script is in `new` though the call that put it there was refused: over a network a call may be done and its
+    // answer lost. If its name there is gone by then, the file has its second name in `cur`: a server has claimed it.
     fn is_published(&self, written: &str, name: &str) -> bool {
         match (
             self.look(Place::Written, written),
@@ -367,7 +369,7 @@ impl FolderLayout {
         format!(in self.alloc; "{path}/{part}/{name}{ending}")
     }
 
-    /// The user who has `cur`: the server's. An `Err` where the folder is gone, or can't be looked at.
+    /// The user who has `cur`: the server's. An `Err` if the folder is gone, or can't be looked at.
     pub(crate) fn server(&self) -> Result<u32, Refusal> {
         match self.look_at("cur")? {
             Some(found) => Ok(found.user),
@@ -383,7 +385,7 @@ impl FolderLayout {
 }
 
 impl Held {
-    /// Gives `lock` the rights of the folder's files. Where it is another user's it keeps its own.
+    /// Gives `lock` the rights of the folder's files. If it belongs to another user, it keeps its own.
     pub(crate) fn open_to_clients(&self, rights: u32) {
         let _ = self.file.set_permissions(Permissions::from_mode(rights));
     }

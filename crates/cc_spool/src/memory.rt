@@ -18,7 +18,7 @@ pub struct Answered<W: Drop> {
     pub fault: Option<u32>,
 }
 
-/// A spool in memory, for tests and for runs that need no folder: the scripts of a list, each behind a reader, with the writer of its
+/// A spool in memory, for tests and for runs that need no folder: the scripts of a list, each as a reader, with the writer of its
 /// answer. It gives one at a time, and is over when all are taken.
 #[derive(Drop)]
 pub struct MemorySpool<R: Drop, W: Drop> {
@@ -34,8 +34,8 @@ pub struct MemorySpool<R: Drop, W: Drop> {
 }
 
 impl<R: Read + Drop + Send, W: Write + Drop + Send> MemorySpool<R, W> {
-    /// A spool with these scripts, the first of which is taken first. It has room for as many answers from the beginning on, and fails only
-    /// where there is none (40).
+    /// A spool with these scripts, the first of which is taken first. It has room for as many answers from the beginning on, and
+    /// fails only if there is no memory for them (40).
     pub fn new(alloc: Global, scripts: Vec<(R, W)>) -> Result<MemorySpool<R, W>, AllocError>
         ensures waiting { IfOk result (λ spool. spool.waiting.items ≡ scripts.items) }
         ensures taken { IfOk result (λ spool. spool.taken.items ≡ []) }
@@ -149,7 +149,7 @@ impl<R: Read + Drop + Send, W: Write + Drop + Send> Spool for MemorySpool<R, W> 
         let answered = Answered { answer, fault };
         self.ended = self.ended.and(&answered);
         self.in_hand = false;
-        // There is room for as many answers as there were scripts. One more than that is dropped where memory is refused.
+        // There is room for as many answers as there were scripts. One more than that is dropped if memory is refused.
         let _ = self.answered.push(answered);
     }
 }

@@ -13,10 +13,10 @@ use std::time::{Duration, SystemTime};
 /// The most bytes of a script's name.
 const NAME_BYTES: usize = 64;
 
-/// What an answer's name has behind that of its script as long as it is being written. No name of a script ends so.
+/// The ending that an answer's name has after that of its script while it is being written. No name of a script ends so.
 pub const ANSWER: &str = ".answer";
 
-/// What the name of a file begins with that a server tries the folder with. No name of a script begins so.
+/// The beginning of the name of a file with which a server tries the folder. No name of a script begins so.
 pub const TRIED: &str = ".try-";
 
 fn is_letter(byte: u8) -> bool
@@ -54,7 +54,7 @@ fn random_bits(rt: &HostRuntime) -> Result<u64, Refusal> {
     Ok(u64::from_le_bytes(bytes))
 }
 
-/// The time since the beginning of 1970; none where the clock stands before that.
+/// The time since the beginning of 1970; none if the clock is before that.
 pub(crate) fn since_1970(rt: &HostRuntime) -> Result<Duration, Refusal> {
     let now = SystemTime::now(rt)?;
     Ok(

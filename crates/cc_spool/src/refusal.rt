@@ -1,12 +1,12 @@
 // Why a call in a folder was refused.
 //
-// An `io::Error` carries its words, and each function that hands one on is proved to move them. In here a refusal is the system's number, or
-// which of the spool's own it is; the words come back where it leaves the crate.
+// An `io::Error` carries its words, and each function that passes one on is proved to move them. In this crate a refusal is the
+// system's number, or which of the spool's own it is. The words come back when it leaves the crate.
 
 use std::alloc::AllocError;
 use std::io;
 
-/// The system's number where nothing is at a path.
+/// The system's number if nothing is at a path.
 const NOT_FOUND: i32 = 2;
 
 /// Why a call in a folder was refused.

@@ -1,8 +1,8 @@
 // Counts the steps of a run.
 //
-// The interpreter says how a run comes out within a bound, but not after how many steps. A run that ends within some bound ends within each
-// larger one, so the least is found by bisection. No bound is tried that is more than one above twice the number of steps in which the run
-// is known to go on. So a search costs some runs of twice the length, and never one of the whole bound.
+// The interpreter says how a run ends within a bound, but not after how many steps. A run that ends within some bound ends within
+// each larger one, so the least is found by bisection. No bound is tried that is more than one above twice the number of steps in
+// which the run is known to go on. So a search costs some runs of twice the length, and never one of the whole bound.
 
 ghost use Rattle.std.specs.Prelude.{◌≡◌, ◌≢◌, ◌↔◌, IsTrue, IfOk};
 ghost use Rattle.cc_c_semantics.specs.Outcome as outcome;
@@ -15,7 +15,7 @@ use cc_meaning::{MeaningFault, Outcome, Stop, interpret, runs_go_on};
 use cc_types::TypedUnit;
 use std::alloc::Global;
 
-/// How a run comes out, and after how many steps.
+/// How a run ends, and after how many steps.
 #[derive(Drop)]
 pub struct CountedOutcome {
     pub outcome: Outcome,

@@ -39,7 +39,7 @@ pub refused_in_line : (old between new : Option (List ℕ)) (is_written : Bool) 
     → SaysRefused is_written old new (10 ∷ [])
 refused_in_line old between new is_written was says = λ (yes : IsTrue is_written). either_in_line old between new was (says yes)
 
--- it is said of what is handed back
+-- it holds for what is handed back
 pub handed : (fetches : Bool) (came : Option Submission) (old new : Option (List ℕ)) (ended : Ended) → ended.came ≡ came → Prints fetches came old new ended.is_written ended.status
     → Prints fetches ended.came old new ended.is_written ended.status
 handed fetches came old new ended is prints = subst (λ (c : Option Submission). Prints fetches c old new ended.is_written ended.status) (sym is) prints
@@ -86,7 +86,7 @@ pub unread : (line : Option (List ℕ)) (old new : Option (List ℕ)) (is_writte
 unread line old new is_written is says =
     subst (λ (b : Bool). EndsAs b (fetches line) old new (record { came = Some Unread; status = 1; is_written = is_written })) (sym is) (refl, says)
 
--- what is sent and no line whose answer is a source is none
+-- what is sent and is no line whose answer is a source is no fetch
 pub not_fetch : (sent : Sent) → ((bytes : Vec ℕ Global) → sent ≡ Fetch bytes → ⊥) → is_fetch sent ≡ false
 not_fetch Script other = refl
 not_fetch (Line bytes) other = refl

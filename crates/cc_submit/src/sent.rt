@@ -1,4 +1,4 @@
-// What is sent of a line with bytes after it.
+// What is sent for a line with bytes after it.
 
 ghost use Rattle.std.specs.Prelude.{◌≡◌, ◌++◌, IfOk, OnOk, codes, length};
 ghost use Rattle.std.specs.Fmt.{decimal};
@@ -66,7 +66,7 @@ fn write_update<W: Write>(
     write_piece(source, writer)
 }
 
-/// What is sent of a line with a source or input words after it.
+/// What is sent for a line with a source or input words after it.
 pub(crate) fn script_with(alloc: Global, line: &str, bytes: &[u8]) -> io::Result<Vec<u8>>
     ensures { IfOk result (λ script. script.items ≡ text_with line.now bytes.now) }
 {
@@ -75,7 +75,7 @@ pub(crate) fn script_with(alloc: Global, line: &str, bytes: &[u8]) -> io::Result
     Ok(script)
 }
 
-/// What is sent of a line `update NAME` with the source that is expected and the new one.
+/// What is sent for a line `update NAME` with the source that is expected and the new one.
 pub(crate) fn update_script(
     alloc: Global,
     line: &str,

@@ -35,12 +35,12 @@ const NOT_TAKEN: &[u8] = b"fault 58 NotTaken\n";
 /// How a command ended.
 #[derive(Drop)]
 pub struct Ended {
-    /// What became of the script; none if it could not be left in the folder, or the line is no command. What was to be a source and was
-    /// cut short is lost.
+    /// What became of the script; none if it could not be left in the folder, or the line is no command. An answer that was to be
+    /// a source and was cut short is lost.
     pub came: Option<Submission>,
     /// The status.
     pub status: u8,
-    /// Whether all that was to be printed is.
+    /// Whether all that was to be printed is printed.
     pub is_written: bool,
 }
 
@@ -51,13 +51,13 @@ enum Sent<'a> {
     Script,
     // A line that takes no source.
     Line(Vec<u8>),
-    // The same, whose answer is a source.
+    // The same for a line whose answer is a source.
     Fetch(Vec<u8>),
     // A line with its source, how many bytes come before that, and where the source comes from.
     Source(Vec<u8>, usize, Origin<'a>),
 }
 
-// Whether a line takes a source, or input words: it is one with a length behind it.
+// Whether a line takes a source, or input words: it becomes a command with a length after it.
 fn takes_bytes(alloc: Global, line: &str) -> Result<bool, AllocError>
     ensures { IfOk result (λ takes. takes ≡ has_bytes (asked_of Served (line.now ++ 32 ∷ 48 ∷ []))) }
 {
@@ -72,7 +72,7 @@ fn takes_bytes(alloc: Global, line: &str) -> Result<bool, AllocError>
     })
 }
 
-// Whether a line takes two sources: it is one with two lengths behind it.
+// Whether a line takes two sources: it becomes a command with two lengths after it.
 fn takes_two_sources(alloc: Global, line: &str) -> Result<bool, AllocError>
     ensures { IfOk result (λ takes. takes ≡ has_two_sources (asked_of Served (line.now ++ 32 ∷ 48 ∷ 32 ∷ 48 ∷ []))) }
 {
@@ -158,19 +158,19 @@ fn source_on_input<R: Input>(rt: &R, alloc: Global) -> io::Result<Vec<u8>> {
     Ok(source)
 }
 
-// At which byte the source begins in a script that ends with it and a newline.
+// The offset of the source in a script that ends with it and a newline.
 fn begin_of(script: &[u8], source: &[u8]) -> usize {
     script.len().saturating_sub(source.len()).saturating_sub(1)
 }
 
-// What is sent of a line with input words.
+// What is sent for a line with input words.
 fn words_after<'a>(alloc: Global, line: &str, words: &str) -> io::Result<Sent<'a>>
     ensures { IfOk result (λ sent. is_fetch sent ≡ false) }
 {
     Ok(Sent::Line(script_with(alloc, line, words.as_bytes())?))
 }
 
-// What is sent of a line with a source.
+// What is sent for a line with a source.
 fn source_after<'a, R: Input>(
     rt: &R,
     alloc: Global,
@@ -185,7 +185,7 @@ fn source_after<'a, R: Input>(
     Ok(Sent::Source(script, begin, origin))
 }
 
-// What is sent of a line with the source that is expected, if there is one, and a source.
+// What is sent for a line with the source that is expected, if there is one, and a source.
 fn sources_after<'a, R: Input>(
     rt: &R,
     alloc: Global,
@@ -204,7 +204,7 @@ fn sources_after<'a, R: Input>(
     Ok(Sent::Source(script, begin, origin))
 }
 
-// What is sent of a line that is a command, with its input words or the source that it expects, if it has one of these.
+// What is sent for a line that is a command, with its input words or the source that it expects, if it has one of these.
 fn sent_of<'a, R: Input>(
     rt: &R,
     alloc: Global,
@@ -272,7 +272,7 @@ fn send<R: Input, W: Write, E: Write>(
     }
 }
 
-// Writes bytes; whether they are written.
+// Writes bytes. The result is whether they are written.
 fn put<W: Write>(text: &[u8], writer: &mut W) -> bool
     ensures { Says result (W.contents writer.old) (W.contents writer.new) text.now }
 {
@@ -285,7 +285,7 @@ fn put<W: Write>(text: &[u8], writer: &mut W) -> bool
     }
 }
 
-// Tells a person what is known of the fault that an answer told last: of one that stands in the source what `check` tells of that.
+// Explains to a person the fault that an answer reported last: for one with a place in the source, what `check` reports of that.
 fn explain<R: AllocGlobal, E: Write>(
     rt: &R,
     number: u32,
@@ -313,7 +313,7 @@ fn explain<R: AllocGlobal, E: Write>(
     Ok(())
 }
 
-// Tells a person what `check` tells of a source.
+// Explains to a person what `check` reports of a source.
 fn explain_source<R: AllocGlobal, E: Write>(
     rt: &R,
     source: &[u8],
@@ -328,7 +328,8 @@ fn explain_source<R: AllocGlobal, E: Write>(
     };
 }
 
-// Writes the line of the fault by which the system refused a call in the folder: 40 if it was memory, else 56; whether it is written.
+// Writes the line of the fault by which the system refused a call in the folder: 40 if it was memory, else 56. The result is
+// whether it is written.
 fn refused<W: Write>(why: &io::Error, writer: &mut W) -> bool
     ensures { SaysRefused result (W.contents writer.old) (W.contents writer.new) [] }
 {
@@ -339,7 +340,7 @@ fn refused<W: Write>(why: &io::Error, writer: &mut W) -> bool
     }
 }
 
-// Writes the line of a fault of the folder, and tells why and where the script is; whether the line is written.
+// Writes the line of a fault of the folder, and explains why and where the script is. The result is whether the line is written.
 fn folder_fault<W: Write, E: Write>(
     folder: &str,
     why: &io::Error,
@@ -362,7 +363,7 @@ fn folder_fault<W: Write, E: Write>(
     is_written
 }
 
-// The same of an answer that was not read to its end: what was written of it may have ended within a line.
+// The same for an answer that was not read to its end: what was written of it may have ended within a line.
 fn cut_short<W: Write, E: Write>(
     folder: &str,
     why: &io::Error,
@@ -377,7 +378,7 @@ fn cut_short<W: Write, E: Write>(
     is_ended && is_written
 }
 
-// Tells that a script was taken back; whether the line is written.
+// Reports that a script was taken back. The result is whether the line is written.
 fn not_taken<W: Write, E: Write>(asked: &Submitter, writer: &mut W, told: &mut E) -> bool
     ensures { Says result (W.contents writer.old) (W.contents writer.new) (codes "fault 58 NotTaken\n") }
 {
@@ -397,7 +398,7 @@ fn not_taken<W: Write, E: Write>(asked: &Submitter, writer: &mut W, told: &mut E
     is_written
 }
 
-// The status of what became of a script.
+// The status for what became of a script.
 fn status_of(done: &io::Result<Submission>) -> u8
     ensures { result ≡ status_of (came_of done.now) }
 {
@@ -407,7 +408,7 @@ fn status_of(done: &io::Result<Submission>) -> u8
     }
 }
 
-// Writes what became of a script after its answer, and tells a person of it; whether that is written.
+// Writes what became of a script after its answer, and explains it to a person. The result is whether that is written.
 fn tell<R: AllocGlobal, W: Write, E: Write>(
     rt: &R,
     done: &io::Result<Submission>,
@@ -447,7 +448,7 @@ fn tell<R: AllocGlobal, W: Write, E: Write>(
     }
 }
 
-// Writes what became of a script after its answer, and tells a person of it.
+// Writes what became of a script after its answer, and explains it to a person.
 fn finish<R: AllocGlobal, W: Write, E: Write>(
     rt: &R,
     done: io::Result<Submission>,
@@ -471,7 +472,7 @@ fn finish<R: AllocGlobal, W: Write, E: Write>(
     }
 }
 
-// Writes the source that an answer is which tells no fault, and nothing else.
+// Writes the source in an answer that reports no fault, and nothing else.
 fn finish_well<W: Write, E: Write>(
     alloc: Global,
     answer: &[u8],
@@ -505,7 +506,7 @@ fn finish_well<W: Write, E: Write>(
     }
 }
 
-// Writes the lines of the faults that an answer tells which was to be a source, and tells a person of the last.
+// Writes the lines of the faults in an answer that was to be a source, and explains the last one to a person.
 fn finish_fault<R: AllocGlobal, W: Write, E: Write>(
     rt: &R,
     number: u32,
@@ -533,7 +534,7 @@ fn finish_fault<R: AllocGlobal, W: Write, E: Write>(
     }
 }
 
-// Writes what became of a line whose answer is a source, and tells a person of it.
+// Writes what became of a line whose answer is a source, and explains it to a person.
 fn finish_source<R: AllocGlobal, W: Write, E: Write>(
     rt: &R,
     done: io::Result<Submission>,
@@ -559,7 +560,7 @@ fn finish_source<R: AllocGlobal, W: Write, E: Write>(
     }
 }
 
-// Leaves what is sent in the folder, writes the answer, and tells a person of it.
+// Leaves what is sent in the folder, writes the answer, and explains it to a person.
 fn leave<R: AllocGlobal + Input, W: Write, E: Write + Drop>(
     rt: &R,
     layout: &FolderLayout,
@@ -573,7 +574,7 @@ fn leave<R: AllocGlobal + Input, W: Write, E: Write + Drop>(
     ensures { Prints (is_fetch sent.now) result.came (W.contents writer.old) (W.contents writer.new) result.is_written result.status }
 {
     let wait = asked.wait;
-    // That it waits is told to who sees it, and not to a file.
+    // The note that it waits goes to a person who sees it, and not to a file.
     told.is_quiet = persons.is_quiet || !persons.is_watched;
     if let Sent::Fetch(_) = sent {
         let mut answer = Vec::new(rt.alloc());
@@ -586,10 +587,10 @@ fn leave<R: AllocGlobal + Input, W: Write, E: Write + Drop>(
     finish(rt, done, asked, sent, writer, told)
 }
 
-/// Leaves a script for the server of a folder, and writes its answer; what came of it and the status: 0 if an answer came, was written whole
-/// and tells no fault, 2 if the line is no command, else 1. Of an answer that is a source its bytes alone are written. The source of a line that
-/// takes one is in the texts, or on standard input; that which an update expects is given, else it is one that can't be read. The error is lack
-/// of memory before it began.
+/// Leaves a script for the server of a folder, and writes its answer. The result is what came of it and the status: 0 if an
+/// answer came, was written whole and reports no fault, 2 if the line is no command, else 1. If the answer is a source, its bytes
+/// alone are written. The source of a line that takes one is in the texts, or on standard input; the source that an update
+/// expects is given, or else is one that can't be read. The error is lack of memory before it began.
 pub fn submit_to<R: AllocGlobal + Input, W: Write, E: Write + Drop>(
     rt: &R,
     layout: &FolderLayout,
@@ -637,9 +638,9 @@ pub fn submit_to<R: AllocGlobal + Input, W: Write, E: Write + Drop>(
     Ok(ended)
 }
 
-/// Leaves a script for the server of a folder, and prints its answer, as `submit_to` does; the status. The source of a line that takes one is in
-/// the files of these names, or on standard input if there are none. If the answer is seen by a person control bytes of it are shown as `?`. The
-/// error is lack of memory before it began.
+/// Leaves a script for the server of a folder, and prints its answer, as `submit_to` does. The result is the status. The source
+/// of a line that takes one is in the files of these names, or on standard input if there are none. If a person sees the answer,
+/// control bytes of it are shown as `?`. The error is lack of memory before it began.
 pub fn submit_script<R: AllocGlobal + Input, A: Write + Drop, E: Write + Drop>(
     rt: &R,
     files: &HostRuntime,

@@ -1,4 +1,4 @@
--- What is taken out of a disk: what is said of the map that was recovered, said of the disk.
+-- What is taken out of a disk: what holds for the map that was recovered, stated for the disk.
 use Rattle.std.proofs.Common.{ℕ, Bool, IsTrue, List, Result, Ok, Err, IfOk, IfErr}
 use Rattle.cc_library.specs.Apply.{Units}
 use Rattle.cc_library.specs.Recovered.{Recovers}
@@ -6,7 +6,7 @@ use Rattle.cc_tasks.specs.Part.{IsNoPartIn, IsNoPartOn}
 use Rattle.cc_tasks.specs.declared.part.PartFault.{PartFault}
 use Rattle.cc_tasks.specs.declared.part.PartFault.TheVariants.{BadName, Absent, Library, OutOfMemory}
 
--- what is said of each answer
+-- what holds for each answer
 pub of_ok : {A F : Type 0} {P Q : A → Type 0} → ((a : A) → P a → Q a) → (r : Result A F) → IfOk r P → IfOk r Q
 of_ok step (Ok a) p = step a p
 of_ok step (Err f) p = tt

@@ -85,7 +85,7 @@ abbrev pub IsMeasured : Mode → (text : List ℕ) → Answer → Type 0
 IsMeasured m text (Measured it) = Measures m text it
 IsMeasured m text answer = ⊥
 
--- what `safe` answers: if nothing may go wrong, that the program goes wrong for no cause, on no input and at no bound
+-- what `safe` answers: if nothing may go wrong, it says that the program goes wrong for no cause, on no input and at no bound
 abbrev pub IsJudged : (text : List ℕ) → Answer → Type 0
 IsJudged text (Judged lines) = (p : ProgramOf text) × (lines.items ≡ [] → IsSafe p.program)
 IsJudged text answer = ⊥
@@ -102,7 +102,7 @@ Answers (ImageTask kind) text answer = IsImage (mode_of kind) text answer
 Answers (Size kind) text answer = IsMeasured (mode_of kind) text answer
 Answers Safe text answer = IsJudged text answer
 
--- why a text gets no answer for which no image is made: it is no program's, or memory was refused
+-- why a text gets no answer from a task that makes no image: it is no program's, or memory was refused
 abbrev pub HasNoProgram : (text : List ℕ) → Fault → Type 0
 HasNoProgram text (Text f) = IsTextRefusal text f
 HasNoProgram text (Meaning f) = Unit {0}
@@ -113,7 +113,8 @@ HasNoProgram text OutOfMemory = Unit {0}
 HasNoProgram text Read = ⊥
 HasNoProgram text Write = ⊥
 
--- why it gets none for which an image is made: it is no program's, it has no image in the mode, or memory was refused
+-- why a text gets no answer from a task that makes an image: it is no program's, it has no image in the mode, or memory was
+-- refused
 abbrev pub HasNoImage : Mode → (text : List ℕ) → Fault → Type 0
 HasNoImage m text (Text f) = IsTextRefusal text f
 HasNoImage m text (Meaning f) = ⊥

@@ -26,11 +26,11 @@ pub enum Answer {
     Accepted,
     /// What the program does.
     Ran(Outcome),
-    /// What the program's image has written, and what its run has come to.
+    /// What the program's image has written, and how its run ended.
     Executed(ImageRun),
     /// What the program does, and in how many steps.
     RanCounted(CountedOutcome),
-    /// What the program's image has written and come to, and in how many instructions.
+    /// What the program's image has written, how its run ended, and in how many instructions.
     ExecutedCounted(CountedRun),
     /// The listing of the program's image.
     Listed(Vec<u8>),
@@ -38,11 +38,11 @@ pub enum Answer {
     Image(Vec<u8>),
     /// What the program's image takes.
     Sized(Measure),
-    /// What may go wrong in the program, where it is not said that nothing may.
+    /// What may go wrong in the program, unless it is shown that nothing may.
     Judged(Vec<Unsure>),
 }
 
-// That the text is a program.
+// Answers that the text is a program.
 fn accepted(alloc: Global, text: &[u8]) -> Result<Answer, Fault>
     ensures answer { IfOk result (λ answer. IsAccepted text.now answer) }
     ensures refused { IfErr result (λ fault. HasNoProgram text.now fault) }
@@ -54,7 +54,7 @@ fn accepted(alloc: Global, text: &[u8]) -> Result<Answer, Fault>
     Ok(Answer::Accepted)
 }
 
-// What the program does on the input words. 40 where memory was refused as it ran.
+// What the program does on the input words. 40 if memory was refused as it ran.
 fn ran(alloc: Global, text: &[u8], words: &[u32], steps: u64) -> Result<Answer, Fault>
     ensures answer { IfOk result (λ answer. IsRan steps words.now text.now answer) }
     ensures refused { IfErr result (λ fault. HasNoProgram text.now fault) }
@@ -101,7 +101,7 @@ pub(crate) fn compiled(alloc: Global, mode: Mode, text: &[u8]) -> Result<Compile
     }
 }
 
-// What the program's image does on the input words. 40 where memory was refused as it ran.
+// What the program's image does on the input words. 40 if memory was refused as it ran.
 fn executed(
     alloc: Global,
     mode: Mode,
@@ -180,10 +180,10 @@ fn judged(alloc: Global, text: &[u8]) -> Result<Answer, Fault>
     }
 }
 
-/// The answer to a task for a text: `check` and `interpret` by its tree, `run`, `asm`, `image` and `size` by its image, which agrees with it and follows
-/// what the program shows in its mode.
+/// The answer to a task for a text: `check` and `interpret` by its tree, `run`, `asm`, `image` and `size` by its image, which
+/// agrees with it and follows what the program shows in its mode.
 ///
-/// Refusals: those of `typed_unit`; for `run`, `asm`, `image` and `size` then 22, 24 and 25 of `compile_in`; 40 where memory was
+/// Refusals: those of `typed_unit`; for `run`, `asm`, `image` and `size` then 22, 24 and 25 of `compile_in`; 40 if memory was
 /// refused.
 pub fn answer_for(alloc: Global, task: &Task, text: &[u8]) -> Result<Answer, Fault>
     ensures answer { IfOk result (λ answer. Answers task.now text.now answer) }

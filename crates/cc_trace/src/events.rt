@@ -56,7 +56,7 @@ pub struct Counts {
 }
 
 impl Counts {
-    /// For so many instructions and functions, before any run.
+    /// For this many instructions and functions, before any run.
     pub fn new(alloc: Global, instructions: usize, functions: usize) -> Result<Counts, AllocError> {
         Ok(Counts {
             instructions: zeros(alloc, instructions)?,
@@ -64,7 +64,7 @@ impl Counts {
         })
     }
 
-    /// Of nothing.
+    /// Counts for nothing.
     pub fn nothing(alloc: Global) -> Counts {
         Counts {
             instructions: Vec::new(alloc),

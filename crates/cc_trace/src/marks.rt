@@ -1,8 +1,8 @@
-// From which place in the text each instruction of a tree comes.
+// The place in the text from which each instruction of a tree comes.
 //
-// `cc_diagnostic` writes the instructions of a tree in the order of its text, and keeps no places. This walk goes over the
-// tree in the same order and writes a mark whenever that one writes an instruction, so that the marks are as many, in the same order. Whoever uses
-// them compares how many there are.
+// `cc_diagnostic` writes the instructions of a tree in the order of its text, and keeps no places. This walk goes over the tree
+// in the same order and writes a mark whenever that one writes an instruction, so there are as many marks, in the same order.
+// Whoever uses them compares how many there are.
 
 use cc_resolve::unary_operation;
 use cc_syntax::{
@@ -13,7 +13,7 @@ use cc_tokens::{Keyword, Token, TokenKind, tokens};
 use cc_types::{applied_operator, step_operator};
 use std::alloc::{AllocError, Global};
 
-/// What an instruction that comes from no place of the text has as its place.
+/// The place of an instruction that comes from no place of the text.
 pub const NOWHERE: usize = usize::MAX;
 
 /// The origin of an instruction: an offset in the text; and which name it gives a value, if the text says so there.

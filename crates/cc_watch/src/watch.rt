@@ -11,7 +11,8 @@ const BEGIN: &[u8] = b"fault ";
 #[derive(Drop)]
 pub struct FaultWatch<W: Drop> {
     writer: W,
-    // How many bytes of the line so far are those with which the line of a fault begins; more than these have where another byte came.
+    // How many bytes of the line so far are those with which the line of a fault begins; more than these have if another byte
+    // came.
     matched: usize,
     has_fault: bool,
     ghost few: { matched ≤ 7 },

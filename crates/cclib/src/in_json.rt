@@ -81,7 +81,7 @@ where
     do_work(rt, files, answers, told, false, persons, work, names)
 }
 
-/// Does a work that can be printed as JSON; the status. Nobody reads about what waits or goes on.
+/// Does a work that can be printed as JSON. The result is the status. Nobody reads about what waits or goes on.
 pub fn do_work_in_json<R>(
     rt: &R,
     files: &HostRuntime,

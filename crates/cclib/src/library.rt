@@ -14,14 +14,14 @@ use std::rt::Clock;
 use std::sync::Wait;
 use std::thread::Threads;
 
-// Tells a person how far a long `add` is: the workers pass it before each function.
+// Shows a person how far a long `add` is: the workers pass it before each function.
 #[derive(Drop)]
 struct Progress<R> {
     rt: R,
     is_shown: bool,
 }
 
-/// How many functions are compiled between two words about them.
+/// How many functions are compiled between two notes about them.
 const STEP: u32 = 16;
 
 impl<R: Eprint> Gate for Progress<R> {
@@ -39,12 +39,13 @@ fn status(end: SessionEnd) -> u8 {
     }
 }
 
-// Whether answers go where nobody sees how far they are.
+// Whether answers go to a place where nobody sees how far they are.
 fn is_out_of_sight(files: &HostRuntime) -> bool {
     !files.stdout().is_terminal()
 }
 
-/// Does the script on standard input over the library in a file; the status. The error is lack of memory before it began.
+/// Does the script on standard input over the library in a file. The result is the status. The error is lack of memory before it
+/// began.
 pub fn library_session<R, A: Write + Drop, E: Write + Drop>(
     rt: &R,
     files: &HostRuntime,

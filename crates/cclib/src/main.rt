@@ -1,8 +1,8 @@
-//! The program `cclib`: reads a C program from standard input or from files, and checks, interprets, runs or lists it, or does a script over a library.
-//! How a command line is read is the matter of `cc_command_line`, how a task is done that of `cc_tasks`, a script that of `cc_session`, the
-//! file of a library and what is taken out of one that of `cc_filing`, what looks into libraries that of `cc_keeping`, a server's client that of
-//! `cc_submit`, what is printed as JSON that of `cc_json`, a run that is watched that of `cc_cover`. `keeping` looks into libraries, `library`
-//! has a session over a file, `serving` a server, `stack` what the stack needs, `texts` a program that comes in files, `in_json` does a work in
+//! The program `cclib`: reads a C program from standard input or from files, and checks, interprets, runs or lists it, or does a
+//! script over a library. `cc_command_line` reads the command line, `cc_tasks` does a task, `cc_session` a script. `cc_filing`
+//! has the file of a library and what is taken out of one, `cc_keeping` what looks into libraries, `cc_submit` a server's client,
+//! `cc_json` what is printed as JSON, `cc_cover` a run that is watched. `keeping` looks into libraries, `library` has a session
+//! over a file, `serving` a server, `stack` what the stack needs, `texts` a program that comes in files, `in_json` does a work in
 //! JSON, `watching` runs that are watched, `version` names the sources of the program.
 #![tactic(auto)]
 
@@ -41,8 +41,9 @@ use watching::{start_cover, start_trace};
 
 /// Does what the command line asks; the status is 0 for an answer, 1 for a fault, 2 for a refused command line.
 ///
-/// Standard input, output and error that are closed are taken before any file is opened, until the end: else the file of a library would get
-/// the descriptor of one, and what is printed would go into it. If they can't be taken nothing is done, and the status is 1.
+/// Standard input, output and error that are closed are taken before any file is opened, until the end. Otherwise the file of a
+/// library would get the descriptor of one, and what is printed would go into it. If they can't be taken nothing is done, and the
+/// status is 1.
 fn main(rt: HostRuntime) -> ExitCode {
     let Ok(stand_ins) = take_free(&mut System { rt }) else {
         return ExitCode::from(1);
@@ -114,7 +115,7 @@ fn start_stages<R: AllocGlobal + Input + Print, E: Write + Drop>(
     status
 }
 
-// The same of the text on standard input.
+// The same for the text on standard input.
 fn start_stages_of_input<R: AllocGlobal + Input + Print, E: Write + Drop>(
     rt: &R,
     kind: Kind,
@@ -136,7 +137,7 @@ fn start_stages_of_input<R: AllocGlobal + Input + Print, E: Write + Drop>(
     })
 }
 
-// The status where there is no work; the error is lack of memory.
+// The status if there is no work; the error is lack of memory.
 fn status_of<R: Print>(rt: &R, files: &HostRuntime, nothing: NoRequest) -> Result<u8, AllocError> {
     match nothing {
         NoRequest::Told(status) => Ok(status),
@@ -145,7 +146,8 @@ fn status_of<R: Print>(rt: &R, files: &HostRuntime, nothing: NoRequest) -> Resul
     }
 }
 
-// Does what the command line asks; the status. The error is lack of memory before the work began. Files are opened by a handle of their own.
+// Does what the command line asks. The result is the status. The error is lack of memory before the work began. Files are opened
+// by a handle of their own.
 fn run<R, E: Write + Drop>(
     rt: &R,
     files: &HostRuntime,
@@ -211,13 +213,13 @@ where
     )
 }
 
-// Whether a work may need more of the stack than a process begins with: each but a client's, which sends texts as they are.
+// Whether a work may need more of the stack than a process begins with: each but that of a client, which sends texts as they are.
 fn goes_deep(work: &Work) -> bool {
     !matches!(work, Work::Submit(_))
 }
 
-/// Does a work; if its program is in files, these are named. What can be printed as JSON but a task is written to `answers`, which a person may
-/// see, the rest to standard output.
+/// Does a work; if its program is in files, these are named. The answers of a work that can be printed as JSON, except a task, go
+/// to `answers`, which a person may see. The rest goes to standard output.
 pub(crate) fn do_work<R, A: Write + Drop, E: Write + Drop>(
     rt: &R,
     files: &HostRuntime,

@@ -19,7 +19,7 @@ use std::rt::Clock;
 use std::sync::Wait;
 use std::thread::Threads;
 
-// Keeps the folder from one generation to the next, and tells a person of them.
+// Keeps the folder from one generation to the next, and reports on them to a person.
 #[derive(Drop)]
 struct Serving {
     keeper: Keeper,
@@ -54,7 +54,7 @@ fn print_served<W: Write>(answered: u64, writer: &mut W) -> io::Result<()>
     writer.flush()
 }
 
-// The same; whether it was printed.
+// The same. The result is whether it was printed.
 fn is_served_printed<W: Write, E: Write>(answered: u64, writer: &mut W, told: &mut E) -> bool
     ensures { result ≡ true → Appends (W.contents writer.old) (W.contents writer.new) (codes "served " ++ decimal answered ++ 10 ∷ []) }
 {
@@ -68,7 +68,7 @@ fn is_served_printed<W: Write, E: Write>(answered: u64, writer: &mut W, told: &m
     }
 }
 
-// Writes how serving ended, where no line of a fault was written; whether all that had to be printed was.
+// Writes how serving ended, if no line of a fault was written. The result is whether all that had to be printed was.
 fn write_end<W: Write, E: Write>(
     end: SessionEnd,
     counts: AnswerCounts,
@@ -104,7 +104,7 @@ fn status_of(end: SessionEnd, counts: AnswerCounts, is_printed: bool) -> u8
     }
 }
 
-// Serves a folder that was taken, over a library's disk; the status. The folder is let go when all is done.
+// Serves a folder that was taken, over a library's disk. The result is the status. The folder is released when all is done.
 fn serve_taken<R, W: Write, E: Write>(
     rt: &R,
     taken: Taken,
@@ -151,7 +151,7 @@ where
     let counts = count_all(spools.as_slice());
     drop(spools);
     if !counts.has_failed {
-        // The next start takes it away where it can't be now.
+        // If it can't be removed now, the next start removes it.
         let _ = layout.unstop();
     }
     let is_printed = write_end(end, counts, asked.folder.as_str(), writer, told);
@@ -159,8 +159,8 @@ where
     Ok(status_of(end, counts, is_printed))
 }
 
-/// Serves a folder until it has `stop`; the status: 0 if the service ended well, each answer was handed over, and `served N` was printed, else
-/// 1. The error is lack of memory before it began.
+/// Serves a folder until it has `stop`. The result is the status: 0 if the service ended well, each answer was handed over, and
+/// `served N` was printed, else 1. The error is lack of memory before it began.
 pub fn serve_folder<R, E: Write + Drop>(
     rt: &R,
     files: &HostRuntime,

@@ -9,7 +9,7 @@ use cc_tasks::{
 use std::alloc::AllocError;
 use std::io::{self, BufWriter, Input, Print, Write};
 
-/// Does a task for the program in these files; the status. The error is lack of memory before it began.
+/// Does a task for the program in these files. The result is the status. The error is lack of memory before it began.
 pub fn start_texts<R: AllocGlobal + Input + Print, E: Write + Drop>(
     rt: &R,
     files: &HostRuntime,
@@ -46,7 +46,8 @@ pub fn start_texts<R: AllocGlobal + Input + Print, E: Write + Drop>(
     Ok(done.status)
 }
 
-/// Shows what the compiler makes of the program in these files; the status. The error is lack of memory before it began.
+/// Shows what the compiler makes of the program in these files. The result is the status. The error is lack of memory before it
+/// began.
 pub fn start_stages_of_texts<R: AllocGlobal + Input + Print, E: Write + Drop>(
     rt: &R,
     files: &HostRuntime,

@@ -39,7 +39,7 @@ fn write_wanted<W: Write>(text: &[u8], writer: &mut W) -> io::Result<()> {
     writer.flush()
 }
 
-/// Prints the sources of the program, if it is installed; the status.
+/// Prints the sources of the program, if it is installed. The result is the status.
 pub fn print_sources<R: Print>(rt: &R, files: &HostRuntime) -> u8 {
     match sources(files) {
         Ok(text) => u8::from(write_wanted(text.as_slice(), &mut io::writer(rt)).is_err()),

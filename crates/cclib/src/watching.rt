@@ -8,7 +8,8 @@ use std::alloc::AllocError;
 use std::io::{self, BufWriter, Input, Write};
 use std::rt::Clock;
 
-/// Does `trace` for the program in these files, or on standard input if no file is named; the status. The error is lack of memory before it began.
+/// Does `trace` for the program in these files, or on standard input if no file is named. The result is the status. The error is
+/// lack of memory before it began.
 pub fn start_trace<R: AllocGlobal + Input, A: Write + Drop, E: Write + Drop>(
     rt: &R,
     files: &HostRuntime,

@@ -111,7 +111,7 @@ fn refuses_word(alloc: Global, unit: &StoredUnit, place: usize) -> Result<bool, 
     Ok(with_source(alloc, unit.source.bytes(), certificate, &image)? == "unconfirmed")
 }
 
-// The same of one word in sixteen.
+// The same for one word in sixteen.
 fn refuses_words(alloc: Global, unit: &StoredUnit) -> Result<bool, Fail> {
     for place in 0..unit.image.code.words().len() {
         if place % 16 == 0 && !refuses_word(alloc, unit, place)? {
@@ -167,8 +167,8 @@ fn with_byte(alloc: Global, bytes: &[u8], byte: u8) -> Result<Vec<u8>, Fail> {
     Ok(other)
 }
 
-// Whether an audit refuses the unit with each of these certificates: one byte shorter, one longer, with another number of functions, without
-// a byte, with its number of functions alone, and with lengths that lie; and says so of one without a certificate.
+// Whether an audit refuses the unit with each of these certificates: one byte shorter, one longer, with another number of
+// functions, without a byte, with its number of functions alone, and with lengths that lie; and reports that a unit has none.
 fn refuses_all(alloc: Global, unit: &StoredUnit) -> Result<bool, Fail> {
     let own = certificate_of(unit)?;
     let mut refused = true;
@@ -210,7 +210,7 @@ fn refuses_byte(alloc: Global, unit: &StoredUnit, own: &[u8], place: usize) -> R
     Ok(with_certificate(alloc, unit, Some(other.as_slice()))? == "unconfirmed")
 }
 
-// The same of each byte.
+// The same for each byte.
 fn refuses_bytes(alloc: Global, unit: &StoredUnit) -> Result<bool, Fail> {
     let own = certificate_of(unit)?;
     for place in 0..own.len() {
@@ -258,7 +258,7 @@ fn other_texts(rt: HostRuntime) -> Result<(), Fail> {
     passes(right)
 }
 
-// Which part of a unit fails, as a word: of the text with its fault's number, of a function with the place of its name.
+// Which part of a unit fails, as a word: for the text with its fault's number, for a function with the place of its name.
 fn part(failed: Option<FailedPart>) -> (&'static str, usize, usize) {
     match failed {
         None => ("none", 0, 0),
@@ -273,7 +273,7 @@ fn part(failed: Option<FailedPart>) -> (&'static str, usize, usize) {
     }
 }
 
-// The part that fails of a text with a unit's image and another certificate.
+// The part that fails for a text with a unit's image and another certificate.
 fn failed_with(
     alloc: Global,
     unit: &StoredUnit,
@@ -376,7 +376,7 @@ fn slots_for_all(rt: HostRuntime) -> Result<(), Fail> {
     passes(right)
 }
 
-// A certificate is the number of functions, and of each its length and the bytes of its LTL.
+// A certificate is the number of functions, and for each its length and the bytes of its LTL.
 fn is_spelled(alloc: Global, unit: &StoredUnit, functions: usize) -> Result<bool, Fail> {
     let Some((prefix, mut rest)) = certificate_of(unit)?.split_at_checked(4) else {
         return Ok(false);

@@ -6,7 +6,7 @@ use cc_rv32::outcome::MachineOutcome;
 use std::alloc::Global;
 use std::test::Fail;
 
-/// What a run comes to: its input, how many instructions it may take, the words that it writes, and its outcome.
+/// A run: its input, how many instructions it may take, the words that it writes, and its outcome.
 #[derive(Clone, Copy)]
 pub struct Run<'a> {
     pub input: &'a [u32],
@@ -15,7 +15,7 @@ pub struct Run<'a> {
     pub outcome: MachineOutcome,
 }
 
-/// A run that reads these words, takes so many instructions at most, writes those, and ends with 0.
+/// A run that reads these words, takes at most this many instructions, writes those, and ends with 0.
 pub fn ends_well<'a>(input: &'a [u32], steps: u64, words: &'a [i32]) -> Run<'a> {
     Run {
         input,

@@ -4,7 +4,7 @@ use std::alloc::{AllocError, Global};
 use std::ops::Range;
 use tests_texts::parts::append;
 
-/// Puts a part behind a text, with a number between its halves.
+/// Adds a part to a text, with a number between its halves.
 fn append_number(
     alloc: Global,
     text: &mut Vec<u8>,

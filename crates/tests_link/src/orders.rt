@@ -20,7 +20,7 @@ pub fn piece(alloc: Global, unit: &Arc<TypedUnit>, function: usize) -> Result<Pi
     Ok(compile_function(alloc, unit, function)?)
 }
 
-/// Puts the pieces of all functions of a unit behind others.
+/// Adds the pieces of all functions of a unit after others.
 pub fn add_pieces(
     alloc: Global,
     pieces: &mut Vec<Piece>,
@@ -75,7 +75,7 @@ fn is_same(
     Ok(same)
 }
 
-/// What a list of pieces comes to, with the function's number and its piece's place in the list.
+/// The answer for a list of pieces, with the function's number and its piece's place in the list.
 #[derive(Clone, Copy, PartialEq)]
 enum Answer {
     Image,
@@ -98,8 +98,8 @@ fn answer_for(alloc: Global, unit: &Arc<TypedUnit>, pieces: &[Piece], places: &[
     }
 }
 
-/// Lists of pieces and what they come to. Pieces 0 and 1 are those of the unit with 24 locals, 2 the `main` of another text, 3 and 4 those
-/// of a second unit with the first one's text.
+/// Lists of pieces and their answers. Pieces 0 and 1 are those of the unit with 24 locals, 2 the `main` of another text, 3 and 4
+/// those of a second unit with the first one's text.
 static LISTS: [(&[usize], Answer); 17] = [
     (&[0, 1], Answer::Image),
     (&[1, 0], Answer::Image),
@@ -123,7 +123,7 @@ static LISTS: [(&[usize], Answer); 17] = [
     (&[1, 2, 1], Answer::Stranger(0, 1)),
 ];
 
-// Whether each of the lists comes to its answer.
+// Whether each of the lists gets its answer.
 fn are_answered(alloc: Global, unit: &Arc<TypedUnit>, pieces: &[Piece]) -> bool {
     for (places, answer) in LISTS.iter() {
         if answer_for(alloc, unit, pieces, places) != *answer {
@@ -172,7 +172,7 @@ fn function_by_function(rt: HostRuntime) -> Result<(), Fail> {
     passes(Ok(right && kept))
 }
 
-/// Four functions, of which each calls others, before and behind it.
+/// Four functions, each of which calls others, before and after it.
 const FOUR: &str =
     "int c(int);int a[3]={1,2,3};int b(int n){a[1]=n;return n*2+c(1);}int c(int n){if(n>3)return a[1];return c(n+1)+a[2];}void d(int n){write_word(n-b(n));}int main(void){d(7);write_word(c(2));return b(1);}";
 

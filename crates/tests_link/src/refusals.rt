@@ -1,4 +1,4 @@
-// What `compile` refuses, and where; and that a text comes to one program or one fault.
+// What `compile` refuses, and at which place; and that a text leads to one program or one fault.
 
 use cc_link::{BuildFault, PieceFault, compile, verdicts_are_determined};
 use std::alloc::Global;
@@ -54,7 +54,7 @@ static TEXTS: [Row; 29] = [
     ("int main(void){y=1;x=2;}", 11, 1, 16),
 ];
 
-// The number of a text's fault with its line and column, or 0 where it is compiled, and 0 for a place that a fault lacks.
+// The number of a text's fault with its line and column, or 0 if it is compiled, and 0 for a place that a fault lacks.
 fn fault_of(alloc: Global, text: &[u8]) -> (u32, usize, usize) {
     match compile(alloc, text) {
         Ok(unit) => {
@@ -93,7 +93,7 @@ fn a_text_past_65536_bytes(rt: HostRuntime) -> Result<(), Fail> {
     passes(Ok(compiled && refused))
 }
 
-// Whether a function of the text of these parts has too many nodes, and its name stands there.
+// Whether a function of the text of these parts has too many nodes, and its name is there.
 fn is_too_large(alloc: Global, row: &Large) -> Result<bool, Fail> {
     let (parts, offset, bytes) = *row;
     let text = text_of(alloc, parts)?;
@@ -111,7 +111,8 @@ fn is_too_large(alloc: Global, row: &Large) -> Result<bool, Fail> {
 }
 
 /// The parts of texts with a function of more than 4,096 nodes, the offset of its name, and the name's bytes: a write takes three
-/// nodes, and each function three more. Of several such functions it is the first, and none before the first is in its way.
+/// nodes, and each function three more. If there are several such functions, it is the first, and no function before it prevents
+/// that.
 type Large = (&'static [Part<'static>], usize, usize);
 
 static LARGE: [Large; 4] = [

@@ -37,7 +37,7 @@ fn is_product(word: u32) -> bool {
     word & 0xfe00_707f == 0x0200_0033
 }
 
-// Whether so many instructions of a text's image are mul.
+// Whether this many instructions of a text's image are mul.
 fn has_products(alloc: Global, row: &Row) -> Result<bool, Fail> {
     let unit = compile(alloc, row.0.as_bytes())?;
     let mut count = 0usize;

@@ -26,7 +26,7 @@ const RETURNING: &str = "int g(int x){return x*3;}int a(int x,int y){if(!x)retur
 
 const ENDED: MachineOutcome = MachineOutcome::Exited(0);
 
-/// A program, its input, how many instructions it may take, the words that it writes, and what it comes to.
+/// A program, its input, how many instructions it may take, the words that it writes, and its outcome.
 type Row = (
     &'static str,
     &'static [u32],

@@ -5,7 +5,7 @@ use cc_size::{Sized, UnitSize, size_along_in, size_in};
 use std::alloc::Global;
 use std::test::Fail;
 
-/// Four functions, of which main calls the second and the third, and the third the first.
+/// Four functions: main calls the second and the third, and the third the first.
 const CHAIN: &str =
     "int a[9];int h(int n){int i;int s=0;for(i=0;i<n;i++)s=s*a[i]+i;return s;}int f(int n){return n/3;}\
     int g(int n){int s=h(n)+h(n+1);return s*h(2);}int main(void){int s=f(7);return s+g(s)*g(s+1);}";

@@ -20,8 +20,9 @@ use tests_texts::worked::LONG;
 const FORMS: &str =
     "unsigned char c[2];int a[3];int f(int n,int k){do n=n+1;while(n>=k);do a[n&1]=c[1];while(n<=0);c[0]=a[2];c[0]=c[k-8];a[k-7]=n;if(n<k)return n<<3;return -n;}int main(void){write_word(f(read_word(),9));}";
 
-/// Its steps. The word of each constant stands in the operation that reads it, an element of a known number has the number, one whose number
-/// is a difference with a word has the register and the word's negative, and a comparison and the test of its value are one branch.
+/// Its steps. The word of each constant is in the operation that reads it, an element of a known number has the number, one whose
+/// number is a difference with a word has the register and the word's negative, and a comparison and the test of its value are
+/// one branch.
 const FORMS_SELECTED: &str = "== f: Selected
 f0 slots 0
 1:
@@ -72,7 +73,7 @@ fn shown(alloc: Global, text: &[u8], function: Option<&[u8]>) -> Result<Written,
     })
 }
 
-// Puts a text behind another.
+// Adds a text after another.
 fn add(text: &mut Vec<u8>, part: &str) -> Result<(), AllocError> {
     text.extend_from_slice(part.as_bytes())
 }
@@ -123,7 +124,7 @@ fn each_form_of_step(rt: HostRuntime) -> Result<(), Fail> {
     passes(Ok(right))
 }
 
-// The labels of a stage: those that its code leads to, and those that stand.
+// The labels of a stage: those that its code leads to, and those that it has.
 #[derive(Drop)]
 struct Labels {
     named: Vec<u32>,
@@ -160,13 +161,13 @@ impl Labels {
         Ok(())
     }
 
-    // Whether each that is named stands.
+    // Whether each label that is named is there.
     fn all_stand(&self) -> bool {
         self.named.iter().all(|label| self.standing.contains(label))
     }
 }
 
-// How many stages of a text there are, and in how many of them some label is named that does not stand.
+// How many stages of a text there are, and in how many of them some label is named that is not there.
 fn stages_lacking_labels(alloc: Global, text: &str) -> Result<(usize, usize), Fail> {
     let (mut count, mut lacking) = (0usize, 0usize);
     let mut labels = Labels::new(alloc);
@@ -212,7 +213,7 @@ fn code_lines(alloc: Global, text: &str) -> Result<Vec<u8>, AllocError> {
     Ok(lines)
 }
 
-// A listing behind its first three lines, which are the start.
+// A listing after its first three lines, which are the start.
 fn behind_start(listing: &[u8]) -> &[u8] {
     let mut left = 3u32;
     for at in 0..listing.len() {

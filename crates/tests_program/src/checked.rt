@@ -1,5 +1,5 @@
-// Programs that go wrong: what `interpret` says of them, what a plain image does, which nobody promises, and what a checked one does, which
-// stops in place. And programs that are right, whose two images do the same.
+// Programs that go wrong: what `interpret` says of them, what a plain image does, which nobody promises, and what a checked one
+// does, which stops in place. Also programs that are right, whose two images do the same.
 
 use super::helpers::{interprets, runs, writes};
 use cc_task::{Kind, Task};
@@ -8,9 +8,9 @@ use cc_tasks::perform_and_explain;
 /// The most instructions that a run may have: a checked image that has stopped takes no time for them.
 const MOST: u64 = 1_000_000_000;
 
-// Programs; what `interpret`, `run` and `run --checked` write of each on no input.
+// Programs, and what `interpret`, `run` and `run --checked` write for each on no input.
 static PROGRAMS: [(&str, &str, &str, &str); 18] = [
-    // An element behind the last one is the next object's.
+    // An element after the last one is the next object's.
     (
         "int a[3];int b=7;int main(void){int i;for(i=0;i<=3;i++)a[i]=i;write_word(b);}",
         "wrong Index\n",

@@ -154,7 +154,7 @@ fn explained_texts(rt: HostRuntime) {
     }
 }
 
-// Whether two texts of so many bytes together, all spaces but a program, are answered by this line.
+// Whether two texts of this many bytes together, all spaces except a program, are answered by this line.
 fn answers_long<H: AllocGlobal>(rt: &H, spaces: usize, wanted: &[u8], told: &[u8]) -> bool {
     let Ok(mut texts) = texts_of(rt.alloc(), &[("A.c", ""), ("B.c", "int main(void){}")]) else {
         return false;

@@ -62,7 +62,7 @@ fn with_units(alloc: Global, names: &[&[u8]]) -> Result<MemoryDisk, Fail> {
     Ok(library.into_disk())
 }
 
-// What comes of a part of a unit on a disk: the bytes or the fault's number, and what is told.
+// What a part of a unit on a disk gives: the bytes or the fault's number, and the explanation.
 #[derive(Drop)]
 struct Taken {
     bytes: Vec<u8>,
@@ -163,7 +163,7 @@ fn names_that_are_none(rt: HostRuntime) -> Result<(), Fail> {
     Ok(())
 }
 
-// What the opening refuses comes first, before a name that is none.
+// What the opening refuses comes first, before a name that is not one.
 #[test]
 fn disks_that_are_refused(rt: HostRuntime) -> Result<(), Fail> {
     let alloc = rt.alloc();

@@ -190,7 +190,7 @@ fn push_numbered(text: &mut String, alloc: Global, i: u32, is_sum: bool) -> Resu
     text.push_str(&part)
 }
 
-// A function with 24 locals that are read one behind the other.
+// A function with 24 locals that are read one after the other.
 fn many_locals(alloc: Global) -> Result<String, AllocError> {
     let mut text = String::from_str(alloc, "int f(int x){return x;}int main(void){")?;
     for i in 1..25u32 {
@@ -219,7 +219,7 @@ fn is_one_line(written: &[u8]) -> bool {
     ends == 1 && written.ends_with(b"\n".as_slice())
 }
 
-// Whether a text writes a fault's line alone with the status 1.
+// Whether a text writes only a fault's line, with the status 1.
 fn has_fault<H: AllocGlobal>(rt: &H, text: &[u8]) -> bool {
     let mut reader = text;
     let mut written = Vec::new(rt.alloc());

@@ -1,4 +1,5 @@
-// What `size` writes: whole answers of programs without calls, and of others the lines that the choice of instructions does not change.
+// What `size` writes: whole answers for programs without calls, and for others the lines that the choice of instructions does not
+// change.
 
 use super::helpers::writes;
 use cc_task::{Kind, Task};

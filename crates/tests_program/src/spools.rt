@@ -5,7 +5,7 @@ use cc_command_line::{Server, Submitter, Work, line};
 use cc_task::Kind;
 use std::alloc::Global;
 
-// What a command line asks of a server, of the file `a.disk` and the folder `spool`.
+// What a command line asks of a server, for the file `a.disk` and the folder `spool`.
 #[derive(Clone, Copy)]
 struct Asked {
     words: &'static [&'static str],

@@ -62,7 +62,8 @@ fn json_words(rt: HostRuntime) {
     assert!(rt; are_refused(rt.alloc(), NO_JSON.as_slice()));
 }
 
-// How many things a command line asks `trace` to keep, of how many steps and words, in how many files; none if it asks for no trace.
+// How many things a command line asks `trace` to keep, for how many steps and words, in how many files; none if it asks for no
+// trace.
 fn traced(alloc: Global, words: &'static [&'static str]) -> Option<(u64, usize, u32, usize)> {
     match read_invocation(alloc, words) {
         Ok(invocation) => {

@@ -105,7 +105,8 @@ fn tasks(rt: HostRuntime) {
     assert!(rt; asks_for_listing(rt.alloc(), &["cclib", "asm"]));
 }
 
-// What a command line asks to be counted: whether of an image, whether that is a checked one, the bound, and how many words the input has.
+// What a command line asks to be counted: whether of an image, whether that is a checked one, the bound, and how many words the
+// input has.
 fn asks_to_count(
     alloc: Global,
     words: &'static [&'static str],
@@ -341,7 +342,7 @@ fn printed_texts(rt: HostRuntime) {
     }
 }
 
-// What is read where nothing is to be told; a refusal would be printed.
+// What is read if nothing is to be explained; a refusal would be printed.
 fn reads_quiet_check(rt: &HostRuntime, words: &'static [&'static str]) -> bool {
     match read_or_tell(rt, rt.alloc(), words) {
         Ok(

@@ -26,7 +26,7 @@ pub const AREA: u32 = 4096;
 /// How many bytes a disk has.
 pub const SIZE: usize = 16 + 2 * 4096;
 
-/// What stands at a place, or no bytes.
+/// The bytes at a place, or no bytes.
 pub fn bytes_at(table: &[&'static [u8]; 3], place: usize) -> &'static [u8] {
     if place < 3 { table[place] } else { &[] }
 }

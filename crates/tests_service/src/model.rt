@@ -1,4 +1,5 @@
-// A model of the map: three names, each with the place of its unit's text where it has one. And what it says of a call, and of a history.
+// A model of the map: three names, each with the place of its unit's text if it has one. And what it says of a call, and of a
+// history.
 
 use crate::helpers::{NAMES, TEXTS, bytes_at, name_at};
 use cc_disk::Disk;
@@ -119,7 +120,7 @@ pub fn is_reply(reply: &Reply, model: &Model, call: Call, number: u32) -> bool {
     }
 }
 
-/// Whether a library has just the model's units.
+/// Whether a library has exactly the model's units.
 pub fn shows<D: Disk>(alloc: Global, library: &Library<D>, model: &Model) -> Result<bool, Fail> {
     if !are_names(&library.list(alloc)?, model) {
         return Ok(false);
@@ -163,7 +164,7 @@ fn call_of(asked: &Asked) -> Call {
     }
 }
 
-// Whether a receipt's entry stands at its number, as the client's call with that number.
+// Whether a receipt's entry is at its number, as the client's call with that number.
 fn is_standing(history: &[SharedEntry], receipt: &Receipt, client: u64, call: u64) -> bool {
     let Some(before) = receipt.number.checked_sub(1) else {
         return false;
@@ -177,8 +178,8 @@ fn is_standing(history: &[SharedEntry], receipt: &Receipt, client: u64, call: u6
     }
 }
 
-// Whether the receipts of each client, which are numbered from 0, stand in the history, those of its calls from 1 on, and are as many as
-// it has entries.
+// Whether the receipts of each client, which are numbered from 0, are in the history, those of its calls from 1 on, and are as
+// many as it has entries.
 fn are_standing(history: &[SharedEntry], receipts: &[Vec<Receipt>]) -> bool {
     let mut count = 0usize;
     for (client, own) in receipts.iter().enumerate() {
@@ -197,8 +198,8 @@ fn are_standing(history: &[SharedEntry], receipts: &[Vec<Receipt>]) -> bool {
     count == history.len()
 }
 
-/// The map after a history from an empty one; none where an entry's answer is not the model's, or a client's receipts are not those of its
-/// entries.
+/// The map after a history from an empty one; none if an entry's answer is not the model's, or a client's receipts are not those
+/// of its entries.
 pub fn replayed(history: &[SharedEntry], receipts: &[Vec<Receipt>]) -> Option<Model> {
     let mut model = EMPTY;
     for shared in history {

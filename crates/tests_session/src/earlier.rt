@@ -1,5 +1,5 @@
-// A library that the compiler of before selection has filled (27 November 2026): it opens, lists, runs and compacts as before. An audit does not
-// confirm the unit whose image is another one today, and confirms it again once its own source has replaced it.
+// A library that the compiler of before selection has filled (27 November 2026): it opens, lists, runs and compacts as before. An
+// audit does not confirm the unit whose image is another one today, and confirms it again once its own source has replaced it.
 
 use crate::helpers::answers_on;
 use cc_disk::{Disk, MemoryDisk};
@@ -7,7 +7,7 @@ use cc_session::SessionEnd;
 use std::alloc::Global;
 use std::test::Fail;
 
-// How many bytes the file has: two areas of 4,096 bytes behind the header.
+// How many bytes the file has: two areas of 4,096 bytes after the header.
 const SIZE: usize = 8208;
 
 // Its bytes up to the last that is not 0, in hexadecimal. It has `sum` and `seven`; `seven` was replaced, and `gone` added and withdrawn.

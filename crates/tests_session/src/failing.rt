@@ -68,7 +68,7 @@ impl Write for Takes {
     }
 }
 
-// An audit that is cut off behind its first unit: nothing is told of the second one, and the script is over.
+// An audit that is cut off after its first unit: nothing is written about the second one, and the script is over.
 #[test]
 fn an_audit_that_is_cut_off(rt: HostRuntime) -> Result<(), Fail> {
     let mut reader =

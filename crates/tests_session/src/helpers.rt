@@ -123,7 +123,7 @@ where
     Ok(None)
 }
 
-/// What a script on this disk is answered, where the session ends well and gives the disk back.
+/// The answer to a script on this disk, if the session ends well and gives the disk back.
 pub fn written_on<H>(
     rt: &H,
     alloc: Global,

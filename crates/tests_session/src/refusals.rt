@@ -29,7 +29,7 @@ static SCRIPTS: [(&str, &str); 13] = [
         "add a 1234567\nadd a +1\n",
         "fault 50 BadLine\nfault 50 BadLine\n",
     ),
-    // What stands behind the bytes of a source is skipped up to the newline, and nothing is done.
+    // What comes after the bytes of a source is skipped up to the newline, and nothing is done.
     (
         "add a 16\nint main(void){}list\nlist\n",
         "fault 50 BadLine\nok 1\n",
@@ -77,7 +77,7 @@ fn a_script_that_ends_within_a_source(rt: HostRuntime) -> Result<(), Fail> {
     Ok(())
 }
 
-// So many bytes `a`.
+// This many bytes `a`.
 fn long(alloc: Global, count: usize) -> Result<Vec<u8>, AllocError> {
     let mut bytes = Vec::with_capacity(alloc, count)?;
     for _ in 0..count {

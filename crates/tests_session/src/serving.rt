@@ -39,7 +39,7 @@ where
     )
 }
 
-// What a session answers to the scripts of a client, one behind the other.
+// What a session answers to the scripts of a client, one after the other.
 fn answered_alone<H>(rt: &H, alloc: Global, letter: u8, count: usize) -> Result<Vec<u8>, Fail>
 where
     H: Threads + Wait + Copy + Send + 'static,
@@ -71,7 +71,7 @@ fn three_clients_with_forty_scripts(rt: HostRuntime) -> Result<(), Fail> {
     Ok(())
 }
 
-// So many empty lines, then this.
+// This many empty lines, then this.
 fn blank(alloc: Global, count: usize, end: &[u8]) -> Result<Vec<u8>, AllocError> {
     let mut bytes = Vec::with_capacity(alloc, count)?;
     for _ in 0..count {
@@ -81,7 +81,7 @@ fn blank(alloc: Global, count: usize, end: &[u8]) -> Result<Vec<u8>, AllocError>
     Ok(bytes)
 }
 
-// What is answered to so many empty lines, then this.
+// The answers to this many empty lines, then this.
 fn refused(alloc: Global, count: usize, end: &[u8]) -> Result<Vec<u8>, AllocError> {
     let mut lines = Vec::new(alloc);
     for _ in 0..count {
@@ -118,7 +118,8 @@ where
     Ok(right)
 }
 
-// A script that 51, 52 or 53 ends ends alone: the next is answered as if it had not been. 52 comes behind 65,536 lines, sources not counted.
+// A script that 51, 52 or 53 ends ends alone: the next is answered as if it had not been. 52 comes after 65,536 lines, sources
+// not counted.
 #[test]
 fn a_fault_ends_its_script_alone(rt: HostRuntime) -> Result<(), Fail> {
     let alloc = rt.alloc();
@@ -178,7 +179,7 @@ fn an_answer_without_room(rt: HostRuntime) -> Result<(), Fail> {
     Ok(())
 }
 
-// Where no service is opened no script is taken, and disk and spools come back.
+// If no service is opened, no script is taken, and disk and spools come back.
 #[test]
 fn a_disk_that_is_no_library(rt: HostRuntime) -> Result<(), Fail> {
     let alloc = rt.alloc();
@@ -211,7 +212,7 @@ fn a_disk_that_is_no_library(rt: HostRuntime) -> Result<(), Fail> {
     Ok(())
 }
 
-// A service has 1,024 clients. Where there are more spools no script is taken of any.
+// A service has 1,024 clients. If there are more spools, no script is taken of any.
 #[test]
 fn more_spools_than_clients(rt: HostRuntime) -> Result<(), Fail> {
     let alloc = rt.alloc();

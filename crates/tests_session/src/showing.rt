@@ -1,4 +1,4 @@
-// The lines that a served script has beside those of a session: a unit's image, and its source, which stands in a frame.
+// The lines that a served script has beside those of a session: a unit's image, and its source, which is in a frame.
 
 use crate::helpers::{answers, formatted};
 use crate::serving::served;
@@ -24,7 +24,8 @@ const HEX: &str = "\
 :0C00000007000000FEFFFFFF02010000EF\n\
 :00000001FF\n";
 
-/// Whether a script of a spool is answered by these lines, up to the fault that ends it, where one does. Its answer has this much room.
+/// Whether a script of a spool is answered by these lines, up to the fault that ends it, if one does. Its answer has this much
+/// room.
 pub fn is_served<H>(
     rt: &H,
     alloc: Global,
@@ -107,7 +108,7 @@ fn texts_without_room(rt: HostRuntime) -> Result<(), Fail> {
     Ok(())
 }
 
-// Whether a source is what its frame has, and whether it is there where a byte of that is cut off or stands behind it.
+// Whether a source is what its frame has, and whether it is there if a byte of that is cut off or comes after it.
 fn is_framed(alloc: Global, source: &[u8]) -> Result<bool, Fail> {
     if source.len() > 65_536 {
         return Ok(false);

@@ -6,7 +6,7 @@ use std::collections::VecDeque;
 use std::io::{self, ErrorKind, Read, Write};
 use std::test::Fail;
 
-/// The scripts of a client, in turn, with the lines of their answers: `@` stands for the client's letter, `#` for a receipt's number.
+/// The scripts of a client, in turn, with the lines of their answers: `@` means the client's letter, `#` a receipt's number.
 pub static SCRIPTS: [(&str, &str); 14] = [
     (
         "add @ 16\nint main(void){}\nrun @ 1000\n",
@@ -45,7 +45,7 @@ pub static SCRIPTS: [(&str, &str); 14] = [
 /// The clients, each with how many of the scripts it does: forty in all.
 pub const CLIENTS: [(u8, usize); 3] = [(b'a', 14), (b'b', 13), (b'c', 13)];
 
-/// A script. One that is torn can't be read behind its bytes.
+/// A script. One that is torn can't be read after its bytes.
 #[derive(Drop)]
 pub struct Paper {
     pub bytes: VecDeque<u8>,
@@ -116,7 +116,7 @@ pub fn without_numbers(alloc: Global, lines: &[u8]) -> Result<Vec<u8>, AllocErro
     Ok(kept)
 }
 
-/// A spool with the first so many scripts of a client.
+/// A spool with this many first scripts of a client.
 pub fn spool_of(
     alloc: Global,
     letter: u8,
@@ -152,7 +152,7 @@ pub fn script_of(alloc: Global, script: &[u8], is_torn: bool) -> Result<Paper, A
     })
 }
 
-/// All answers of a spool, one behind the other, with `#` for the number of each receipt.
+/// All answers of a spool, one after the other, with `#` for the number of each receipt.
 pub fn answers_of(alloc: Global, spool: &MemorySpool<Paper, Page>) -> Result<Vec<u8>, AllocError> {
     let mut all = Vec::new(alloc);
     for done in spool.answered() {
@@ -162,7 +162,7 @@ pub fn answers_of(alloc: Global, spool: &MemorySpool<Paper, Page>) -> Result<Vec
     Ok(all)
 }
 
-/// Whether so many of the scripts of a client were answered as they should be, and no other.
+/// Whether this many of the scripts of a client were answered as they should be, and no other.
 pub fn is_right(
     alloc: Global,
     letter: u8,

@@ -1,4 +1,5 @@
-// A spool in a real folder: which things in `new` are scripts, what a start makes of what a kill left, and when an answer gives way to 54.
+// A spool in a real folder: which things in `new` are scripts, what a start makes of what a kill left, and when an answer gives
+// way to 54.
 
 use crate::helpers::{
     End, Folder, Meanwhile, answer, answer_one, answer_read, begun, clears, counts, done, ends_so,
@@ -13,7 +14,7 @@ use std::time::{Duration, Instant};
 #[derive(Clone, Copy, Drop)]
 enum Thing {
     File(&'static str),
-    // A file of so many bytes that nobody wrote.
+    // A file of this many bytes that nobody wrote.
     Sparse(u64),
     Link,
     Directory,
@@ -97,7 +98,7 @@ fn put_plain(folder: Folder) -> bool {
     folder.write("new", "plain", "list\n")
 }
 
-// Whether a row is as it should be behind the server: answered, or untouched.
+// Whether a row is as it should be after the server: answered, or untouched.
 fn is_right(folder: Folder, row: &Row) -> bool {
     folder.is_there("done", row.name) == row.is_script
         && folder.is_there("new", row.name) != row.is_script
@@ -219,7 +220,7 @@ fn an_empty_file_beside_an_answer(rt: HostRuntime) {
     let path = "an_empty_file_beside_an_answer.spool";
     let folder = Folder { rt, path };
     let (layout, held) = folder.take().expect(&rt, "a folder");
-    // A second client of the server made it before the first one took the claim of the script away that it had answered.
+    // A second client of the server made it before the first one removed the claim of the script that it had answered.
     must(&rt, leave(folder, &STATES[1]), "a claim");
     let name = STATES[1].name;
     must(&rt, folder.write("done", name, "ok 1\n"), "an answer");
@@ -391,7 +392,7 @@ struct Watched {
 }
 
 impl Watched {
-    // Puts the other script there, and has it answered; whether that succeeds.
+    // Puts the other script there, and has it answered. The result is whether that succeeds.
     fn forge(&mut self) -> bool {
         put_as_written(self.folder)
             && answer_one(self.folder, &mut self.spool, "ok 1\n", Meanwhile::Nothing)
@@ -470,7 +471,7 @@ fn a_script_that_has_another_number(rt: HostRuntime) {
     must(&rt, folder.end(layout, held), "its end");
 }
 
-// An answer, and the number of the fault that it tells last, if it tells one.
+// An answer, and the number of the fault that it reports last, if it reports one.
 static ANSWERS: [(&str, Option<u32>); 6] = [
     ("", None),
     ("ok 1\nfault 11 Unknown at 4:5\n", Some(11)),
@@ -480,7 +481,7 @@ static ANSWERS: [(&str, Option<u32>); 6] = [
     ("fault 4294967296 Large", Some(4_294_967_295)),
 ];
 
-// Whether this number is told of an answer, which is written on as it is and then taken away.
+// Whether this number is reported for an answer, which is written on as it is and then removed.
 fn tells(folder: Folder, layout: &FolderLayout, text: &'static str, number: Option<u32>) -> bool {
     let Some(spool) = second(layout, 1) else {
         return false;
@@ -606,7 +607,7 @@ fn a_folder_of_another_user(rt: HostRuntime) {
     let path = "a_folder_of_another_user.spool";
     let folder = Folder { rt, path };
     must(&rt, folder.make("", ""), "a folder");
-    // Who is not root can't give it away.
+    // Only root can give it away.
     if folder.give("", 1) {
         must(&rt, folder.is_refused(), "it is another user's");
         must(&rt, !folder.is_there(".", "lock"), "no lock is made");
@@ -638,7 +639,7 @@ fn a_folder_that_everybody_may_write_to(rt: HostRuntime) {
     must(&rt, folder.remove_all(), "its end");
 }
 
-// What stands in a folder before it is cleared: a part, a name, and whether that is taken away.
+// What a folder has before it is cleared: a part, a name, and whether that is removed.
 static OLD: [(&str, &str, bool); 8] = [
     ("tmp", "old", true),
     ("tmp", ".hidden", false),
@@ -764,7 +765,7 @@ fn a_second_script_of_a_name(rt: HostRuntime) {
     must(&rt, put_plain(folder), "a script");
     let mut spool = FolderSpool::new(layout, 100);
     must(&rt, done(folder, &mut spool) == 1, "it is done");
-    // It waits until the first one's answer is taken away.
+    // It waits until the first one's answer is removed.
     must(&rt, put_plain(folder), "a second one");
     must(&rt, done(folder, &mut spool) == 0, "it waits");
     must(&rt, folder.remove("done", "plain"), "the way is free");
@@ -774,7 +775,7 @@ fn a_second_script_of_a_name(rt: HostRuntime) {
     must(&rt, folder.end_spool(spool, held), "its end");
 }
 
-// The rights of the parts of a folder, where all may leave scripts and where a group may.
+// The rights of the parts of a folder, if all may leave scripts and if a group may.
 static RIGHTS: [(&str, u32, u32); 5] = [
     ("cur", 0o700, 0o2700),
     ("done", 0o755, 0o2770),
@@ -802,7 +803,8 @@ fn the_rights_of_a_folder(rt: HostRuntime) {
     must(&rt, folder.end(layout, held), "its end");
 }
 
-// A script with lines of each kind, sources after some of them that look like lines, and its answer; then what the log says of them.
+// A script with lines of each kind, sources after some of them that look like lines, and its answer; then what the log says of
+// them.
 const LOGGED: &str =
     "add a 16\nint main(void){}\nadd b 5\nlist\n\nlist\nrun a 5\nsource a\nhel\u{1}lo\nupdate a 1 4\nx\nrun \ncall a 9 3\n1 2\nimage a\nadd c 2\nxyz\nlist\n";
 
@@ -812,7 +814,7 @@ const ANSWERED: &str =
 const SAID: &str =
     "add a 16 ok\nadd b 5 fault 5\nlist ok\nrun a 5 exited\nsource a source\nhel?lo fault 50\nupdate a 1 4 fault 60\ncall a 9 3 trapped\nimage a image\nadd c 2 fault 50\n";
 
-// What was not answered is not there, as the last line of this script. A next server begins a new file.
+// What was not answered is not there, such as the last line of this script. A next server begins a new file.
 #[test]
 fn who_did_what(rt: HostRuntime) {
     let path = "who_did_what.spool";

@@ -1,7 +1,7 @@
 // The folder of a test, and what tests do in it and see of it.
 //
-// Each call of the system stands here alone, and answers by a `bool` or a number where it is refused: a test that handed errors on, or asserted
-// in many places, would be proved for minutes, since each of its exits lets go of all that it has.
+// Each call of the system has a function of its own here, which answers by a `bool` or a number if the call is refused. A test
+// that passed errors on, or asserted in many places, would take minutes to prove, since each of its exits drops all that it has.
 
 use cc_spool::{
     AnswerFile, FolderLayout, FolderSpool, Held, Limits, Recovered, ScriptFile, Spool, Submission,
@@ -34,7 +34,7 @@ pub struct Seen {
 }
 
 impl Folder {
-    /// The path of a file in a part of the folder; none where there is no memory.
+    /// The path of a file in a part of the folder; none if there is no memory.
     fn path_in(self, part: &str, name: &str) -> String {
         match format!(in self.rt.alloc(); "{}/{part}/{name}", self.path) {
             Ok(path) => path,
@@ -48,7 +48,7 @@ impl Folder {
         fs::create_dir_all(&self.rt, path.as_str()).is_ok()
     }
 
-    /// Takes an empty directory away.
+    /// Removes an empty directory.
     pub fn unmake(self, part: &str, name: &str) -> bool {
         let path = self.path_in(part, name);
         fs::remove_dir(&self.rt, path.as_str()).is_ok()
@@ -87,7 +87,7 @@ impl Folder {
         said.as_str() == wanted
     }
 
-    /// Takes a file away.
+    /// Removes a file.
     pub fn remove(self, part: &str, name: &str) -> bool {
         let path = self.path_in(part, name);
         fs::remove_file(&self.rt, path.as_str()).is_ok()
@@ -119,7 +119,7 @@ impl Folder {
             .ok()
     }
 
-    /// Makes a file so many bytes long.
+    /// Makes a file this many bytes long.
     pub fn set_length(self, part: &str, name: &str, bytes: u64) -> bool {
         match self.open(part, name) {
             Some(file) => file.set_len(bytes).is_ok(),
@@ -151,7 +151,7 @@ impl Folder {
         fs::set_permissions(&self.rt, path.as_str(), Permissions::from_mode(rights)).is_ok()
     }
 
-    /// Gives a directory to another user; refused to who is not root.
+    /// Gives a directory to another user; refused to anybody but root.
     pub fn give(self, part: &str, user: u32) -> bool {
         let path = self.path_in(part, "");
         chown(&self.rt, path.as_str(), Some(user), None).is_ok()
@@ -190,7 +190,7 @@ impl Folder {
         }
     }
 
-    /// How many entries a part has, and the name of one that is no answer. Of one that can't be read, the most there can be.
+    /// How many entries a part has, and the name of one that is no answer. For a part that can't be read, the most there can be.
     fn entries(self, part: &str) -> (usize, String) {
         let mut script = String::new(self.rt.alloc());
         let path = self.path_in(part, "");
@@ -210,17 +210,17 @@ impl Folder {
         (count, script)
     }
 
-    /// Whether a part has so many entries.
+    /// Whether a part has this many entries.
     pub fn has(self, part: &str, wanted: usize) -> bool {
         self.entries(part).0 == wanted
     }
 
-    /// A new folder with its parts, and its lock; none where it is refused.
+    /// A new folder with its parts, and its lock; none if it is refused.
     pub fn take(self) -> Option<(FolderLayout, Held)> {
         held(FolderLayout::new(self.rt, self.rt.alloc(), self.path).ok()?)
     }
 
-    /// The same as a server has it with so many clients, each of which may do a script for so many seconds while others wait.
+    /// The same as a server with this many clients has it. Each client may do a script for this many seconds while others wait.
     pub fn take_to_serve(self, clients: usize, patience: u32) -> Option<(FolderLayout, Held)> {
         let limits = Limits {
             days: 7,
@@ -242,19 +242,19 @@ impl Folder {
         fs::rename(&self.rt, self.path, other.path).is_ok()
     }
 
-    /// Takes the folder away.
+    /// Removes the folder.
     pub fn remove_all(self) -> bool {
         fs::remove_dir_all(&self.rt, self.path).is_ok()
     }
 
-    /// Lets its parts go, and takes it away.
+    /// Drops its parts, and removes it.
     pub fn end(self, layout: FolderLayout, held: Held) -> bool {
         drop(layout);
         drop(held);
         self.remove_all()
     }
 
-    /// Lets a spool in it go, and takes it away.
+    /// Drops a spool in it, and removes it.
     pub fn end_spool(self, spool: FolderSpool, held: Held) -> bool {
         drop(spool);
         drop(held);
@@ -262,7 +262,7 @@ impl Folder {
     }
 }
 
-// A folder with its lock; none where it is refused.
+// A folder with its lock; none if it is refused.
 fn held(mut layout: FolderLayout) -> Option<(FolderLayout, Held)> {
     match take_folder(&mut layout, 1) {
         Ok(Some(held)) => Some((layout, held)),
@@ -292,12 +292,12 @@ pub fn is_soon_awaited(folder: Folder, spool: &FolderSpool) -> bool {
     false
 }
 
-/// What a start finds; none where it can't look.
+/// What a start finds; none if it can't look.
 pub fn recovered(layout: &FolderLayout) -> Option<Recovered> {
     recover(layout).ok()
 }
 
-/// Whether so many entries are counted.
+/// Whether this many entries are counted.
 pub fn counts(layout: &FolderLayout, most: usize, wanted: usize) -> bool {
     match count_entries(layout, most) {
         Ok(count) => count == wanted,
@@ -305,7 +305,7 @@ pub fn counts(layout: &FolderLayout, most: usize, wanted: usize) -> bool {
     }
 }
 
-/// Whether so many old files are taken away.
+/// Whether this many old files are removed.
 pub fn clears(layout: &FolderLayout, days: u32, wanted: u64) -> bool {
     match clear_old(layout, days) {
         Ok(count) => count == wanted,
@@ -327,7 +327,8 @@ pub enum Meanwhile {
     Nothing,
     /// Its place in `new` is given to another one, and two seconds go by.
     Replaced,
-    /// The answer of `plain` is moved to `done`, as where a call is done over a network, its answer is lost, and it is made again.
+    /// The answer of `plain` is moved to `done`, as if a call over a network was done, its answer was lost, and it was made
+    /// again.
     Moved,
     /// As much is written as an answer may have, and then more.
     Filled,
@@ -340,7 +341,7 @@ fn fill<W: Write>(answer: &mut W) -> bool {
             return false;
         }
     }
-    // What was refused stays so, and a later line is not written behind the gap.
+    // What was refused stays refused, and a later line is not written after the gap.
     answer.write(b"1").is_err() && answer.write(b"").is_err() && answer.flush().is_err()
 }
 
@@ -351,7 +352,7 @@ fn replace(folder: Folder) -> bool {
     is_replaced
 }
 
-/// Takes the next script, and answers it by this text; whether all of that succeeds. None where none waits.
+/// Takes the next script, and answers it by this text. The result is whether all of that succeeds; none if no script waits.
 pub fn answer(
     folder: Folder,
     spool: &mut FolderSpool,
@@ -370,7 +371,7 @@ pub fn answer(
     Some(is_written && is_done)
 }
 
-/// Reads the next script whole, once it comes, and answers it by this text; whether all of that succeeds.
+/// Reads the next script whole, once it comes, and answers it by this text. The result is whether all of that succeeds.
 pub fn answer_read(folder: Folder, spool: &mut FolderSpool, text: &str) -> bool {
     let Some((mut script, mut answer)) = begun(spool) else {
         return false;
@@ -382,7 +383,7 @@ pub fn answer_read(folder: Folder, spool: &mut FolderSpool, text: &str) -> bool 
     is_read && is_written
 }
 
-/// Answers what waits; how many scripts that were, up to 20.
+/// Answers what waits. The result is how many scripts that were, up to 20.
 pub fn done(folder: Folder, spool: &mut FolderSpool) -> usize {
     for count in 0..20 {
         match answer(folder, spool, "ok\n", Meanwhile::Nothing) {
@@ -394,7 +395,7 @@ pub fn done(folder: Folder, spool: &mut FolderSpool) -> usize {
     20
 }
 
-/// Answers one script for which something is done meanwhile, once it comes; whether that succeeds.
+/// Answers one script for which something is done meanwhile, once it comes. The result is whether that succeeds.
 pub fn answer_one(
     folder: Folder,
     spool: &mut FolderSpool,
@@ -418,7 +419,8 @@ fn renumber(folder: Folder, name: &str) -> bool {
         && folder.rename("tmp", "copy", "new", name)
 }
 
-/// Puts another file with the same text and time in the place of the script that comes, as where a file's number belongs to its path.
+/// Puts another file with the same text and time in the place of the script that comes, as if a file's number belonged to its
+/// path.
 pub fn renumber_one(folder: Folder) -> bool {
     for _ in 0..1000 {
         thread::sleep(&folder.rt, Duration::from_millis(1));
@@ -433,18 +435,18 @@ pub fn renumber_one(folder: Folder) -> bool {
 /// How a script that was left ends.
 #[derive(Clone, Copy, Drop)]
 pub enum End {
-    /// Answered, by the number of the fault that its answer tells last, if it tells one.
+    /// Answered, by the number of the fault that its answer reports last, if it reports one.
     Answered(Option<u32>),
     NotTaken,
 }
 
-/// Puts a script into `new` under the name that the one in `tmp` has; whether that succeeds.
+/// Puts a script into `new` under the name that the one in `tmp` has. The result is whether that succeeds.
 pub fn put_as_written(folder: Folder) -> bool {
     let (_, name) = folder.entries("tmp");
     folder.write("new", name.as_str(), "list\n")
 }
 
-/// Leaves a script from this reader; whether it is answered without a fault, and so much is written on.
+/// Leaves a script from this reader. The result is whether it is answered without a fault, and this much is written on.
 pub fn is_answered<S: Read, E: Write>(
     folder: Folder,
     layout: &FolderLayout,
@@ -463,7 +465,7 @@ pub fn is_answered<S: Read, E: Write>(
     )
 }
 
-/// Leaves a script; whether it ends so, and so much is written on.
+/// Leaves a script. The result is whether it ends so, and this much is written on.
 pub fn ends_so<E: Write>(
     folder: Folder,
     layout: &FolderLayout,

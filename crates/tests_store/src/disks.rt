@@ -34,7 +34,7 @@ fn a_crash_chooses_the_unsettled_bytes(rt: HostRuntime) -> Result<(), Fail> {
     passes(is_chosen(rt.alloc()))
 }
 
-// The mode of a fuse that passes one call; what two writes and a sync answer, what the disk then has, and the failures.
+// The mode of a fuse that passes one call; the answers to two writes and a sync, what the disk then has, and the failures.
 type Row = (FuseMode, [bool; 3], [u8; 2], u64);
 
 fn is_row(alloc: Global, row: &Row) -> Result<bool, Fail> {

@@ -1,4 +1,4 @@
-// Disks that nobody formatted so.
+// Disks that nobody formatted in this way.
 
 use crate::helpers::{bytes_of, has_parts, holds, opened, part, refusal, row_disk};
 use cc_disk::{Disk, FuseDisk, FuseMode};
@@ -49,7 +49,7 @@ fn the_longest_body_is_there_at_once(rt: HostRuntime) -> Result<(), Fail> {
     passes(is_longest(rt.alloc()))
 }
 
-// Whether the row's disk has its record with this gate alone where that is open.
+// Whether the row's disk with this gate has its record only if the gate is open.
 fn has_gate(alloc: Global, gate: u8) -> Result<bool, Fail> {
     let disk = row_disk(alloc, &[(16, gate)])?;
     if gate == 0xa5 {
@@ -87,7 +87,7 @@ fn each_value_of_the_area_byte(rt: HostRuntime) -> Result<(), Fail> {
     Ok(())
 }
 
-// Opening settles what was written before, as it is, without a sync.
+// Opening syncs what was written before, as it is, without a sync.
 #[test]
 fn opening_settles_what_was_written(rt: HostRuntime) -> Result<(), Fail> {
     passes(is_settled(rt.alloc()))

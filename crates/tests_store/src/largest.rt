@@ -1,4 +1,4 @@
-// The largest area, on a disk that keeps a few of its bytes alone.
+// The largest area, on a disk that keeps only a few of its bytes.
 
 use crate::helpers::refusal;
 use crate::sparse::SparseDisk;

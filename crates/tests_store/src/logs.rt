@@ -1,4 +1,4 @@
-// The calls of a log, which keeps no body: each hands them over instead.
+// The calls of a log, which keeps no body: each returns them instead.
 
 use crate::helpers::{ROW, SIZE, are_bodies, bytes_of, formatted, has_bytes, has_parts, one_body};
 use cc_disk::{Disk, FuseDisk, FuseMode, MemoryDisk};
@@ -10,14 +10,14 @@ use tests_texts::verdict::{each_passes, passes};
 // The body of the worked row.
 const ROW_BODY: [u8; 4] = [1, 3, 1, 0x61];
 
-// What is done to a log, and the number that it has to be answered, 0 for Ok.
+// What is done to a log, and the number of the right answer, 0 for Ok.
 #[derive(Clone, Copy)]
 enum Step {
-    // The body of the row is added, alone, or with what stands around it in its record.
+    // The body of the row is added, alone, or with what is around it in its record.
     Row { is_framed: bool },
-    // A body of so many bytes of this value is added.
+    // A body of this many bytes of this value is added.
     Append(u8, usize, u32),
-    // All is written anew as one body, of so many bytes 1.
+    // All is written anew as one body, of this many bytes 1.
     Rewrite(usize, u32),
 }
 
@@ -34,12 +34,12 @@ fn opened<D: Disk + Drop>(alloc: Global, disk: D, wanted: &[&[u8]]) -> Result<Lo
     }
 }
 
-// The body of the row with what stands around it in its record.
+// The body of the row with what is around it in its record.
 fn framed(alloc: Global) -> Result<Body, Fail> {
     Ok(Body::from_framed(vec![in alloc; 4u8, 0, 0, 0, 1, 3, 1, 0x61, 0]?))
 }
 
-// Whether adding the bytes, which the body has, is answered with this number, and they are handed back where they were added.
+// Whether adding the bytes, which the body has, is answered with this number, and they are handed back if they were added.
 fn appends<D: Disk>(
     alloc: Global,
     log: &mut Log<D>,
@@ -53,7 +53,7 @@ fn appends<D: Disk>(
     }
 }
 
-// Whether writing all anew as a body of so many bytes 1 is answered with this number, and that body is handed over.
+// Whether writing all anew as a body of this many bytes 1 is answered with this number, and that body is handed over.
 fn rewrites<D: Disk>(
     alloc: Global,
     log: &mut Log<D>,
@@ -123,10 +123,10 @@ fn has_records(alloc: Global, disk: MemoryDisk, wanted: &[&[u8]]) -> bool {
     }
 }
 
-// A second body of 50 bytes would need 55 where 54 are left, with its gate.
+// A second body of 50 bytes would need 55 if 54 are left, with its gate.
 const SECOND: [Step; 2] = [Step::Append(2, 50, 34), Step::Append(2, 49, 0)];
 
-// Whether the row comes of its body, and a second body then has the room that it should.
+// Whether the row is made from its body, and a second body then has the room that it should.
 fn writes_the_row(alloc: Global, is_framed: &bool) -> Result<bool, Fail> {
     let step = Step::Row {
         is_framed: *is_framed,
@@ -179,7 +179,7 @@ fn a_log_written_anew(rt: HostRuntime) -> Result<(), Fail> {
     passes(is_written_anew(rt.alloc()))
 }
 
-// A log of which the disk fails at the call after this many. Opening makes three.
+// A log whose disk fails at the call after this many. Opening makes three.
 fn closed_after(alloc: Global, passes: u64) -> Result<Log<FuseDisk<MemoryDisk>>, Fail> {
     let fuse = FuseDisk::new(formatted(alloc)?, passes, FuseMode::Once);
     let mut log = opened(alloc, fuse, &[])?;

@@ -14,7 +14,7 @@ const OLD: [u8; 3] = [1, 2, 3];
 // A body that is itself an open gate and a whole record.
 const NEW: [u8; 7] = [0xa5, 1, 0, 0, 0, 9, 0];
 
-// A disk with the old record, in area B where it was moved.
+// A disk with the old record, in area B if it was moved.
 fn with_old(alloc: Global, moved: bool) -> Result<MemoryDisk, Fail> {
     let mut journal = opened(alloc, formatted(alloc)?)?;
     journal.append(alloc, &OLD)?;
@@ -24,8 +24,8 @@ fn with_old(alloc: Global, moved: bool) -> Result<MemoryDisk, Fail> {
     Ok(journal.into_disk())
 }
 
-// The disk after a rewrite whose device calls meet the fuse once this many have passed: whether it was done, and whether
-// later calls answer 36 and make no device call.
+// The disk after a rewrite whose device calls meet the fuse once this many have passed, whether it was done, and whether later
+// calls answer 36 and make no device call.
 fn rewritten(
     alloc: Global,
     moved: bool,
@@ -49,7 +49,7 @@ fn rewritten(
     Ok((fuse.into_disk(), false, quiet))
 }
 
-// Whether each crash leaves the old record or the new one, and the new one where the rewrite was done.
+// Whether each crash leaves the old record or the new one, and the new one if the rewrite was done.
 fn is_right(alloc: Global, disk: &MemoryDisk, done: bool) -> Result<bool, Fail> {
     for byte in [0x00u8, 0xa5, 0xff] {
         let new = holds(alloc, disk.crash(alloc, &[byte; 144])?, &[&NEW]);

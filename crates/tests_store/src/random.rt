@@ -38,7 +38,7 @@ fn bodies_in<'a>(area: &'a [u8], bodies: &mut Vec<&'a [u8]>) -> Result<bool, Fai
         match rest {
             [0xa5, a, b, c, d, after @ ..] => {
                 let length = u32::from_le_bytes([*a, *b, *c, *d]) as usize;
-                // A gate stands after the body.
+                // A gate comes after the body.
                 if length >= after.len() {
                     return Ok(false);
                 }

@@ -10,12 +10,12 @@ use std::alloc::Global;
 use std::test::Fail;
 use tests_texts::verdict::passes;
 
-// What is done to a journal with areas of 64 bytes, and the number that it has to be answered, 0 for Ok.
+// What is done to a journal with areas of 64 bytes, and the number of the right answer, 0 for Ok.
 #[derive(Clone, Copy)]
 enum Step {
-    // A body of so many bytes of this value is added.
+    // A body of this many bytes of this value is added.
     Append(u8, usize, u32),
-    // All is written anew as one body, of so many bytes 1.
+    // All is written anew as one body, of this many bytes 1.
     Rewrite(usize, u32),
     // All is written anew as no body.
     Clear(u32),
@@ -89,7 +89,7 @@ fn is_moved(alloc: Global) -> Result<bool, Fail> {
     let has_one = are_bodies(journal.records(), &[&[]]);
     let mut disk = journal.into_disk();
     let is_in_b = has_parts(alloc, &mut disk, &[(0, &[1]), (80, &[0xa5, 0, 0, 0, 0, 0])])?;
-    // What stands in area A counts for nothing from then on.
+    // What area A has counts for nothing from then on.
     Ok(has_one && is_in_b && holds(alloc, disk, &[&[]]))
 }
 

@@ -1,4 +1,4 @@
-// A disk of any size that keeps a few of its bytes alone. It is not honest: of what it reads nothing is promised.
+// A disk of any size that keeps only a few of its bytes. It is not honest: nothing is promised about what it reads.
 
 ghost use Rattle.std.specs.Prelude.{false, ◌≡◌, [], ⊤};
 ghost use Rattle.std.proofs.lemmas.Bool.{false≢true};

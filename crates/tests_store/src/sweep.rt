@@ -62,7 +62,7 @@ fn is_right(alloc: Global, disk: MemoryDisk, reached: Reached) -> bool {
     }
 }
 
-// Whether the disk is right where this many calls pass before the fuse, and each crash leaves it so.
+// Whether the disk is right if this many calls pass before the fuse, and each crash leaves it so.
 fn survives(alloc: Global, passes: u64, mode: FuseMode) -> Result<bool, Fail> {
     let (disk, reached) = run(alloc, passes, mode)?;
     for byte in [0x00u8, 0xa5, 0xff] {

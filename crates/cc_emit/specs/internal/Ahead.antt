@@ -1,4 +1,4 @@
--- What stands before a frame, as the code has it.
+-- What is before a frame, as the code has it.
 use Rattle.std.specs.Prelude.{Option, Some, None, List, [], ◌∷◌, ◌++◌, drop}
 use Rattle.cc_select.specs.declared.step.Step.{Step}
 use Rattle.cc_emit.specs.declared.early.Ahead as found

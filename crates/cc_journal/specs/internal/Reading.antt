@@ -22,7 +22,7 @@ pub record EndsClosed (bytes : List ℕ) (bodies : List (List ℕ)) : Type 0 whe
   pub is : bytes ≡ records bodies ++ gate ∷ behind
   pub closed : gate ≢ open_gate
 
--- what reading one record finds at the start of these bytes, where this many bytes of the area are left
+-- what reading one record finds at the start of these bytes, if this many bytes of the area are left
 abbrev pub FindsRecord : List ℕ → ℕ → Result (Option (List ℕ)) JournalFault → Type 0
 FindsRecord bytes left (Ok None) = (gate : ℕ) × (rest : List ℕ) × (bytes ≡ gate ∷ rest) × (gate ≢ open_gate)
 FindsRecord bytes left (Ok (Some body)) = (rest : List ℕ) × (bytes ≡ record_bytes body ++ rest)
@@ -62,6 +62,6 @@ is_fault_of_disk (Err Damaged) = false
 is_fault_of_disk (Err NotALibrary) = false
 is_fault_of_disk (Err OutOfMemory) = false
 
--- how many failures the disk has counted behind a call, of how many before it
+-- how many failures the disk has counted after a call, from how many before it
 abbrev pub counted : {T : Type 0} → Result T JournalFault → ℕ → ℕ
 counted result before = if is_fault_of_disk result then before + 1 else before

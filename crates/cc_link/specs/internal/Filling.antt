@@ -27,7 +27,7 @@ AllStayIn functions (f ∷ fs) = StayIn functions (length f) f × AllStayIn func
 abbrev pub ArePlaces : List ℕ → Type 0
 ArePlaces places = (f : ℕ) → f < length places → IsPlace (slice_index places f)
 
--- where an item leads is a place
+-- an item leads to a place
 abbrev pub Leads : (places : List ℕ) (place : ℕ) → PieceItem → Type 0
 Leads places place (Plain i) = Unit {0}
 Leads places place (Call f) = (f < length places) × IsPlace (slice_index places f)
@@ -39,12 +39,12 @@ pub record CanStand (functions place : ℕ) (items : List PieceItem) : Type 0 wh
   pub to : IsPlace (place + 4 * length items)
   pub stay : StayIn functions (length items) items
 
--- where functions stand, the first at the address a
+-- the places of functions, the first at the address a
 abbrev pub places_from : (a : ℕ) → List (List PieceItem) → List ℕ
 places_from a [] = []
 places_from a (f ∷ fs) = a ∷ places_from (a + 4 * length f) fs
 
--- each of some functions can stand there
+-- each of some functions can be there
 abbrev pub CanAllStand : (functions a : ℕ) → List (List PieceItem) → Type 0
 CanAllStand functions a [] = Unit {0}
 CanAllStand functions a (f ∷ fs) = CanStand functions a f × CanAllStand functions (a + 4 * length f) fs

@@ -5,7 +5,7 @@ use Rattle.cc_script.specs.declared.fault.ScriptFault.{ScriptFault}
 use Rattle.cc_session.specs.declared.end.SessionEnd.{SessionEnd}
 use Rattle.cc_session.specs.declared.end.SessionEnd.TheVariants.{Finished, Fault}
 
--- by the number of this fault, where one ended it
+-- by the number of this fault, if one ended it
 abbrev pub EndOf : {T : Type 0} → Result T ScriptFault → Option ℕ → Type 0
 EndOf (Ok done) end = end ≡ None
 EndOf (Err fault) end = end ≡ Some (fault_number fault)

@@ -20,8 +20,8 @@ use Rattle.cc_session.specs.declared.end.SessionEnd.TheVariants.{Finished, Fault
 use Rattle.cc_session.specs.declared.reading.Sent.{Sent}
 use Rattle.cc_session.specs.declared.reading.Sent.TheVariants.{Source, NoRoom, Unended}
 
--- What ends a script behind so many lines if more of it is left: 52, if as many are done as may be, or the client's receipts since its beginning hold too
--- much; 61, if there is a bound on its lines.
+-- What ends a script after this many lines if more of it is left: 52, if as many are done as may be, or the client's receipts
+-- since its beginning hold too much; 61, if there is a bound on its lines.
 abbrev pub EndsBehind : (most : Option ℕ) (first : MemberView) (lines : ℕ) (now : MemberView) → ScriptFault → Type 0
 EndsBehind most first lines now BadLine = ⊥
 EndsBehind most first lines now EndOfScript = ⊥
@@ -49,21 +49,21 @@ MayFollow limit (Line length) = limit ≡ None
 MayFollow limit TooLong = limit ≡ None
 MayFollow limit End = Unit {0}
 
--- The receipts of a client are counted that came after these.
+-- The receipts of a client that came after these are counted.
 pub record CountsSince (first now : List Receipt) (held : Held) : Type 0 where
   pub more : List Receipt
   pub now_is : now ≡ first ++ more
   pub seen : held.seen ≡ length now
   pub bytes : held.bytes ≡ at_most_told (receipts_bytes more)
 
--- this many bytes are taken from what is left, and the line's end behind them; or a byte more, which is no line's end
+-- this many bytes are taken from what is left, and the line's end after them; or one byte more, which is no line's end
 abbrev pub HasSent : (before : List ℕ) (count : ℕ) → Sent → (after : List ℕ) → Type 0
 HasSent before count (Source bytes) after =
     (source : List ℕ) × (rest : List ℕ) × (before ≡ source ++ rest) × (length source ≡ count) × IsLine rest [] after × (bytes.items ≡ take 65537 source)
 HasSent before count NoRoom after = (source : List ℕ) × (rest : List ℕ) × (before ≡ source ++ rest) × (length source ≡ count) × IsLine rest [] after
 HasSent before count Unended after = (source : List ℕ) × (byte : ℕ) × (before ≡ source ++ byte ∷ after) × (length source ≡ count) × (byte ≢ 10)
 
--- what was sent is the source that was read, where there was room for it and its line ends behind it
+-- what was sent is the source that was read, if there was room for it and its line ends after it
 abbrev pub IsSentAs : Option (Vec ℕ Global) → (is_ended : Bool) → Sent → Type 0
 IsSentAs (Some bytes) true sent = sent ≡ Source bytes
 IsSentAs None true sent = sent ≡ NoRoom
@@ -73,9 +73,9 @@ IsSentAs source false sent = sent ≡ Unended
 abbrev pub IsShortOf : (count : ℕ) (rest : List ℕ) → Type 0
 IsShortOf count rest = length rest < count
 
--- Why a step was not done to its end. 51 if the bytes that its line needs are not there, 52 if more are left than the script may have, and 53: then
--- nothing was done of it, but that 50 may be written of a line that was not read to its end. 54: nothing was done, or the step whose answer could not
--- be written.
+-- Why a step was not done to its end. 51 if the bytes that its line needs are not there, 52 if more are left than the script may
+-- have, and 53: then nothing was done of it, except that 50 may be written for a line that was not read to its end. 54: nothing
+-- was done, or the step whose answer could not be written.
 abbrev pub IsNotDone : (Does : List ℕ → List ℕ → Talk → Talk → Type 0) (IsShort IsBad : List ℕ → Type 0) (before : Ahead) (old new : Talk) → ScriptFault → Type 0
 IsNotDone Does IsShort IsBad before old new BadLine = ⊥
 IsNotDone Does IsShort IsBad before old new EndOfScript = (new ≡ old) × IfSome before.rest IsShort
@@ -85,7 +85,7 @@ IsNotDone Does IsShort IsBad before old new Stopped = ⊥
 IsNotDone Does IsShort IsBad before old new WriteFault =
     IfSome before.rest (λ b. (new.client ≡ old.client) ⊎ ((a : List ℕ) × (written : Option (List ℕ)) × Does b a old (talk new.client written)))
 
--- the step was done if it was answered
+-- the step was done, if this is Ok
 abbrev pub IsDone : {T : Type 0} → (Does : List ℕ → List ℕ → Talk → Talk → Type 0) (IsShort IsBad : List ℕ → Type 0) (before after : Ahead) (old new : Talk) → Result T ScriptFault → Type 0
 IsDone Does IsShort IsBad before after old new (Ok done) = Between before after (λ b a. Does b a old new)
 IsDone Does IsShort IsBad before after old new (Err fault) = IsNotDone Does IsShort IsBad before old new fault
@@ -95,7 +95,7 @@ abbrev pub IsObeyedNot : Mode → (most : Option ℕ) (asked : Option ScriptRequ
 IsObeyedNot mode most asked before old new Stopped = IsBounded most × CutsLine asked old new
 IsObeyedNot mode most asked before old new fault = IsNotDone (λ b a o n. Obeys mode asked b a o n) (λ rest. IsCutShort asked rest) (λ rest. HasUnended asked rest) before old new fault
 
--- it was, if it was answered
+-- it was obeyed, if this is Ok
 abbrev pub IsObeyed : Mode → {T : Type 0} → (most : Option ℕ) (asked : Option ScriptRequest) (before after : Ahead) (old new : Talk) → Result T ScriptFault → Type 0
 IsObeyed mode most asked before after old new (Ok done) = Between before after (λ b a. Obeys mode asked b a old new)
 IsObeyed mode most asked before after old new (Err fault) = IsObeyedNot mode most asked before old new fault

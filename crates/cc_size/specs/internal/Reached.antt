@@ -1,4 +1,4 @@
--- From which functions calls lead to one, as the code finds it.
+-- The functions from which calls lead to one, as the code finds them.
 use Rattle.std.specs.Prelude.{◌≡◌, ℕ, zero, suc, ◌<◌, ◌≤◌, ◌⊎◌, Bool, true, false, ◌||◌, ◌==◌, List, [], ◌∷◌, Contains, length, get_or}
 use Rattle.cc_emit.specs.declared.item.PieceItem.{PieceItem}
 use Rattle.cc_emit.specs.declared.item.PieceItem.TheVariants.{Plain, Call, Go}
@@ -16,7 +16,7 @@ abbrev pub items_call : (is : ℕ → Bool) → List PieceItem → Bool
 items_call is [] = false
 items_call is (item ∷ items) = item_calls is item || items_call is items
 
--- calls lead from a function to the target, at most so many
+-- at most this many calls lead from a function to the target
 unfoldable pub reaches : (bodies : List (List PieceItem)) (target : ℕ) → (calls f : ℕ) → Bool
 reaches bodies target zero f = f == target
 reaches bodies target (suc calls) f = reaches bodies target calls f || items_call (reaches bodies target calls) (get_or bodies f [])
@@ -27,7 +27,7 @@ nearer is [] bodies = []
 nearer is (b ∷ bs) [] = []
 nearer is (b ∷ bs) (items ∷ rest) = (b || items_call is items) ∷ nearer is bs rest
 
--- the calls of functions before one, and its own of functions before another, as far as they are part of cycles
+-- all calls of functions before `caller`, and those of `caller` to functions before `called`, that are part of cycles
 pub record FoundUpTo (bodies : List (List PieceItem)) (caller called : ℕ) (found : List Recursion) : Type 0 where
   pub each : (it : Recursion) → Contains found it → IsCyclic bodies it
   pub all : (it : Recursion) (cycle : IsCyclic bodies it) → length cycle.way ≤ length bodies → (it.caller < caller) ⊎ ((it.caller ≡ caller) × (it.called < called)) → Contains found it

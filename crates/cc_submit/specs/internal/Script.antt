@@ -1,4 +1,4 @@
--- What is sent of a line with bytes after it.
+-- What is sent for a line with bytes after it.
 use Rattle.std.specs.Prelude.{ℕ, List, ◌++◌, length, codes}
 use Rattle.std.specs.Fmt.{decimal}
 

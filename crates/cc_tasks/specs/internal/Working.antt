@@ -30,7 +30,8 @@ pub record IsAnsweredFor (task : Task) (text : List ℕ) (old new : Option (List
 abbrev pub IsRefusedFor : Task → (text : List ℕ) (old new : Option (List ℕ)) → Fault → Type 0
 IsRefusedFor task text old new fault = (fault ≡ Write) ⊎ (IsRefused task text fault × Appends old new (fault_text text fault))
 
--- why there is no answer: something could not be written, 54, and nothing is known of what was; or the line of the fault was written
+-- why there is no answer: something could not be written, 54, and nothing is known of what was written; or the line of the fault
+-- was written
 abbrev pub HasNoAnswer : Task → (input old new : Option (List ℕ)) → Fault → Type 0
 HasNoAnswer task input old new fault = (fault ≡ Write) ⊎ IsToldFault task input old new fault
 
@@ -56,7 +57,7 @@ abbrev pub status_of : Result Matter Fault → ℕ
 status_of (Ok matter) = matter_status matter
 status_of (Err fault) = 1
 
--- whether a fault is told by its line: all but 54
+-- whether a fault is reported by its line: all but 54
 abbrev pub is_told : Fault → Bool
 is_told (NoText f) = true
 is_told (Meaning f) = true
@@ -67,7 +68,7 @@ is_told OutOfMemory = true
 is_told Read = true
 is_told Write = false
 
--- whether all that was to be written is
+-- whether all that was to be written is written
 abbrev pub written_of : Result Matter Fault → Bool
 written_of (Ok matter) = true
 written_of (Err fault) = is_told fault

@@ -8,7 +8,7 @@ use Rattle.cc_service.specs.Named.{Names}
 abbrev pub AreNamed : (fresh : Names) (name parts : ℕ) (queue : QueueName) (failures : ℕ) → Type 0
 AreNamed fresh name parts queue failures = (fresh.ledger ≡ name) × (parts ≡ 1025) × (fresh.queue ≡ queue) × (failures ≡ 0)
 
--- these, the map that was found, and the disk's first moment, of which nothing is said
+-- these, the map that was found, and the disk's first moment, about which nothing is stated
 abbrev pub IsNamed : (fresh : Names) (found : Units) (name parts : ℕ) (queue : QueueName) (failures : ℕ) (base : Units) (from : ℕ) (left : List ℕ → Type 0) → Type 0
 IsNamed fresh found name parts queue failures base from left =
     AreNamed fresh name parts queue failures × (found ≡ base) × (from ≡ 0) × ((image : List ℕ) → left image)

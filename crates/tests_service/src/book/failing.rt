@@ -34,8 +34,8 @@ fn is_promised(alloc: Global, disk: MemoryDisk, state: &State) -> Result<bool, F
     Ok(shows(alloc, &library, &state.model)? || shows(alloc, &library, &state.with)?)
 }
 
-// Plays the calls on a device that passes this many of its calls: the place of the one answered 35. An error where a crash leaves another
-// map than is promised.
+// Plays the calls on a device that passes this many of its calls. The result is the place of the one answered 35. An error if a
+// crash leaves another map than is promised.
 fn failed_at<R: Threads + Wait + Copy + Send + 'static>(
     rt: &R,
     alloc: Global,

@@ -39,7 +39,7 @@ fn texts_before_their_turn(rt: HostRuntime) -> Result<(), Fail> {
     succeeds(&rt, rt.alloc(), ALL, 2, NoGate, Trial::BeforeTheirTurn)
 }
 
-/// Hands three texts in, puts two of them in another order, between looks, and lets one go; all calls of the client count.
+/// Hands three texts in, puts two of them in another order, between looks, and drops one; all calls of the client count.
 pub fn before_their_turn<N: Own, R: Wait>(
     rt: &R,
     alloc: Global,
@@ -67,7 +67,7 @@ fn texts_that_are_not_put(rt: HostRuntime) -> Result<(), Fail> {
     succeeds(&rt, rt.alloc(), ALL, 2, NoGate, Trial::NotPut)
 }
 
-/// The number of the answer to a put of a text that is handed in first; that of the handing in, where this is refused.
+/// The number of the answer to a put of a text that is handed in first; that of the handing in, if this is refused.
 pub fn put_number<N: Own, R: Wait>(
     rt: &R,
     alloc: Global,
@@ -87,7 +87,7 @@ pub fn put_number<N: Own, R: Wait>(
     }
 }
 
-/// Names and texts that are none, a function that is too long, a unit that has no room, and names that have a unit or none.
+/// Names and texts that are not allowed, a function that is too long, a unit that has no room, and names that have a unit or not.
 pub fn not_put<N: Own, R: Wait>(rt: &R, alloc: Global, service: Fused<N>) -> Result<bool, Fail> {
     let mut client = service.client(rt, alloc)?;
     let nodes = repeated(alloc, b"int main(void){", b"write_word(0);", 4097, b"}")?;

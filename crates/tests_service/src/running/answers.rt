@@ -63,7 +63,7 @@ fn are_seen<N: Own, R: Wait>(
         && is_listed(service.list(rt, alloc, client), 7, &AFTER)
 }
 
-// Names that are none, texts that are none, and names that have a unit or none: the last four are entries 8 to 11.
+// Names that are not names, texts that are no programs, and names that have a unit or not: the last four are entries 8 to 11.
 fn are_refused<N: Own, R: Wait>(
     rt: &R,
     alloc: Global,
@@ -84,7 +84,7 @@ fn are_refused<N: Own, R: Wait>(
     Ok(names && texts && counted && map)
 }
 
-// Whether an answer is the fault with this number, at this column of the first line, or nowhere where that is 0.
+// Whether an answer is the fault with this number, at this column of the first line, or at no place if that is 0.
 fn is_refused_at(answer: Result<Receipt, ServiceFault>, number: u32, column: usize) -> bool {
     match answer {
         Ok(receipt) => {
@@ -103,8 +103,8 @@ fn is_refused_at(answer: Result<Receipt, ServiceFault>, number: u32, column: usi
     }
 }
 
-// Texts with an unclosed comment, another token than is expected, and an unknown name; one that is too long for a text, one with too many
-// nodes for a function, and one that is too long for the area.
+// Texts with an unclosed comment, another token than is expected, and an unknown name; one that is too long for a text, one with
+// too many nodes for a function, and one that is too long for the area.
 fn are_texts_refused<N: Own, R: Wait>(
     rt: &R,
     alloc: Global,
@@ -130,7 +130,7 @@ fn are_texts_refused<N: Own, R: Wait>(
     Ok(right)
 }
 
-// What the end hands out: the base without a name, the library with the map, and a history and receipts that the model makes too.
+// What the end returns: the base without a name, the library with the map, and a history and receipts that the model makes too.
 fn is_whole<D: Disk>(alloc: Global, closed: &Closed<D>) -> Result<bool, Fail> {
     let replays = match replayed(closed.history.as_slice(), closed.receipts.as_slice()) {
         Some(model) => model == AFTER,

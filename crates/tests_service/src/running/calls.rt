@@ -98,8 +98,8 @@ fn one_client_updates(rt: HostRuntime) -> Result<(), Fail> {
     succeeds(&rt, rt.alloc(), ALL, 1, NoGate, Trial::Updates)
 }
 
-/// Adds a unit, and updates it: an update whose expected source is another one has the entry of its look alone, one that is done that and the
-/// next, and one of a name without a unit that of its look.
+/// Adds a unit, and updates it. An update whose expected source is another one has the entry of its look alone, one that is done
+/// has that and the next, and one for a name without a unit has that of its look.
 pub fn updates<N: Own, R: Wait>(rt: &R, alloc: Global, service: Fused<N>) -> Result<bool, Fail> {
     let mut client = service.client(rt, alloc)?;
     let added = done_at(service.add(rt, alloc, &mut client, b"a", TEXTS[0]));
@@ -189,7 +189,8 @@ fn given_up_without_its_client(rt: HostRuntime) -> Result<(), Fail> {
     )
 }
 
-/// Adds a unit and gives the service up, without its client where that is lost: whether it says so, and the disk has the unit.
+/// Adds a unit and gives the service up, without its client if that is lost. The result is whether it says so, and the disk has
+/// the unit.
 pub fn gives_up<N: Own, R: Wait>(
     rt: &R,
     alloc: Global,

@@ -23,7 +23,7 @@ fn sixteen_clients(rt: HostRuntime) -> Result<(), Fail> {
     succeeds(&rt, rt.alloc(), ALL, 4, NoGate, Trial::SixteenClients)
 }
 
-/// Whether the calls of all clients stand in one history, which the model makes too, and the library is the model's at its end.
+/// Whether the calls of all clients are in one history, which the model makes too, and the library is the model's at its end.
 pub fn are_replayed<N, R>(rt: &R, alloc: Global, service: Fused<N>) -> Result<bool, Fail>
 where
     N: Named + Send + Sync + 'static,

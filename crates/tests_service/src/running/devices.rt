@@ -64,7 +64,7 @@ fn map_at(place: usize) -> Model {
     if place < 6 { MAPS[place] } else { EMPTY }
 }
 
-// The place of the call that was answered 35, or 5; an error where one before it was not Ok, or one behind it not answered 36.
+// The place of the call that was answered 35, or 5. An error if one before it was not Ok, or one after it was not answered 36.
 fn failed_at<N: Own, R: Wait>(
     rt: &R,
     alloc: Global,
@@ -83,8 +83,8 @@ fn failed_at<N: Own, R: Wait>(
     Ok(failed)
 }
 
-/// Makes the five calls, looks, and ends: whether the one at this place failed, or none where it is 5, and the look, the end, and the disk
-/// after crashes are as they should be.
+/// Makes the five calls, looks, and ends. The result is whether the one at this place failed, or none if it is 5, and the look,
+/// the end, and the disk after crashes are as they should be.
 pub fn five_calls<N: Own, R: Wait>(
     rt: &R,
     alloc: Global,

@@ -1,4 +1,4 @@
-// A service on a file: one that is let go without an end, and what the next one finds.
+// A service on a file: one that is dropped without an end, and what the next one finds.
 
 ghost use Rattle.tests_service.specs.internal.Named.{AreNamed};
 
@@ -67,7 +67,7 @@ where
     Ok((service, client))
 }
 
-// Adds, and lets the service go once the receipt is there.
+// Adds, and drops the service once the receipt is there.
 fn adds<N: Own, R>(rt: &R, alloc: Global, fresh: Fresh, disk: FileDisk) -> Result<bool, Fail>
 where
     R: Threads + Wait + Copy + Send + 'static,

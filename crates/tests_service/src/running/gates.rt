@@ -17,19 +17,19 @@ use tests_texts::worked::LONG;
 // How often a gate that holds lets others go on, at most.
 const TURNS: u64 = 20_000_000;
 
-/// What a gate and its test tell each other.
+/// What a gate and its test report to each other.
 pub struct Signs {
     // How many calls the gate has had.
     calls: AtomicU64,
-    // At how many of these, or of other signs, the first call is let go.
+    // The count of these, or of other signs, at which the first call may go on.
     wanted: u64,
     pub signs: AtomicU64,
-    // 1 where the hold ended below its limit.
+    // 1 if the hold ended below its limit.
     pub ended: AtomicU64,
 }
 
 impl Signs {
-    /// Waits until the gate has had a call, for so long at most.
+    /// Waits until the gate has had a call, for a limited time.
     pub fn wait_for_a_call(&self) {
         for _ in 0..TURNS {
             if self.calls.load(Ordering::SeqCst) > 0 {
@@ -78,7 +78,7 @@ impl Drop for Signs {
     }
 }
 
-/// What a gate tells that holds until this many signs have come, of which each of its calls is one or is none; and the gate.
+/// What a gate reports that holds until this many signs have come, and the gate. Each of its calls may count as a sign or not.
 pub fn held_until(
     alloc: Global,
     wanted: u64,
@@ -107,7 +107,8 @@ fn two_pieces_at_once(rt: HostRuntime) -> Result<(), Fail> {
     succeeds(&rt, rt.alloc(), ALL, 2, gate, trial)
 }
 
-/// Whether an `add` is answered with Ok whose first piece is held until the other one is begun, and the hold ended below its limit.
+/// Whether an `add` is answered with Ok though its first piece is held until the other one is begun, and the hold ended below its
+/// limit.
 pub fn held_by_a_piece<N: Own, R: Wait>(
     rt: &R,
     alloc: Global,
@@ -127,8 +128,8 @@ fn another_client_is_answered(rt: HostRuntime) -> Result<(), Fail> {
     succeeds(&rt, rt.alloc(), ALL, 2, gate, trial)
 }
 
-/// Whether two adds are answered with Ok, of which one is held and the other one is begun and answered during the hold, and that ended below
-/// its limit; and the service was busy meanwhile, and no longer then.
+/// Whether two adds are answered with Ok, though one is held and the other one is begun and answered during the hold, which ended
+/// below its limit; and whether the service was busy meanwhile, and no longer then.
 pub fn held_by_a_client<N, R>(
     rt: &R,
     alloc: Global,

@@ -1,5 +1,5 @@
-// An `add` of which a growth is refused, its text handed in first or not. `bench/memory.sh service` refuses each allocation of these tests in
-// turn, so one in all.
+// An `add` with a growth that is refused, its text handed in first or not. `bench/memory.sh service` refuses each allocation of
+// these tests in turn, so there is one test for all.
 
 use super::ahead::put_number;
 use super::reading::number;
@@ -46,8 +46,8 @@ fn is_out(number: u32) -> bool {
     number == 40 || number == 41
 }
 
-// Adds one unit twice, where the first call was refused by 40 or 41 as if it had not been made: how many entries there are, or none
-// where it was not so.
+// Adds one unit twice, if the first call was refused by 40 or 41 as if it had not been made. The result is how many entries there
+// are, or none if it was not so.
 fn adds_twice<N: Own, R: Wait>(
     rt: &R,
     alloc: Global,
@@ -84,7 +84,7 @@ pub fn is_added<N: Own, R: Wait>(
     };
     let closed = match service.finish(rt, alloc, alone(alloc, client)?) {
         Ok(closed) => closed,
-        // The end is asked for again where memory ran out at it.
+        // The end is asked for again if memory ran out at it.
         Err((fault, service, clients)) => {
             let number = fault.number();
             drop(fault);

@@ -30,7 +30,7 @@ pub trait Own: Named + Send + Sync + 'static {}
 
 impl Own for Brand {}
 
-/// How many calls of a device pass where none is to fail.
+/// How many calls of a device pass if none is to fail.
 pub const ALL: u64 = 1 << 40;
 
 /// How many calls of its device an opening makes.
@@ -48,7 +48,7 @@ pub struct Begun {
     ghost base_is: { (units : Units) → Recovers (bytes_of device.disk.cells) units → units ≡ base },
 }
 
-/// On a formatted device, of which this many calls pass before one fails.
+/// On a formatted device that passes this many calls before one fails.
 pub fn prepared(alloc: Global, passes: u64) -> Result<Begun, Fail> {
     let (disk, base) = found(alloc, formatted(alloc)?)?;
     let device = FuseDisk::new(disk, passes, FuseMode::Once);

@@ -49,7 +49,7 @@ pub enum Trial<'a> {
     FailsAhead,
     /// A text that was handed in is held while another one is put.
     HeldAhead { signs: &'a Arc<Signs> },
-    /// An `add` is made twice, its text handed in first or not, of which a growth may be refused.
+    /// An `add` is made twice, its text handed in first or not; a growth of it may be refused.
     IsAdded { is_ahead: bool },
 }
 
@@ -99,7 +99,7 @@ where
     is_right_on(rt, alloc, service, trial)
 }
 
-/// The same on a device of which this many calls pass before one fails, with this many workers, which pass this gate.
+/// The same on a device that passes this many calls before one fails, with this many workers, which pass this gate.
 pub fn is_right<R, G>(
     rt: &R,
     alloc: Global,
@@ -118,7 +118,7 @@ where
     begins_right::<Brand, R, G>(rt, alloc, begun, workers, gate, trial)
 }
 
-/// The failure of a test where it is not.
+/// The failure of a test if it is not.
 pub fn succeeds<R, G>(
     rt: &R,
     alloc: Global,

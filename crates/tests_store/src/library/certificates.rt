@@ -90,7 +90,7 @@ fn compact_keeps_each_certificate(rt: HostRuntime) -> Result<(), Fail> {
     each_passes(rt.alloc(), &table, is_kept)
 }
 
-// These bytes with another first one.
+// These bytes with another first byte.
 fn of_version(alloc: Global, version: u8, body: &[u8]) -> Result<Vec<u8>, Fail> {
     let mut bytes = vec![in alloc; version; 1]?;
     for byte in body.iter().skip(1) {
@@ -140,7 +140,7 @@ fn certified(alloc: Global, count: usize) -> Result<Arc<StoredUnit>, Fail> {
     Ok(Arc::new(alloc, stored)?)
 }
 
-// Whether adding `a` with a certificate of so many bytes is answered with this number.
+// Whether adding `a` with a certificate of this many bytes is answered with this number.
 fn is_answered(alloc: Global, row: &(usize, u32)) -> Result<bool, Fail> {
     let unit = certified(alloc, row.0)?;
     let mut library = opened(alloc, formatted(alloc, 64)?)?;

@@ -92,7 +92,7 @@ pub fn number(answer: Result<(), LibraryFault>) -> u32 {
     }
 }
 
-/// Does one step: the number of the answer.
+/// Does one step. The result is the number of the answer.
 pub fn does<D: Disk>(alloc: Global, library: &mut Library<D>, step: Step) -> Result<u32, Fail> {
     match step {
         Step::Add(letter, word) => {
@@ -122,7 +122,7 @@ pub fn answers<D: Disk>(
     Ok(true)
 }
 
-/// Does these steps until one is refused: how many were done.
+/// Does these steps until one is refused. The result is how many were done.
 pub fn steps_done<D: Disk>(
     alloc: Global,
     library: &mut Library<D>,
@@ -151,7 +151,7 @@ pub fn opened<D: Disk + Drop>(alloc: Global, disk: D) -> Result<Library<D>, Fail
     }
 }
 
-/// The first code word of the unit of that name, where it has one.
+/// The first code word of the unit of that name, if it has one.
 fn word_of<D: Disk>(library: &Library<D>, letter: u8) -> Result<Option<u32>, Fail> {
     Ok(
         library
@@ -160,7 +160,7 @@ fn word_of<D: Disk>(library: &Library<D>, letter: u8) -> Result<Option<u32>, Fai
     )
 }
 
-/// What a library holds under `a` and under `b`: the words of the units, where there are some.
+/// What a library holds under `a` and under `b`: the words of the units, if there are any.
 pub type Held = (Option<u32>, Option<u32>);
 
 /// Whether the library holds these units, and no others.

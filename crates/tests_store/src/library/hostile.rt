@@ -1,4 +1,4 @@
-// Disks that nobody formatted so. The record of the worked row is a Withdraw of `a`.
+// Disks that nobody formatted in this way. The record of the worked row is a Withdraw of `a`.
 
 use crate::helpers::{SIZE, bytes_of, disk_of, row_disk};
 use crate::library::helpers::{Step, formatted, opened, recovers, refusal, steps_done};
@@ -53,7 +53,7 @@ fn each_closed_gate_is_an_empty_library(rt: HostRuntime) -> Result<(), Fail> {
     Ok(())
 }
 
-// The bytes of a disk with three records, in area B where the empty library was compacted first.
+// The bytes of a disk with three records, in area B if the empty library was compacted first.
 fn three_records(alloc: Global, moved: bool) -> Result<Vec<u8>, Fail> {
     let mut library: Library<MemoryDisk> = opened(alloc, formatted(alloc, 64)?)?;
     let steps = [
@@ -89,7 +89,7 @@ fn refusal_of(alloc: Global, bytes: &[u8]) -> Result<u32, Fail> {
     Ok(refusal(alloc, disk_of(alloc, bytes)?))
 }
 
-// Whether the disk with three records is opened, and none that is shorter is.
+// Whether the disk with three records is opened, and no shorter one is.
 fn has_no_prefix(alloc: Global, moved: &bool) -> Result<bool, Fail> {
     let bytes = three_records(alloc, *moved)?;
     let mut right = bytes.len() == SIZE && refusal_of(alloc, &bytes)? == 0;

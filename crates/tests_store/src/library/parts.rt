@@ -21,7 +21,7 @@ static CERTIFIED: [u8; 40] =
 static REPLACE: [u8; 27] =
     *b"\x02\x02\x01a\x00\x00\x00\x00\x01\x00\x00\x00\x07\x00\x00\x00\x00\x00\x00\x00\x03\x00\x00\x00xyz";
 
-// The body of Withdraw of `a`, as it is written, and as it is read as well.
+// The body of Withdraw of `a`, as it is written, and as it may be read too.
 static WITHDRAW: [u8; 4] = *b"\x02\x03\x01a";
 
 static WITHDRAW_1: [u8; 4] = *b"\x01\x03\x01a";
@@ -60,7 +60,7 @@ fn is_add_body(alloc: Global, wanted: &[u8]) -> Result<bool, Fail> {
 // The bytes of a command, and those of its body.
 type Row = (&'static [u8], &'static [u8]);
 
-// Whether the command that the bytes are has a body of these, and as many as were read.
+// Whether the command in these bytes has a body of these, and as many as were read.
 fn is_spelled(alloc: Global, row: &Row) -> Result<bool, Fail> {
     let (bytes, wanted) = *row;
     let command = read_command(alloc, bytes)?;
@@ -74,7 +74,7 @@ fn is_spelled(alloc: Global, row: &Row) -> Result<bool, Fail> {
 // The bytes of an Add or a Replace, and the certificate of its unit.
 type Certified = (&'static [u8], Option<&'static [u8]>);
 
-// Whether the unit of an Add or a Replace that the bytes are has that certificate.
+// Whether the unit of the Add or Replace in these bytes has that certificate.
 fn is_certified(alloc: Global, row: &Certified) -> Result<bool, Fail> {
     let (bytes, wanted) = *row;
     let command = read_command(alloc, bytes)?;

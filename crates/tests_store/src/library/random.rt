@@ -38,7 +38,7 @@ fn put_record(bytes: &mut Vec<u8>, command: Random) -> Result<(), Fail> {
     Ok(())
 }
 
-// What `a` and `b` stand for after a command, where it is accepted.
+// What `a` and `b` hold after a command, if it is accepted.
 fn after(held: Held, command: Random) -> Option<Held> {
     let old = if command.letter == b'a' {
         held.0
@@ -59,7 +59,7 @@ fn after(held: Held, command: Random) -> Option<Held> {
 
 const AREA: u32 = 256;
 
-// The bytes of a disk with up to seven random records, and what the library has to be: none where a command is refused.
+// The bytes of a disk with up to seven random records, and what the library has to be: none if a command is refused.
 fn random_records(alloc: Global, state: &mut u64) -> Result<(Vec<u8>, Option<Held>), Fail> {
     let mut bytes = bytes_of(alloc, &mut formatted(alloc, AREA)?)?;
     let size = bytes.len();
@@ -97,8 +97,8 @@ fn random_records_stand_for_their_fold(rt: HostRuntime) -> Result<(), Fail> {
     Ok(())
 }
 
-// Whether such a disk with up to four random bytes is refused with 37 or 38, or opened; and then compacted, opened again,
-// and the names are the same.
+// Whether such a disk with up to four random bytes is refused with 37 or 38, or opened; and then compacted, opened again, and the
+// names are the same.
 fn is_opened_or_refused(alloc: Global, state: &mut u64) -> Result<bool, Fail> {
     let (mut bytes, _) = random_records(alloc, state)?;
     for _ in 0..1 + next_byte(state) % 4 {

@@ -30,7 +30,7 @@ fn full<D: Disk + Drop>(alloc: Global, disk: D) -> Result<Library<D>, Fail> {
     }
 }
 
-// A unit with so many bytes of source, which its record has beside 25.
+// A unit with this many bytes of source, which its record has beside 25.
 fn sized(alloc: Global, count: usize) -> Result<SharedUnit, Fail> {
     let source = vec![in alloc; b' '; count]?;
     Ok(SharedUnit::new(Arc::new(alloc, unit(alloc, &source, 5)?)?))
@@ -44,7 +44,7 @@ fn looks<D: Disk>(library: &Library<D>, command: &LibraryCommand) -> (bool, bool
     )
 }
 
-// The command that adds `c` with so many bytes of source.
+// The command that adds `c` with this many bytes of source.
 fn added(alloc: Global, count: usize) -> Result<LibraryCommand, Fail> {
     let unit = sized(alloc, count)?;
     Ok(LibraryCommand::Add(name(b'c')?, unit))
@@ -87,7 +87,7 @@ fn is_replaced(alloc: Global, row: &Row) -> Result<bool, Fail> {
     Ok(library.is_mended_by_compact(&command) == row.1)
 }
 
-// The old unit stands until its successor does: 25 bytes of source behind two records, not 50 in place of one.
+// The old unit stays until its successor is there: 25 bytes of source after two records, not 50 in place of one.
 #[test]
 fn a_replace_needs_room_beside_the_old_unit(rt: HostRuntime) -> Result<(), Fail> {
     each_passes(
@@ -154,7 +154,7 @@ fn stays_mended<D: Disk>(library: &Library<D>, command: &LibraryCommand) -> bool
     true
 }
 
-// Whether a library is closed by the first device call behind the changes, and a look says what it should before that and after.
+// Whether a library is closed by the first device call after the changes, and a look says what it should before that and after.
 fn is_closed(alloc: Global) -> Result<bool, Fail> {
     let command = added(alloc, 25)?;
     let disk = FuseDisk::new(formatted(alloc, AREA)?, CALLS, FuseMode::Once);
@@ -167,13 +167,13 @@ fn is_closed(alloc: Global) -> Result<bool, Fail> {
     )
 }
 
-// A closed library answers 36. Until then no look has called the device: the call that fails is the first behind the changes.
+// A closed library answers 36. Until then no look has called the device: the call that fails is the first after the changes.
 #[test]
 fn a_closed_library(rt: HostRuntime) -> Result<(), Fail> {
     passes(is_closed(rt.alloc()))
 }
 
-// Whether a library takes so many bytes of its area, would take so many after a compaction, and has so many units.
+// Whether a library takes this many bytes of its area, would take this many after a compaction, and has this many units.
 fn takes<D: Disk>(library: &Library<D>, used: usize, compacted: usize, units: usize) -> bool {
     let space = library.space();
     (space.area, space.used) == (AREA as usize, used)

@@ -88,7 +88,7 @@ fn are_names(names: &[Name], wanted: &[&[u8]]) -> bool {
             .all(|(name, bytes)| name.bytes() == *bytes)
 }
 
-// Adds a unit under that name: whether the answer is Ok.
+// Adds a unit under that name. The result is whether the answer is Ok.
 fn is_added<D: Disk>(alloc: Global, library: &mut Library<D>, name: &[u8]) -> Result<bool, Fail> {
     let unit = word_unit(alloc, 0)?;
     Ok(library.add(alloc, Name::new(name)?, unit).is_ok())

@@ -21,7 +21,7 @@ const STEPS: [Step; 5] = [
     Step::Withdraw(b'b'),
 ];
 
-// What `a` and `b` stand for after this many of the steps.
+// What `a` and `b` hold after this many of the steps.
 fn map_after(done: usize) -> Held {
     match done {
         0 => (None, None),
@@ -37,7 +37,7 @@ fn fused(alloc: Global, passes: u64, mode: FuseMode) -> Result<FuseDisk<MemoryDi
     Ok(FuseDisk::new(formatted(alloc, 128)?, passes, mode))
 }
 
-// Does the steps until one is refused: the disk, and how many were done.
+// Does the steps until one is refused. The result is the disk, and how many were done.
 fn changed(alloc: Global, disk: FuseDisk<MemoryDisk>) -> Result<(MemoryDisk, usize), Fail> {
     match Library::open(alloc, disk) {
         Ok(opened) => {
@@ -49,7 +49,7 @@ fn changed(alloc: Global, disk: FuseDisk<MemoryDisk>) -> Result<(MemoryDisk, usi
     }
 }
 
-// What a crash leaves where it may: one byte everywhere, or bytes that look random.
+// What a crash leaves at the places where it may: one byte everywhere, or bytes that look random.
 fn choice(number: u64) -> [u8; 272] {
     let mut choice = match number {
         0 => [0; 272],

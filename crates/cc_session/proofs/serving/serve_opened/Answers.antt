@@ -1,4 +1,4 @@
--- The clients did so, and the service ended so.
+-- The clients did this, and the service ended so.
 use Rattle.cc_service.specs.Client.{members}
 use Rattle.cc_session.proofs.serving.serve_opened.Goals as goal
 
