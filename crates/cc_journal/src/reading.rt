@@ -20,7 +20,7 @@ pub const LEAST_AREA: usize = 64;
 
 pub const LARGEST_AREA: usize = 1 << 30;
 
-/// The bytes of a header in front of the two areas.
+/// The bytes of a header before the two areas.
 pub const HEADER: usize = 16;
 
 /// The records that a disk holds, and their place.

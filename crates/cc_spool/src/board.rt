@@ -38,7 +38,7 @@ const MOST_AGAIN: usize = 5_000;
 
 const AGAIN: u64 = 1;
 
-/// The most names that are looked at when it is asked whether a script waits.
+/// The most names that are looked at to find whether a script waits.
 const MOST_LOOKED: usize = 64;
 
 /// How many seconds after the last change of `new` a look has to begin to see all: a change within the clock's grain has the same
@@ -328,7 +328,7 @@ impl Board {
         Ok(())
     }
 
-    // Reads the entries of `new`; whether there are no more.
+    // Reads the entries of `new`. The result is whether there are no more.
     fn read(&mut self, layout: &FolderLayout) -> Result<bool, Refusal> {
         let mut entries = layout.entries("new")?;
         for _ in 0..MOST_ENTRIES {
