@@ -183,7 +183,8 @@ impl Board {
         }
     }
 
-    /// Whether a script waits that can be claimed. Only so many names are looked at, and the next call goes on after them.
+    /// Whether a script waits that can be claimed. Only a limited number of names is looked at, and the next call goes on after
+    /// them.
     pub(crate) fn has_claimable(&mut self, layout: &FolderLayout) -> Result<bool, Refusal> {
         let now = Instant::now(&layout.rt)?;
         for _ in 0..MOST_LOOKED {
