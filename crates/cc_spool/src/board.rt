@@ -1,7 +1,7 @@
 // What waits in `new`, as all clients of one server know it.
 //
 // One client at a time looks through `new`. All clients take the names that it found, the least first, each once. A look costs as
-// much as `new` has entries, and anybody may put entries there that can't be claimed. So no look is made while `new` is
+// much as `new` has entries, and anybody may put entries that can't be claimed there. So no look is made while `new` is
 // unchanged, and a name that could not be claimed is passed over for a while, which doubles each time. Then it is tried again
 // without a look, after the names that were never tried, together with at most a fixed number of others a second. So names that
 // can't be claimed take no more of a processor the more there are, and a script waits for few of them. If there are more names
@@ -24,7 +24,7 @@ pub const MOST_ENTRIES: usize = 1_048_576;
 /// The most names of a look that are kept, which are the least ones, and the most that are passed over.
 const MOST_NAMES: usize = 131_072;
 
-/// For how long a name is passed over that could not be claimed, in seconds: at first, and at most.
+/// For how long a name that could not be claimed is passed over, in seconds: at first, and at most.
 const LEAST_PASS: u64 = 1;
 
 const MOST_PASS: u64 = 30;
