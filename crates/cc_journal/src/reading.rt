@@ -85,7 +85,7 @@ pub fn header_bytes(area_byte: u8, area: u32) -> [u8; 16]
     ]
 }
 
-// Whether a disk of that many bytes has room for two areas of that size, which is within its limits.
+// Whether a disk of this many bytes has room for two areas of that size, which is within its limits.
 pub fn is_area(size: usize, area: usize) -> bool
     ensures { IsTrue result ↔ IsArea size area }
 {

@@ -138,7 +138,7 @@ fn first_try(passed: &[Passed]) -> Option<Instant> {
     first
 }
 
-// Brings names back that are to be tried again now, until there are this many.
+// Brings back names that are to be tried again now, until there are this many.
 fn bring_back(passed: &mut Vec<Passed>, again: &mut Vec<Candidate>, alloc: Global, now: Instant) {
     for it in passed.iter_mut() {
         if again.len() < MOST_AGAIN && it.until <= now {
