@@ -1,4 +1,4 @@
-/* Put before the C library's calls: writes to the file CALLS_TO, a line each, those that change or settle the file CALLS_OF:
+/* Wraps the C library's calls: writes to the file CALLS_TO, a line each, those that change or sync the file CALLS_OF:
    "write OFFSET HEX", "length BYTES", "room OFFSET BYTES" and "sync". Each is written once it has succeeded. */
 #define _GNU_SOURCE
 #include <dlfcn.h>

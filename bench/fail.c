@@ -1,6 +1,6 @@
-/* Put before the C library's calls: of the calls that name a file below the folder FAIL_IN, or one that is open there, that with the number FAIL_AT
-   (from 1) is refused with the number of an error FAIL_WITH; with FAIL_DONE it is done first, as over a network whose answer is lost; with FAIL_KILL
-   the process is killed in its place. To the file FAIL_TOLD goes a line when that comes, "NUMBER CALL FILE". */
+/* Wraps the C library's calls. Among those that name a file below the folder FAIL_IN, or one that is open there, the call with the number FAIL_AT
+   (from 1) is refused with the error number FAIL_WITH. With FAIL_DONE it is done first, as over a network whose answer is lost; with FAIL_KILL
+   the process is killed in its place. When it comes, a line goes to the file FAIL_TOLD: "NUMBER CALL FILE". */
 #define _GNU_SOURCE
 #include <dlfcn.h>
 #include <errno.h>

@@ -1,6 +1,6 @@
 /* Commits of sqlite with the same number of writers: sqlite TASK FILE WRITERS CALLS LENGTH has WRITERS threads, each with a connection of its
-   own, make CALLS calls each, every one a transaction (WAL, synchronous FULL). By put each call puts LENGTH bytes into the writer's own row;
-   by delete each call deletes a row of that many bytes, all of which were inserted before. Prints how many calls were acknowledged and the
+   own, make CALLS calls each, every one a transaction (WAL, synchronous FULL). With put each call puts LENGTH bytes into the writer's own row;
+   with delete each call deletes a row of that many bytes; all rows were inserted before. Prints how many calls were acknowledged and the
    time from the first to the last in nanoseconds. */
 #include <pthread.h>
 #include <sqlite3.h>

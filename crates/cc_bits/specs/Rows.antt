@@ -19,7 +19,7 @@ key width r c = 64 * (width * r) + c
 abbrev pub has : Table → (r c : ℕ) → Bool
 has t r c = nat_lt c (64 * t.width) && holds t.words (key t.width r c)
 
--- at most so many words in a row of a table, so many rows, and so many words in all
+-- at most this many words in a row of a table, this many rows, and this many words in all
 abbrev pub most_width : ℕ
 most_width = 16
 

@@ -1,6 +1,6 @@
 -- A part of a run with more steps, and with a larger bound on its recursion. Three facts hold of each part: it only adds to the
--- output; an answer takes just the steps that it spends, for any bound; what had no step left continues, and what went wrong goes
--- wrong in the same way. This file shows them for the ways of combining parts.
+-- output; an answer takes exactly the steps that it spends, for any bound; what had no step left continues, and what went wrong
+-- goes wrong in the same way. This file shows them for the ways of combining parts.
 use Rattle.std.proofs.Common.{◌≡◌, ℕ, zero, suc, ◌+◌, ◌<◌, ◌≤◌, List, [], ◌++◌, Option, Some, None, refl, sym, ap, ◌∙◌, subst, arith, append_assoc, append-nil}
 use Rattle.cc_c_semantics.specs.Meaning.{Local, State, Run, Gives, Going, Wrong, Flow, Falls, Breaks, Continues, Returns, then_do, choose, spend_of, behind_flow, behind_body, begin_body, turns, unless_decided}
 use Rattle.cc_simulation.specs.Behavior.{IsPrefixOf}

@@ -8,7 +8,7 @@
 pub mod Lasting
 -- this holds of each part of a program
 pub mod Steps
--- an answer takes just the steps that it spends
+-- an answer takes exactly the steps that it spends
 pub mod Exact
 -- a checked program compared with its source
 pub mod Checked

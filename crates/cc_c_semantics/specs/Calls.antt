@@ -53,7 +53,7 @@ WithMoreSteps more (Unfinished output) z = IsPrefixOf output (output_of z)
 WithMoreSteps more (Failed cause output) z = z ≡ Failed cause output
 
 -- what a call or a body does to what is shared, within a number of steps: it writes after what is written already; with more
--- steps it continues; and an answer takes just the steps that it spends, however many are left
+-- steps it continues; and an answer takes exactly the steps that it spends, however many are left
 pub record EffectGoesOn (effect : ℕ → Shared → Effect Answer) : Type 0 where
   pub grows : (n : ℕ) (h : Shared) → IsPrefixOf h.output (output_of (effect n h))
   pub later : (n more : ℕ) (h : Shared) → WithMoreSteps more (effect n h) (effect (n + more) h)

@@ -25,7 +25,7 @@ pub fn calls_are_effects()
 {}
 
 /// Shows that a call, or the body of a function, writes after what is written already, and that with more steps it continues. If
-/// it gives an answer, it takes just the steps that it spends, however many are left.
+/// it gives an answer, it takes exactly the steps that it spends, however many are left.
 pub fn calls_go_on()
     ensures calls { CallsGoOn }
     ensures bodies { BodiesGoOn }

@@ -32,7 +32,7 @@ AreSoFar turns Answered = (list_any is_bad turns ≡ false) × (list_any is_lack
 AreSoFar turns Refused = IsTrue (list_any is_bad turns) × (list_any is_lack turns ≡ false)
 AreSoFar turns Unwritten = ⊥
 
--- so many of an input were answered, and this is left of it
+-- this many lines of an input were answered, and this is left of it
 pub record HasCalled (image : Image) (counted : Bool) (steps : ℕ) (input : List ℕ) (old : Option (List ℕ)) (number : ℕ) (end : LinesEnd) (remaining new : Option (List ℕ)) : Type 0 where
   pub turns : List LineTurn
   pub left : List ℕ
@@ -61,7 +61,7 @@ or_none : (a : Bool) → (a || false) ≡ a
 or_none true = refl
 or_none false = refl
 
--- of one more at the end
+-- one more at the end
 any_push : (p : LineTurn → Bool) (turns : List LineTurn) (turn : LineTurn) → list_any p (turns ++ turn ∷ []) ≡ (list_any p turns || p turn)
 any_push p turns turn = list_any-append p turns (turn ∷ []) ∙ ap (λ (b : Bool). list_any p turns || b) (or_none (p turn))
 
@@ -179,7 +179,7 @@ module _ (image : Image) (counted : Bool) (steps : ℕ) where
     pub ends_uncounted : number ≡ 2 ^ 64 - 1 → CallsLines image counted steps input old mid Refused
     ends_uncounted all = (called.turns, called.left, mid, called.answers, inr (inr (inr (refl, called.number_is ∙ all))))
 
--- of known bytes
+-- for known bytes
 pub if_known : (known : Option (List ℕ)) (P Q : List ℕ → Type 0) → ((bytes : List ℕ) → known ≡ Some bytes → P bytes → Q bytes) → IfSome known P → IfSome known Q
 if_known None P Q step p = tt
 if_known (Some bytes) P Q step p = step bytes refl p

@@ -23,7 +23,7 @@ abbrev pub after_list : List Statement → Continuation → Continuation
 after_list [] κ = κ
 after_list (a ∷ rest) κ = Then (in_sequence (a ∷ rest)) κ
 
--- an answer takes just the steps that it spends
+-- an answer takes exactly the steps that it spends
 abbrev pub Exact : (ℕ → Question → Effect) → Type 0
 Exact effect = (q : Question) (n left : ℕ) (a : Answer) → effect n q ≡ world.Gives a left → (left ≤ n) × ((j : ℕ) → effect (n - left + j) q ≡ world.Gives a j)
 

@@ -35,8 +35,8 @@ struct Early {
 }
 
 impl Placed<'_> {
-    // The word that a node takes from a slot in addition to a constant set by the node in front of it. It is fetched before both, so that
-    // these two stay neighbours.
+    // The word that a node takes from a slot in addition to a constant set by the node before it. It is fetched before both, so
+    // that these two stay neighbours.
     fn early(self, at: usize) -> Option<Early> {
         let before = self.sole.get(at).copied().flatten()?;
         let shape = self.code.shape;

@@ -450,7 +450,7 @@ pub struct Invocation {
     pub files: Vec<String>,
 }
 
-// The rule that a work breaks whose program is in this many files, and which is to be printed as JSON or not.
+// The rule that a work breaks, if its program is in this many files and it is to be printed as JSON or not.
 fn broken_rule(work: &Work, files: usize, is_json: bool) -> Option<&'static str> {
     if files > 0 && !reads_program(work) {
         return Some(NO_FILE_RULE);

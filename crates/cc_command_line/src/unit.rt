@@ -19,7 +19,7 @@ const NAME: &str = "NAME";
 
 const AT: &str = "at";
 
-/// The most commands of which a library can have the records.
+/// The most commands whose records a library can have.
 pub(crate) const MOST_COMMANDS: u64 = 1_073_741_824;
 
 pub(crate) const AT_RULE: &str = "K is the number of a line of `cclib log DISK`, from 1 on";

@@ -49,7 +49,7 @@ not_taken units names OutOfMemory all why = tt
 not_taken units names BadName all why = absurd why
 not_taken units names (Library f) all why = absurd why
 
--- of the map to which the disk recovers
+-- for the map to which the disk recovers
 pub not_selected_on : (honest : Bool) (seen : List ℕ) (before after : ℕ) (names : List (List ℕ)) (units : Units) (fault : PartFault) → after ≡ before → (IsTrue honest → Recovers seen units) → IsNotSelectedIn units names fault
     → IsNotSelectedOn honest seen before after names fault
 not_selected_on honest seen before after names units BadName same recovers why = (same, λ h. (units, recovers h, why))

@@ -71,19 +71,19 @@ abbrev pub holds_from : (byte area : ℕ) (bodies : List (List ℕ)) (image : Li
 holds_from byte area bodies image a =
     record { holds = a.holds; begins = begins_behind a.holds.area_byte byte area (length a.holds.other) (byte_of byte area bodies image a) a.holds.offset }
 
--- the bytes in front of a range that differs
+-- the bytes before a range that differs
 same_header : (place n : ℕ) (old new : List ℕ) (prefix : List ℕ) → 16 ≤ place → DiffersWithin place n old new → take 16 old ≡ prefix → take 16 new ≡ prefix
 same_header place n old new prefix le differs is =
     sym (take-take 16 place new le) ∙ ap (λ (l : List ℕ). take 16 l) differs.before ∙ take-take 16 place old le ∙ is
 
--- the bytes in front of a range that was written
+-- the bytes before a range that was written
 pub written_header : (place : ℕ) (bytes old new prefix : List ℕ) → 16 ≤ place → place ≤ length old → IsWritten old place bytes new → take 16 old ≡ prefix → take 16 new ≡ prefix
 written_header place bytes old new prefix le within is same =
     ap (λ (l : List ℕ). take 16 l) is
     ∙ take-append-le 16 (take place old) (bytes ++ drop (place + length bytes) old) (omega (arith, le, length-take-le place old within))
     ∙ take-take 16 place old le ∙ same
 
--- writing a byte in front of bytes that were written before is like writing both at once
+-- writing a byte before bytes that were written before is like writing both at once
 pub two_writes : (old : List ℕ) (g x : ℕ) (xs written new : List ℕ) → g + 1 ≤ length old → IsWritten old (g + 1) xs written → IsWritten written g (x ∷ []) new → IsWritten old g (x ∷ xs) new
 two_writes old g x xs written new within first second =
     let rest = drop (g + 1 + length xs) old in

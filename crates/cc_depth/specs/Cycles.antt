@@ -47,7 +47,7 @@ abbrev pub InBeginning : (List ℕ → Type 0) → Beginning → Type 0
 InBeginning Is (Declares t ds) = InDeclarators Is ds
 InBeginning Is (Performs a) = InOptionalAction Is a
 
--- the same of each function that a statement, or a list of statements, calls
+-- the same for each function that a statement, or a list of statements, calls
 abbrev mutual
   pub InStatement : (List ℕ → Type 0) → Stmt → Type 0
   InStatement Is (Block all) = InStatements Is all

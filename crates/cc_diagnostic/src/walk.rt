@@ -116,7 +116,7 @@ impl<'a> Walk<'a> {
         }
     }
 
-    // What a name denotes that is used here.
+    // What a name that is used here denotes.
     fn look_up(&mut self, name: &'a Identifier, done: Use) -> Option<Standing<'a>> {
         let standing = self.names.find(name.bytes.as_slice());
         self.note(name.at, done, standing);

@@ -175,7 +175,7 @@ ways H G false v on there on' there' f g = by (v == 0)
     by true = f
     by false = g
 
--- none of them is a label, but for the last of a head
+-- none of them is a label, except the last of a head
 pub lit_there : (s : Step) (to : ℕ) → written_by s ≡ Some to → IsThere s
 lit_there (One (Label n)) to e = absurd (cc)
 lit_there _ to e = tt

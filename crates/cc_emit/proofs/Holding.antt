@@ -146,7 +146,7 @@ pointer_reaches a r = pointer_reaches_of a (from_pointer a) r (low_is (add a (2 
 
 -- ---- what is known about an address
 
--- of an element whose number is in a register, and of an address
+-- for an element whose number is in a register, and for an address
 abbrev pub IsKnown : Remembered → Width → (base index : ℕ) → (registers : ℕ → ℕ) → Type 0
 IsKnown Nothing width base index g = Unit {0}
 IsKnown Upper width base index g = g 6 ≡ high base * 2 ^ 12

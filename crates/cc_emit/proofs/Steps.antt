@@ -1,5 +1,5 @@
--- What the items of the steps do that are not items of Linear: operators on a register and a word, elements whose numbers are known, and
--- branches on comparisons.
+-- What the items of the steps that are not items of Linear do: operators on a register and a word, elements whose numbers are
+-- known, and branches on comparisons.
 use Rattle.std.proofs.Common.{◌≡◌, ℕ, ◌+◌, ◌*◌, ◌%◌, ◌^◌, ◌<◌, List, [], ◌∷◌, Option, Some, None, true, Bool, refl, sym, ap, ap₂, ◌∙◌, subst, inl, inr, arith}
 use Rattle.std.specs.Prelude.{option_map}
 use Rattle.cc_words.specs.Words.{add, lt_u}

@@ -153,9 +153,9 @@ pub record ComesBack {objects : List Size} (layout : ObjectLayout objects) (s : 
   pub kept : (r : ℕ) → IsKept r → t.registers r ≡ s.registers r
   pub above : (a : ℕ) → s.registers 2 ≤ a → t.memory a ≡ s.memory a
 
--- The machine, starting from s, does what the source does within n steps, of which `left` are left if it gives an answer. Each c of the
--- steps taken are paid for by one of the m instructions, except `spare` steps, which are paid for elsewhere. So for a greater n more
--- instructions are executed, and a run that never ends is matched by one that never ends.
+-- The machine, starting from s, does what the source does within n steps; `left` of them are left if it gives an answer. Each c
+-- of the steps taken are paid for by one of the m instructions, except `spare` steps, which are paid for elsewhere. So for a
+-- greater n more instructions are executed, and a run that never ends is matched by one that never ends.
 abbrev pub Meets : {objects : List Size} (layout : ObjectLayout objects) → Code → (c spare n : ℕ) → State → Effect → Type 0
 Meets layout code c spare n s (Gives a left) = (m : ℕ) × (t : State) × Path code m s t × ComesBack layout s a t × (n ≤ left + spare + c * m)
 Meets layout code c spare n s (Unfinished o) = (m : ℕ) × (t : State) × Path code m s t × (t.output ≡ o) × (n ≤ spare + c * m)

@@ -87,7 +87,7 @@ pub(crate) fn is_prepared(files: &HostRuntime, path: &str) -> bool {
     }
 }
 
-// Whether the disk has nothing but a library, or 16 zeros and none of the others.
+// Whether the disk has only a library, or 16 zeros and none of the others.
 fn is_free(disk: &mut FileDisk) -> bool {
     if has(disk, 1, LIBRARY) {
         return true;

@@ -92,8 +92,8 @@ fn is_same(files: &HostRuntime, one: &str, other: &str) -> bool {
     }
 }
 
-// Removes what has the name under which a library is made: what a server left that was killed while it made one. A file that has
-// another name too is a library whose server was killed between the two: it loses this name, and is not touched. One that has
+// Removes what has the name under which a library is made: the file of a server that was killed while it made one. A file that
+// has another name too is a library whose server was killed between the two: it loses this name, and is not touched. One that has
 // records was prepared by somebody, and stays.
 fn clear_name(files: &HostRuntime, making: &str) -> Result<(), NoDisk> {
     let Ok(found) = fs::symlink_metadata(files, making) else {

@@ -306,7 +306,7 @@ pub struct AnswerCounts {
     pub has_failed: bool,
 }
 
-/// Counts over all spools, each as far as 64 bits go.
+/// Counts over all spools, each up to the largest number of 64 bits.
 pub fn count_all(spools: &[FolderSpool]) -> AnswerCounts {
     let mut counts = AnswerCounts {
         answered: 0,

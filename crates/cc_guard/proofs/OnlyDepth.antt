@@ -206,7 +206,7 @@ module _ (unit : List External) (each : NoneNeedsGuard unit) (go_on : BodiesGoOn
 
 -- ---- programs
 
--- the stop without its cause determines it, but for depth
+-- the stop without its cause determines it, except for depth
 differs : (cause : Cause) → stays Checked cause ≡ true → stop_without_cause (Wrong cause) ≡ stop_without_cause (checked_stop (Wrong cause)) → ⊥
 differs cause s e =
     let f : runs.Wrong ≡ stop_without_cause (if stays Checked cause then outcome.Going else Wrong cause) = e in

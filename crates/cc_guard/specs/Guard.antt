@@ -25,7 +25,7 @@ pub data Guard : Type 0 where
 abbrev pub forever : Statement
 forever = Loop Skip
 
--- a guard as code, in so many blocks of the function
+-- a guard as code, in this many blocks of the function
 abbrev pub guard_code : (blocks : ℕ) → Guard → Statement
 guard_code b (Put t e) = Set t e
 guard_code b (Stop e) = If e (Exit b) Skip
@@ -363,7 +363,7 @@ falls (Block s) = true
 falls (Exit k) = false
 falls (Return e) = false
 
--- an exit in the statement leaves just the block number k around it: 0 is the innermost one
+-- an exit in the statement leaves exactly the block number k around it: 0 is the innermost one
 abbrev pub leaves : (outer : ℕ) → Statement → Bool
 leaves k Skip = false
 leaves k (Set x e) = false
@@ -452,8 +452,8 @@ head objects n ks s = kept n (sets s) ks ++ if_again (turn objects n ks s (found
 abbrev pub with_store : (blocks : ℕ) → Width → (object : ℕ) → Guarded → Guarded → Statement
 with_store b w o i e = guards_then b (i.before ++ e.before) (Store w o i.value e.value)
 
--- a statement with its guards, in so many blocks, given what is known before it; the guards of each statement set variables from
--- n on
+-- a statement with its guards, in this many blocks, given what is known before it; the guards of each statement set variables
+-- from n on
 abbrev pub code_after : List Size → (n : ℕ) → List Limit → (blocks : ℕ) → Statement → Statement
 code_after objects n ks b Skip = Skip
 code_after objects n ks b (Set x e) = guards_then b (guarded objects ks n e).before (Set x (guarded objects ks n e).value)

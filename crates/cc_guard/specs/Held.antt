@@ -41,7 +41,7 @@ put_first (w ∷ ws) m s = Sequence (Set m (Constant w)) (put_first ws (suc m) s
 abbrev pub with_words : (words : List ℕ) → (m : ℕ) → Statement → Statement
 with_words ws m s = put_first ws m (held_in ws m s)
 
--- at most so many words are held
+-- at most this many words are held
 abbrev pub most_held : ℕ
 most_held = 8
 

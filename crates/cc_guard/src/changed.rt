@@ -214,8 +214,7 @@ fn last_falls(all: &[Statement]) -> bool
     last
 }
 
-/// Whether an exit in a statement leaves just the block with this number: 0 is the innermost block around the statement, 1 the
-/// next one.
+/// Whether an exit in a statement leaves exactly the block with this number: 0 is the innermost block around the statement.
 #[cycle(leaving)]
 pub fn leaves(outer: usize, s: &Statement) -> Result<bool, AllocError>
     ensures { IfOk result (λ left. left ≡ leaves outer (statement_of s.now)) }

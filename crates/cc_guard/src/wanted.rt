@@ -8,10 +8,10 @@ use cc_cminor::{Expression, Statement};
 use cc_words::Binary;
 use std::alloc::{AllocError, Global};
 
-/// At most so many words are held in variables.
+/// At most this many words are held in variables.
 const MOST_HELD: usize = 8;
 
-// At most so many words are counted: in a function with more, the first ones.
+// At most this many words are counted: in a function with more, the first ones.
 const MOST_WEIGHED: usize = 64;
 
 // The least weight of a word that is chosen: that of one comparison in a loop.

@@ -57,7 +57,7 @@ shown_and_read offset done count first rest seen shown long le read =
 pub shows_none : (offset : ℕ) (bytes seen : List ℕ) → bytes ≡ [] → Shows offset bytes seen
 shows_none offset bytes seen none = none ∙ ap (λ (l : List ℕ). take (length l) (drop offset seen)) (sym none)
 
--- what a list has that was filled up after its first bytes
+-- what a list that was filled up after its first bytes has
 pub filled : (d n : ℕ) (bytes read rest tail : List ℕ) → d ≤ length bytes → n ≡ d + length read → take n ((take d bytes ++ (read ++ rest)) ++ tail) ≡ take d bytes ++ read
 filled d n bytes read rest tail le size =
     let first = take d bytes in

@@ -59,7 +59,7 @@ module _ (old image : List ℕ) (long : length image ≡ length old) where
     begins = b.begins;
   }
 
-  -- records in front of a range that was written
+  -- records before a range that was written
   records_stay : (s t : ℕ) (bodies : List (List ℕ)) → s + room_of bodies ≤ t → t ≤ length old → take t image ≡ take t old → EndsClosed (drop s old) bodies → EndsClosed (drop s image) bodies
   records_stay s t bodies le within same ends =
       let room = room_of bodies in

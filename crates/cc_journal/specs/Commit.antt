@@ -43,8 +43,8 @@ rewrite_commit area_byte area bodies = record {
 abbrev pub IsCommitted : Commit → (old new : List ℕ) → Type 0
 IsCommitted c old new = (staged : List ℕ) × IsWritten old c.offset c.bytes staged × IsWritten staged c.deciding_offset (c.deciding_byte ∷ []) new
 
--- What a commit that failed left: all images differ from the old bytes in the range of the first write alone, or all differ in the
--- byte that decides alone from the old bytes with that write done.
+-- What a commit that failed left: either all images differ from the old bytes only in the range of the first write, or, from the
+-- old bytes with that write done, only in the byte that decides.
 abbrev pub FailsIn : Commit → (old : List ℕ) (images : List ℕ → Type 0) → Type 0
 FailsIn c old images =
     ((image : List ℕ) → images image → DiffersWithin c.offset (length c.bytes) old image)

@@ -24,7 +24,7 @@ records (body ∷ bodies) = record_bytes body ++ records bodies
 abbrev pub room_of : List (List ℕ) → ℕ
 room_of bodies = length (records bodies) + 1
 
--- a disk of that many bytes has room for two areas of that size, which is within its limits
+-- a disk of this many bytes has room for two areas of that size, which is within its limits
 pub record IsArea (size area : ℕ) : Type 0 where
   pub least : 64 ≤ area
   pub most : area ≤ 2 ^ 30

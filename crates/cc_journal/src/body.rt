@@ -15,7 +15,7 @@ pub struct Body {
     is_framed: bool,
 }
 
-// By hand, so that crates above call it and do not prove anew how each part is dropped.
+// Written by hand, so that crates above call it and need not prove again how each part is dropped.
 impl Drop for Body {
     fn drop(self) {
         let Body { bytes, is_framed } = self;

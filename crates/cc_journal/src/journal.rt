@@ -22,7 +22,7 @@ pub struct Journal<D: Disk> {
     bodies: Vec<Body>,
 }
 
-// By hand, so that crates above call it and do not prove anew how each part is dropped.
+// Written by hand, so that crates above call it and need not prove again how each part is dropped.
 impl<D: Disk + Drop> Drop for Journal<D> {
     fn drop(self) {
         let Journal { log, bodies } = self;

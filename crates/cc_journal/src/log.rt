@@ -30,7 +30,7 @@ pub struct Log<D: Disk> {
     closed: bool,
 }
 
-// By hand, so that crates above call it and do not prove anew how each part is dropped.
+// Written by hand, so that crates above call it and need not prove again how each part is dropped.
 impl<D: Disk + Drop> Drop for Log<D> {
     fn drop(self) {
         let Log {

@@ -20,7 +20,7 @@ pub const LEAST_AREA: usize = 64;
 
 pub const LARGEST_AREA: usize = 1 << 30;
 
-/// The bytes of a header in front of the two areas.
+/// The bytes of a header before the two areas.
 pub const HEADER: usize = 16;
 
 /// The records that a disk holds, and their place.
@@ -85,7 +85,7 @@ pub fn header_bytes(area_byte: u8, area: u32) -> [u8; 16]
     ]
 }
 
-// Whether a disk of that many bytes has room for two areas of that size, which is within its limits.
+// Whether a disk of this many bytes has room for two areas of that size, which is within its limits.
 pub fn is_area(size: usize, area: usize) -> bool
     ensures { IsTrue result ↔ IsArea size area }
 {

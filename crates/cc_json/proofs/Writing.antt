@@ -1,4 +1,4 @@
--- A value's text, and then a newline, is a line of it.
+-- The text of a value, followed by a newline, is a line of the value.
 use Rattle.std.proofs.Common.{◌≡◌, ℕ, ◌≤◌, List, [], ◌∷◌, Option, Some, Result, Ok, Err, OnOk}
 use Rattle.std.proofs.KnownBytes.{Appends-trans}
 use Rattle.std.specs.Io.KnownBytes.{Appends}

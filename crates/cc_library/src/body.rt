@@ -93,7 +93,7 @@ pub(crate) fn framed_body(
     ensures unit { OnOk result (HoldsUnit (option_map (λ u. u.now) unit.entry)) }
 {
     let length = length_with(name.bytes(), unit);
-    // All memory is taken at once: for the body, for its length in front of it, and for the gate after it.
+    // All memory is taken at once: for the body, for its length before it, and for the gate after it.
     let mut bytes = Vec::with_capacity(alloc, length + 5)?;
     bytes.extend_from_slice(&(length as u32).to_le_bytes())?;
     put_command(&mut bytes, kind, name, unit)?;

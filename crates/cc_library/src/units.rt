@@ -97,7 +97,7 @@ impl UnitMap {
         Ok(names)
     }
 
-    /// Whether the records of one Add per name, and their closed gate, fit an area of that many bytes. It takes no memory.
+    /// Whether the records of one Add per name, and their closed gate, fit an area of this many bytes. It takes no memory.
     pub fn fits(&self, area: usize) -> bool
         requires some { 1 ≤ area }
         requires few { area ≤ 2 ^ 30 }

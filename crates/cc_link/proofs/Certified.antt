@@ -1,5 +1,5 @@
--- The certificate of a unit that was made spells the LTL of each function, whose run keeps up with it: a piece's type keeps so of its own
--- unit, and all pieces are of one text, which has one tree.
+-- The certificate of a unit that was made spells the LTL of each function, whose run keeps up with it: a piece's type keeps this
+-- for its own unit, and all pieces are of one text, which has one tree.
 use Rattle.std.proofs.Common.{◌≡◌, ℕ, zero, suc, ◌+◌, ◌<◌, ◌≤◌, List, [], ◌∷◌, ◌++◌, length, get_or, slice_get, drop, Option, Some, None, Result, Ok, Err, refl, sym, ap, ◌∙◌, subst, arith, append_assoc}
 use Rattle.std.proofs.Math.Logic.{∥∥₁_elim, ∥∥₁_map, ∥∥₁_prop}
 use Rattle.std.proofs.lemmas.List.{drop_more, length-map}
@@ -29,7 +29,7 @@ use Rattle.cc_link.proofs.Few.{few_functions}
 use Rattle.cc_link.proofs.Linked.{AreOfTree, EachFrom, none_or, not_refused, one_text, one_tree, order_long, ordered_each}
 use Rattle.cc_link.proofs.Short.{ltl_short}
 
--- what a piece's type keeps of its LTL
+-- what a piece's type keeps about its LTL
 abbrev HasLtl : Piece → Type 0
 HasLtl p = IsLtl p.ltl × (length p.ltl.blocks ≤ most_blocks)
 
@@ -41,7 +41,7 @@ all_told : (from : ℕ) (ps : List Piece) → EachFrom HasLtl from ps → AllByR
 all_told from [] h = tt
 all_told from (p ∷ ps) h = ((h.1.0, ltl_short p.ltl h.1.0 h.1.1), all_told (suc from) ps h.2)
 
--- what a piece in this mode of a unit with this tree keeps of its LTL's run
+-- what a piece in this mode of a unit with this tree keeps about its LTL's run
 abbrev Keeps : Mode → List External → Piece → Type 0
 Keeps mode tree p = ((p.mode ≡ mode) × (tree_of p ≡ tree)) × LtlKeepsUp p.mode (tree_of p) p.function p.ltl
 

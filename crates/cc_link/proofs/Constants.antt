@@ -1,5 +1,5 @@
--- The elements of the objects of a spelled unit are what their widths keep: each number that a text spells is a word, what is computed of
--- words is one, and bytes keep eight bits.
+-- The elements of the objects of a spelled unit are what their widths keep: each number that a text spells is a word, what is
+-- computed from words is one, and bytes keep eight bits.
 use Rattle.std.proofs.Common.{◌≡◌, ℕ, zero, suc, ◌+◌, ◌-◌, ◌^◌, ◌<◌, ◌≤◌, Bool, true, false, ◌&&◌, ◌||◌, not, nat_le, ◌==◌, if◌then◌else◌, List, [], ◌∷◌, ◌++◌, length, map, replicate, Option, Some, None, unwrap_or, option_map, refl, sym, subst, arith, ◌%◌, inl, inr}
 use Rattle.std.proofs.lemmas.Bool.{leb-true}
 use Rattle.cc_words.specs.internal.Word.{IsWord}

@@ -24,7 +24,7 @@ pub mod Linked
 pub mod Filling
 -- elements keep the range of their width
 pub mod Constants
--- the code: from what is seen of pieces to linking's answer
+-- the code: from what is found about pieces to linking's answer
 pub mod Deciding
 -- the names of functions
 pub mod Names

@@ -77,7 +77,7 @@ only_fault : (s : Source) (ps : List Piece) (f : LinkFault) (b : Bool) → unles
 only_fault s ps f true e = let h : ◌≡◌ {A = Result StoredUnit LinkFault} (Err ImageTooLarge) (Err f) = e in cc
 only_fault s ps f false e = absurd (let h : ◌≡◌ {A = Result StoredUnit LinkFault} (Ok (unit_of s ps)) (Err f) = e in cc)
 
--- of the refusals of linking only 25 is left
+-- among the refusals of linking only 25 is left
 pub only_large : (mode : Mode) (s : Source) (ps : List Piece) (f : LinkFault) → AreFromIn mode s.text 0 ps → length ps ≡ length (functions s.externals) → linked_in mode s ps ≡ Err f → f ≡ ImageTooLarge
 only_large mode s ps f h count e =
     let n = length (functions s.externals) in

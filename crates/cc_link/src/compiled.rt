@@ -18,7 +18,7 @@ pub struct CompiledUnit {
     stored: Arc<StoredUnit>,
 }
 
-// By hand, so that crates above call it and do not prove anew how each part is dropped.
+// Written by hand, so that crates above call it and need not prove again how each part is dropped.
 impl Drop for CompiledUnit {
     fn drop(self) {
         let CompiledUnit { stored } = self;

@@ -133,7 +133,7 @@ fn add_head(words: &mut Vec<u32>, places: &[u32], main: usize) -> Result<(), All
     Ok(())
 }
 
-// How many words the code of the functions takes, the head with it. Nothing but the memory that is taken at once depends on it.
+// How many words the code of the functions takes, including the head. It only decides how much memory is taken at once.
 fn room(bodies: &[&[PieceItem]]) -> usize {
     let mut words = HEAD_WORDS;
     for items in bodies {

@@ -33,7 +33,7 @@ then_nodes b (Put t e ∷ gs) s = let h = then_nodes b gs s in omega arith
 then_nodes b (Stop e ∷ gs) s = let h = then_nodes b gs s in omega arith
 then_nodes b (StopBoth d e ∷ gs) s = let h = then_nodes b gs s in omega arith
 
--- its nodes as an operand and in a register, of an expression with so many and so many operations
+-- the nodes that it takes as an operand and in a register, for an expression with this many nodes and this many operations
 record Few (into operand more : ℕ) (g : Guarded) : Type 0 where
   put : guards_nodes g.before + into_nodes g.value ≤ into + 11 * more
   used : guards_nodes g.before + operand_nodes g.value ≤ operand + 11 * more

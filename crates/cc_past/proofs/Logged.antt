@@ -124,7 +124,7 @@ change_untouched (Err NoMemory) command old new leaves = λ other. leaves
 change_untouched (Err Damaged) command old new leaves = λ other. leaves
 change_untouched (Err NotALibrary) command old new leaves = λ other. leaves
 
--- why it was refused is why the unit is not put
+-- the reason why it was refused is the reason why the unit is not put
 pub change_refused : {D : Type 0} (honest : Bool) (bytes : List ℕ) (begin before after : ℕ) (no_room : Type 0) (answer : Result (Unit {0}) LibraryFault) (old : View D) (name : List ℕ) (unit : StoredUnit) → before ≡ begin → old.closed ≡ false
     → (IsTrue honest → old.area < room_with old (putting old.units name unit) → no_room) → ChangeAnswers old (putting old.units name unit) before after answer
     → IfErr answer (λ fault. IsNotPut honest bytes begin after no_room fault)

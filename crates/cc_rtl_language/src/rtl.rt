@@ -127,7 +127,7 @@ impl Rtl {
         graph_of_nodes(alloc, self)
     }
 
-    // Turns the nodes with these labels into nops, as far as they are pure. Takes no memory.
+    // Turns those of the nodes with these labels that are pure into nops. Takes no memory.
     pub(crate) fn make_nops(&mut self, labels: &[u32])
         requires { All (λ l. IsSome (node_at self.old.nodes l)) labels.now }
         ensures { self.new ≡ without labels.now self.old }

@@ -1,4 +1,4 @@
--- What is left of a script, as its bytes are handed out one by one.
+-- What is left of a script, while its bytes are handed out one by one.
 use Rattle.std.proofs.Common.{◌≡◌, ◌≢◌, ◌∙◌, ℕ, suc, ◌+◌, ◌-◌, ◌<◌, ◌≤◌, Bool, true, false, List, [], ◌∷◌, ◌++◌, length, take, drop, Option, Some, None, refl, sym, ap, subst, append_assoc, append-nil, take_all, arith, inl, inr}
 use Rattle.std.proofs.lemmas.List.{drop_more, take-append-le}
 use Rattle.std.proofs.lemmas.Grind.{common_steps}
@@ -148,7 +148,7 @@ fewer_left (Some all) (Some rest) None bytes count one two over few = absurd two
 fewer_left (Some all) (Some rest) (Some later) bytes count one two over few =
     subst (λ (l : List ℕ). length l < count) (sym (one ∙ (ap (λ (l : List ℕ). bytes ++ l) (sym two ∙ over) ∙ append-nil bytes))) few
 
--- one byte more of a source is kept as long as there are fewer than it may have
+-- one more byte of a source is kept while there are fewer than it may have
 pub kept_more : (bytes : List ℕ) (byte : ℕ) → length bytes < 65537 → take 65537 (bytes ++ byte ∷ []) ≡ bytes ++ byte ∷ []
 kept_more bytes byte few = take_all 65537 (bytes ++ byte ∷ []) (grind (arith, common_steps))
 
@@ -176,7 +176,7 @@ too_long before between after n k m line byte whole plain different one count tw
     read_of before after n m (take 128 line ++ byte ∷ []) (λ b a. IsNext b TooLong other a) (consumed_on before between after (take 128 line) (byte ∷ []) one two)
     (omega (arith, count, next, long)) (λ b a is. (take 128 line ++ byte ∷ [], is, long, All-push (λ b. b ≢ 10) (take 128 line) byte plain different))
 
--- what is kept of a source with one byte more: the byte too, as long as there was room for it and there are fewer than it may have
+-- what is kept of a source with one more byte: that byte too, if there was room for it and there are fewer than it may have
 pub kept_next : (pushed : Bool) (now items bytes : List ℕ) (byte : ℕ) → pushed ≡ true → now ≡ (if pushed then items ++ byte ∷ [] else items) → items ≡ take 65537 bytes
     → length bytes < 65537 → now ≡ take 65537 (bytes ++ byte ∷ [])
 kept_next false now items bytes byte done is same few = absurd (false≢true done)

@@ -45,7 +45,7 @@ pub enum ScriptCommand<'a> {
         name: &'a [u8],
         steps: u64,
     },
-    /// Write the library anew, with one record for each unit.
+    /// Write the library again, with one record for each unit.
     Compact,
     /// Audit each unit along its certificate.
     Audit,

@@ -393,7 +393,7 @@ in_part mode dialect most Stopped script old between new same it =
           inr (few, light, cuts.rest, step.0, record { some = it.left; line = cuts.line; rest = cuts.rest; is_line = cuts.is_line; obeyed = step.1 })
     ])
 
--- the script was done as far as the fault says, and then the fault's line was written
+-- the script was done up to the point that the fault says, and then the fault's line was written
 pub line_written : (mode : Mode) → (dialect : Dialect) (most : Option ℕ) (script : Option (List ℕ)) (old between new : Talk) (fault : ScriptFault) → IsEnding most fault × IfSome script (λ b. IsStoppedBy mode dialect most fault b old between)
     → Writes (script_fault_text fault) between new → IsStopped mode dialect most script old new fault
 line_written mode dialect most script old between new fault it wrote =

@@ -1,4 +1,4 @@
--- What the receipts hold that a client got since a script's beginning is counted on the way.
+-- What the receipts that a client got since a script's beginning hold is counted on the way.
 use Rattle.std.proofs.Common.{◌≡◌, ◌∙◌, ℕ, ◌+◌, ◌<◌, ◌≤◌, List, [], ◌++◌, drop, length, sym, ap, subst, append_assoc, arith}
 use Rattle.std.proofs.Math.Seq.{drop-append_seam}
 use Rattle.std.proofs.lemmas.List.{append-nil}

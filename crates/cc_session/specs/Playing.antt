@@ -344,11 +344,11 @@ IsEndedBy mode dialect most fault script first last =
 abbrev pub Grows : (old new : MemberView) → Type 0
 Grows old new = (new.number ≡ old.number) × ((more : List Receipt) × (new.receipts ≡ old.receipts ++ more))
 
--- a fault that ends scripts ended it, and it is done as far as that says
+-- a fault that ends scripts ended it, and it is done up to the point that the fault says
 abbrev pub IsStopped : Mode → Dialect → (most : Option ℕ) (script : Option (List ℕ)) (old new : Talk) → ScriptFault → Type 0
 IsStopped mode dialect most script old new fault = IsEnding most fault × IfSome script (λ bytes. IsEndedBy mode dialect most fault bytes old new)
 
--- it is done whole; or a fault ended it, and it is done as far as that says
+-- it is done whole; or a fault ended it, and it is done up to the point that the fault says
 abbrev pub IsPlayedBy : Mode → {T : Type 0} → Dialect → (most : Option ℕ) (script : Option (List ℕ)) (old new : Talk) → Result T ScriptFault → Type 0
 IsPlayedBy mode dialect most script old new (Ok done) = IfSome script (λ bytes. IsPlayed mode dialect most bytes old new)
 IsPlayedBy mode dialect most script old new (Err fault) = IsStopped mode dialect most script old new fault

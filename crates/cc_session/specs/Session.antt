@@ -26,9 +26,9 @@ IsUnopened honest seen before after Finished = ⊥
 IsUnopened honest seen before after (Fault number) =
     (base : Units) × (fault : ServiceFault) × (number ≡ fault_number fault) × IsNotOpened honest seen base before after fault
 
--- One client was made for the script. It began with no receipt, and the writer held what it held before. If the bytes of the
--- script's reader are known, the client is what the script makes of it. If the session ends as its script did, the writer holds
--- at the end what it held then.
+-- One client was made for the script. It began with no receipt, and the writer held `before`. If the bytes of the script's reader
+-- are known, the client and what the writer holds are then what the script makes of these. If the session ends as its script did,
+-- the writer holds at the end what it held then.
 pub record HasCalled (script before after : Option (List ℕ)) (played end : SessionEnd) (clients : List MemberView) (Plays : List ℕ → Talk → Talk → Type 0) : Type 0 where
   pub first : Talk
   pub last : Talk
@@ -64,10 +64,10 @@ pub record IsLeft {Disk : Type 0} (D : Ghosts Disk) (failures : ℕ) (bytes : Li
   pub own : AreOwn clients
   pub holds : Holds book.history clients
 
--- The service of these clients was ended, or given up because it had no memory to end; their work (a session's script) ended so.
--- All their receipts are in the history, and it has no other entries. The end is how the work ended; or 40, if the work was done
--- and there was no memory. Or it was given up because a receipt is not in the history, or that has more entries, or two clients
--- have one number. Then the end is 39, however the work ended, and no other end means this.
+-- The service of these clients was ended, or given up because it had no memory to end; `played` is how their work (a session's
+-- script) ended. All their receipts are in the history, and it has no other entries. The end is how the work ended; or 40, if the
+-- work was done and there was no memory. Or it was given up because a receipt is not in the history, or that has more entries, or
+-- two clients have one number. Then the end is 39, however the work ended, and no other end means this.
 abbrev pub IsEnded : {Disk : Type 0} (D : Ghosts Disk) (failures : ℕ) (bytes : List ℕ) (from : ℕ) (left : List ℕ → Type 0) (clients : List MemberView) (played end : SessionEnd) (after : Disk) → Type 0
 IsEnded D failures bytes from left clients played end after =
     (((end ≡ played) ⊎ ((played ≡ Finished) × (end ≡ Fault 40))) × IsLeft D failures bytes from left IsClosed clients after)

@@ -19,7 +19,7 @@ abbrev pub most_lines : Option ℕ
 most_lines = Some 65536
 
 -- How a script of a spool, which is a served one, ended in the mode, as its number says: all of it is done; or a fault that ends
--- scripts ended it, and it is done as far as that says. This is about scripts whose bytes are known.
+-- scripts ended it, and it is done up to the point that the fault says. This is about scripts whose bytes are known.
 abbrev pub EndsBy : Mode → (script : Option (List ℕ)) (end : Option ℕ) (old new : Talk) → Type 0
 EndsBy mode script None old new = IfSome script (λ bytes. IsPlayed mode Served most_lines bytes old new)
 EndsBy mode script (Some number) old new = (fault : ScriptFault) × (number ≡ faults.fault_number fault) × IsStopped mode Served most_lines script old new fault

@@ -20,8 +20,8 @@ use std::alloc::Global;
 use std::io::{self, Read, Write};
 use std::sync::Wait;
 
-// The most lines of a script from a spool that are done. So a script that asks for nothing but errors holds its client for a
-// bounded time.
+// The most lines of a script from a spool that are done. So a script that asks only for errors holds its client for a bounded
+// time.
 const MOST_LINES: usize = 65_536;
 
 /// Does what a script asks for, in a mode, by a client of a service, up to its end or a fault that ends it, 51 to 54. The line of

@@ -20,9 +20,9 @@ use std::sync::atomic::{AtomicBool, AtomicU64, Ordering};
 /// At least one script is done in each generation, whatever these numbers are.
 #[derive(Clone, Copy, Debug, Drop, PartialEq, Eq)]
 pub struct Bounds {
-    /// The bytes that end it at the first moment at which no script is being done.
+    /// If it holds this many bytes, it ends at the first moment at which no script is being done.
     pub ends: u64,
-    /// The bytes from which on no client takes a further script.
+    /// If it holds this many bytes, no client takes a further script.
     pub most: u64,
     /// The scripts after which no client takes a further one.
     pub scripts: u64,

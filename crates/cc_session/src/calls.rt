@@ -441,7 +441,7 @@ impl<'a, N: Named + Send + Sync + 'static, H: Wait, D: Disk, P: Patience> Player
         }
     }
 
-    // Writes the library anew. It is no client's call.
+    // Writes the library again. It is no client's call.
     fn compact<W: Write, E: Write>(
         &self,
         answers: &mut W,

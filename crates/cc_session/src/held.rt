@@ -1,4 +1,4 @@
-// How far a script may go: by its lines, and by what the receipts hold that its client got for them. These are counted as it
+// How far a script may go: by its lines, and by what the receipts that its client got for them hold. These are counted as it
 // goes.
 
 ghost use Rattle.cc_history.specs.History.{MemberView};
@@ -12,7 +12,7 @@ use cc_service::{Client, Named};
 // The most bytes that these receipts may hold if a further line of a script with a bound is to begin.
 const MOST_HELD: u64 = 268_435_456;
 
-// What the receipts hold that a client got since a script was begun: how many receipts it had when they were last counted, and
+// What the receipts that a client got since a script was begun hold: how many receipts it had when they were last counted, and
 // the bytes of the new ones.
 #[derive(Drop)]
 pub(crate) struct Held {

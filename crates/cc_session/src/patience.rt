@@ -46,7 +46,7 @@ impl<'a, S: Spool> Patience for Others<'a, S> {
     }
 }
 
-// What a machine has written and reached after this many more instructions.
+// What a machine has written, and its outcome, after this many more instructions.
 fn run_to_end(alloc: Global, machine: &mut Machine, steps: u64) -> Result<ImageRun, AllocError>
     ensures { IfOk result (λ run. (image : Image) (done : ℕ) → IsAfter image [] done machine.old → IsRunOf image (done + steps) [] run) }
 {

@@ -124,7 +124,7 @@ pub(crate) fn tell_change<W: Write, E: Write>(
     }
 }
 
-// Writes that the library was written anew, or why not.
+// Writes that the library was written again, or why not.
 pub(crate) fn tell_done<W: Write, E: Write>(
     alloc: Global,
     answer: Result<(), ServiceFault>,

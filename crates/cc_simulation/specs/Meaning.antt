@@ -38,8 +38,8 @@ pub record Meaning : Type 0 where
   pub none_left : (opened f : ℕ) (ws : List ℕ) (h : World) → f < functions → call 0 opened f ws h ≡ Unfinished h.output
   pub too_deep : (n f : ℕ) (ws : List ℕ) (h : World) → f < functions → call (suc n) most_open f ws h ≡ Failed h.output
   pub spends : (n opened f : ℕ) (ws : List ℕ) (h : World) → f < functions → opened < most_open → call (suc n) opened f ws h ≡ body n opened f ws h
-  -- for any function number, a call writes after what is written already; with more steps it continues; an answer takes just the
-  -- steps that it spends
+  -- for any function number, a call writes after what is written already; with more steps it continues; an answer takes exactly
+  -- the steps that it spends
   pub grows : (n opened f : ℕ) (ws : List ℕ) (h : World) → IsPrefixOf h.output (written_by (call n opened f ws h))
   pub later : (n more opened f : ℕ) (ws : List ℕ) (h : World) → Later more (call n opened f ws h) (call (n + more) opened f ws h)
   pub exact : (opened f : ℕ) (ws : List ℕ) (h : World) → IsExact (λ n. call n opened f ws h)

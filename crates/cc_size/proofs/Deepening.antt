@@ -21,7 +21,7 @@ most_low n m (Plain i ∷ items) h = most_low n m items h
 most_low n m (Call g ∷ items) h = larger_low (n g) (most_called n items) m (h g) (most_low n m items h)
 most_low n m (Go k ∷ items) h = most_low n m items h
 
--- one item in front
+-- one more item at the beginning
 larger_twice : (a b c : ℕ) → larger (larger a b) c ≡ larger a (larger b c)
 larger_twice a b c = grind (arith, nat_tests)
 
@@ -73,7 +73,7 @@ deeper_next n own ps at d before new all word lt count is whose pushed h =
     ap (λ (ws : List ℕ). deeper n ws (all_items (lent_pieces (drop at ps)))) left ∙ ap (λ (l : List (Bor Piece)). deeper n (get_or own at 0 ∷ drop (at + 1) own) (all_items (lent_pieces l))) split ∙ ap (λ (w : ℕ). w ∷ rest) (sym whose) in
     ap (λ (l : List ℕ). l ++ rest) pushed ∙ append_assoc before (word ∷ []) rest ∙ ap (λ (l : List ℕ). before ++ l) (sym first) ∙ h
 
--- the bodies of pieces are as many
+-- there are as many bodies as pieces
 pub bodies_long : (ps : List (Bor Piece)) → length (all_items (lent_pieces ps)) ≡ length ps
 bodies_long [] = refl
 bodies_long (p ∷ ps) = ap suc (bodies_long ps)

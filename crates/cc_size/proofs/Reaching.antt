@@ -1,4 +1,4 @@
--- From which functions calls lead to one, and which calls are part of cycles.
+-- The functions from which calls lead to one, and which calls are part of cycles.
 use Rattle.std.proofs.Common.{◌≡◌, ℕ, zero, suc, ◌+◌, ◌<◌, ◌≤◌, ◌⊎◌, List, [], ◌∷◌, ◌++◌, Bool, true, false, length, get_or, drop, replicate, refl, sym, ap, ap₂, ◌∙◌, subst, inl, inr, append_assoc, arith}
 use Rattle.std.specs.Prelude.{◌&&◌, ◌||◌, ◌==◌, Contains}
 use Rattle.std.specs.Borrow.{Bor}
@@ -56,7 +56,7 @@ items_found : (is : ℕ → Bool) (items : List PieceItem) → items_call is ite
 items_found is [] e = absurd (let n : false ≡ true = e in cc)
 items_found is (i ∷ items) e = found_in is i items (item_calls is i) refl (λ p. items_found is items p) e
 
--- ---- from where calls lead to a function
+-- ---- the functions from which calls lead to one
 
 reach_by : (bodies : List (List PieceItem)) (t f : ℕ) (is : ℕ → Bool) (b : Bool) → is f ≡ b → ((g : ℕ) → is g ≡ true → (way : List ℕ) × LeadsBy bodies way g t) → (b || items_call is (get_or bodies f [])) ≡ true → (way : List ℕ) × LeadsBy bodies way f t
 reach_by bodies t f is true q again p = again f q

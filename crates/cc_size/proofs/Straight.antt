@@ -8,7 +8,7 @@ use Rattle.cc_emit.specs.declared.item.PieceItem.{PieceItem}
 use Rattle.cc_size.specs.declared.recursion.Recursion.{Recursion}
 use Rattle.cc_size.specs.Cycles.{DoesCall, IsCyclic, LeadsBy}
 
--- ---- who calls is a function
+-- ---- a caller is a function
 
 pub called_within : (bodies : List (List PieceItem)) (f g : ℕ) → DoesCall bodies f g → f < length bodies
 called_within [] f g (k, lt, e) = absurd (omega arith)
@@ -78,7 +78,7 @@ unfolding IsDistinct
 straighten bodies [] f t p = record { way = []; leads = p; apart = tt }
 straighten bodies (h ∷ way) f t p = (let rest = straighten bodies way h t p.1 in with_first bodies h f t p.0 rest (list_any (eqb h) rest.way) refl)
 
--- ---- a cycle of so few calls
+-- ---- a cycle with few enough calls
 
 pub record Few (bodies : List (List PieceItem)) (it : Recursion) : Type 0 where
   pub cycle : IsCyclic bodies it

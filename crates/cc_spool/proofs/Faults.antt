@@ -25,7 +25,7 @@ either : {A : Type 0} (P : A → Type 0) (b : Bool) (x y : A) → (b ≡ true �
 either P true x y so never = so refl
 either P false x y so never = never refl
 
--- ---- what was read since the last whole part, by where that led
+-- ---- what was read since the last whole part, by the place to which it led
 
 -- within the source that comes after a line; this many of its bytes are left
 record IsIn (text : List ℕ) (left : ℕ) : Type 0 where
@@ -231,7 +231,7 @@ length_on number byte text h on =
     (λ digit. ((one_digit_more text number byte h digit, on), tt))
     (λ other. ((no_header_digits h.digits byte text h.line_is other, on), tt))
 
--- what another byte than a newline leads to
+-- the place to which another byte than a newline leads
 past_newline : (text : List ℕ) (byte : ℕ) → byte ≢ 10 → (here there : Place) → Onward text byte there → Onward text byte (if byte == 10 then here else there)
 past_newline text byte other here there on = either (Onward text byte) (byte == 10) here there (λ t. absurd (other (eqb-true byte 10 t))) (λ f. on)
 
@@ -251,7 +251,7 @@ step (Within left) text byte other line r = absurd line
 step Behind text byte other line r = absurd line
 step Broken text byte other line r = absurd line
 
--- ---- what is told is told by a line or a source
+-- ---- what is reported is reported by a line or a source
 
 abbrev Is : Option ℕ → Type 0
 Is None = ⊥
@@ -475,7 +475,7 @@ found (byte ∷ bytes) Behind text = λ r told.
 found (byte ∷ bytes) Broken text = λ r told.
     subst TellsFault (append_assoc text (byte ∷ []) bytes) (found bytes Broken (text ++ byte ∷ []) (past_more text byte r) told)
 
--- ---- and what these tell is told
+-- ---- and what these report is reported
 
 told_some : (place : Place) (number : ℕ) → (m : ℕ) × (told_at place (Some number) ≡ Some m)
 told_some (Number n) number = (n, refl)
@@ -672,6 +672,6 @@ tells_as : (answer : List ℕ) (told : Option ℕ) → last_told (read_bytes (be
 tells_as answer None is = λ fault. subst Is is (told_whole answer fault)
 tells_as answer (Some number) is = found answer (Fault 0) [] nothing_read (subst Is (sym is) tt)
 
--- what is read last of an answer is known of its lines and sources
+-- what is read last of an answer follows from its lines and sources
 pub tells_so : (answer : List ℕ) → Tells answer (last_told (read_bytes (between None) answer))
 tells_so answer = tells_as answer (last_told (read_bytes (between None) answer)) refl

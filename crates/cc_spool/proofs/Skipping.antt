@@ -107,7 +107,7 @@ skipped source last few =
     ∙ (number_read (length source) rest last (omega arith)
     ∙ bytes_read source (10 ∷ []) last)))
 
--- so of a text that was made
+-- the same for a text that was made
 pub skips : {E : Type 0} (made : Result (Vec ℕ Global) E) (source : List ℕ) → length source ≤ 65536 → IfOk made (λ text. text.items ≡ framed source)
     → IfOk made (λ text. (last : Option ℕ) → read_bytes (between last) text.items ≡ between last)
 skips (Ok text) source few is = λ last. subst (λ (bytes : List ℕ). read_bytes (between last) bytes ≡ between last) (sym is) (skipped source last few)

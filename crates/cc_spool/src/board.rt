@@ -1,7 +1,7 @@
 // What waits in `new`, as all clients of one server know it.
 //
 // One client at a time looks through `new`. All clients take the names that it found, the least first, each once. A look costs as
-// much as `new` has entries, and anybody may put entries there that can't be claimed. So no look is made while `new` is
+// much as `new` has entries, and anybody may put entries that can't be claimed there. So no look is made while `new` is
 // unchanged, and a name that could not be claimed is passed over for a while, which doubles each time. Then it is tried again
 // without a look, after the names that were never tried, together with at most a fixed number of others a second. So names that
 // can't be claimed take no more of a processor the more there are, and a script waits for few of them. If there are more names
@@ -24,7 +24,7 @@ pub const MOST_ENTRIES: usize = 1_048_576;
 /// The most names of a look that are kept, which are the least ones, and the most that are passed over.
 const MOST_NAMES: usize = 131_072;
 
-/// For how long a name is passed over that could not be claimed, in seconds: at first, and at most.
+/// For how long a name that could not be claimed is passed over, in seconds: at first, and at most.
 const LEAST_PASS: u64 = 1;
 
 const MOST_PASS: u64 = 30;
@@ -38,7 +38,7 @@ const MOST_AGAIN: usize = 5_000;
 
 const AGAIN: u64 = 1;
 
-/// The most names that are looked at when it is asked whether a script waits.
+/// The most names that are looked at to find whether a script waits.
 const MOST_LOOKED: usize = 64;
 
 /// How many seconds after the last change of `new` a look has to begin to see all: a change within the clock's grain has the same
@@ -138,7 +138,7 @@ fn first_try(passed: &[Passed]) -> Option<Instant> {
     first
 }
 
-// Brings names back that are to be tried again now, until there are this many.
+// Brings back names that are to be tried again now, until there are this many.
 fn bring_back(passed: &mut Vec<Passed>, again: &mut Vec<Candidate>, alloc: Global, now: Instant) {
     for it in passed.iter_mut() {
         if again.len() < MOST_AGAIN && it.until <= now {
@@ -183,7 +183,8 @@ impl Board {
         }
     }
 
-    /// Whether a script waits that can be claimed. Only so many names are looked at, and the next call goes on after them.
+    /// Whether a script waits that can be claimed. Only a limited number of names is looked at, and the next call goes on after
+    /// them.
     pub(crate) fn has_claimable(&mut self, layout: &FolderLayout) -> Result<bool, Refusal> {
         let now = Instant::now(&layout.rt)?;
         for _ in 0..MOST_LOOKED {
@@ -328,7 +329,7 @@ impl Board {
         Ok(())
     }
 
-    // Reads the entries of `new`; whether there are no more.
+    // Reads the entries of `new`. The result is whether there are no more.
     fn read(&mut self, layout: &FolderLayout) -> Result<bool, Refusal> {
         let mut entries = layout.entries("new")?;
         for _ in 0..MOST_ENTRIES {

@@ -1,6 +1,6 @@
 // The calls of the file system that the spool makes, each by the place of a file in the folder.
 //
-// Whoever makes one meets a number that is copied when it is refused, and no path.
+// If a call is refused, its caller gets a number, which is copied, and no path.
 
 use crate::entries::Entries;
 use crate::found::Found;

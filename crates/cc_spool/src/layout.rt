@@ -128,7 +128,7 @@ impl FolderLayout {
         Ok(layout)
     }
 
-    /// The same folder, looked at anew.
+    /// The same folder, looked at again.
     pub fn again(&self) -> Result<FolderLayout, AllocError> {
         let mut layout = FolderLayout {
             rt: self.rt,

@@ -9,7 +9,7 @@
 //! fault the answer reports, `framing` how a source is written in it, `fault` why one of these is refused. `log` has who did
 //! what: `script_file` has the lines of a script as it is read, `answer_words` how each was answered.
 //!
-//! It knows nothing of libraries. Of `cc_disk` it uses only the history, which contracts alone read. It needs no handle but files
+//! It knows nothing of libraries. It uses only the history of `cc_disk`, which contracts alone read. It needs no handle but files
 //! and the clock. It exports `Spool`, `MemorySpool` and `Answered`; `FolderSpool`, `FolderLayout`, `SpoolFault`, and what a
 //! server (`take_folder`, `wide_parts`, `recover`, `clear_old`, `count_entries`) and a client (`submit`) do in a folder; how a
 //! source is written in an answer (`frame`, `source_in`, `fault_lines`); and which names are plain (`specs/`).

@@ -38,7 +38,7 @@ enum Place {
     Broken,
 }
 
-// A number with one digit more, as far as it goes.
+// A number with one digit more, which stops at the largest value.
 fn with_digit(number: u32, byte: u8) -> u32
     requires { (48 ≤ byte) × (byte ≤ 57) }
     ensures { result ≡ with_digit number byte }

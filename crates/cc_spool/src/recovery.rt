@@ -146,7 +146,7 @@ fn left_answer(layout: &FolderLayout, name: &str) -> Result<LeftAnswer, Refusal>
     }
 }
 
-// Whether `done` has an answer of the server's under this name.
+// Whether `done` has an answer of the server under this name.
 fn has_answer(layout: &FolderLayout, name: &str) -> Result<bool, Refusal> {
     match layout.look(Place::Done, name)? {
         Some(found) => layout.is_servers(&found),

@@ -318,7 +318,7 @@ impl Waiting {
         }
     }
 
-    // Tells a person that the script waits. If that can't be written, it is no reason to end.
+    // Notes for a person that the script waits. If that can't be written, it is no reason to end.
     fn tell<E: Write>(&self, layout: &FolderLayout, is_claimed: bool, explanations: &mut E) {
         let _ = if is_claimed {
             writeln!(explanations, "cclib: the script is being done")

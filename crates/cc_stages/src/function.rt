@@ -14,7 +14,7 @@ use std::alloc::{AllocError, Global};
 use std::io::{self, Write};
 use std::sync::Arc;
 
-// The word for who made LTL.
+// The word for the maker of LTL.
 fn word(allocator: Allocator) -> &'static str {
     match allocator {
         Allocator::Colour => "coloured",
@@ -44,7 +44,7 @@ impl<'a> Writing<'a> {
         }
     }
 
-    // Writes what was seen: a stage, or of LTL first whose it is, and then how it was judged.
+    // Writes what was seen: a stage, or for LTL first who made it, and then how it was judged.
     fn write(&mut self, seen: Seen<'_>) -> io::Result<()> {
         match seen {
             Seen::Cminor(pair) => Stage::Cminor.write(self.name, pair, &mut self.text),

@@ -44,7 +44,7 @@ pub handed : (fetches : Bool) (came : Option Submission) (old new : Option (List
     → Prints fetches ended.came old new ended.is_written ended.status
 handed fetches came old new ended is prints = subst (λ (c : Option Submission). Prints fetches c old new ended.is_written ended.status) (sym is) prints
 
--- of an answer that was kept and is to be a source
+-- for an answer that was kept and is to be a source
 pub fetched : {E : Type 0} (done : Result Submission E) (answer : List ℕ) (old new : Option (List ℕ)) (ended : Ended) → HasWrittenIfOk (Some []) (Some answer) done
     → FinishesSource answer (came_of done) old new ended → Prints true ended.came old new ended.is_written ended.status
 fetched (Ok (Answered None)) answer old new ended was is =
@@ -58,7 +58,7 @@ fetched (Ok (CutShort name why)) answer old new ended was is = handed true (Some
 fetched (Ok (Lost name why)) answer old new ended was is = handed true (Some (Lost name why)) old new ended is.came_is (is.status_is, is.ends)
 fetched (Err why) answer old new ended was is = handed true None old new ended is.came_is (is.status_is, is.ends)
 
--- of one that was written as it came
+-- for an answer that was written as it came
 pub ended_from : (came : Option Submission) (old between new : Option (List ℕ)) (ended : Ended) → between ≡ old → Finishes came between new ended → Finishes came old new ended
 ended_from came old between new ended same is = subst (λ (o : Option (List ℕ)). Finishes came o new ended) same is
 

@@ -11,12 +11,12 @@ pub of_ok : {A F : Type 0} {P Q : A → Type 0} → ((a : A) → P a → Q a) �
 of_ok step (Ok a) p = step a p
 of_ok step (Err f) p = tt
 
--- and of each refusal
+-- and for each refusal
 pub of_err : {A F : Type 0} {P Q : F → Type 0} → ((f : F) → P f → Q f) → (r : Result A F) → IfErr r P → IfErr r Q
 of_err step (Ok a) p = tt
 of_err step (Err f) p = step f p
 
--- why there is no part in the map to which a disk recovers is why there is none on the disk
+-- the reason why there is no part in the map to which a disk recovers is the reason why there is none on the disk
 pub no_part_on : (honest : Bool) (seen : List ℕ) (before after : ℕ) (name : List ℕ) (units : Units) → (IsTrue honest → Recovers seen units)
     → (fault : PartFault) → IsNoPartIn units name fault → IsNoPartOn honest seen before after name fault
 no_part_on honest seen before after name units recovers BadName why = why

@@ -1,4 +1,4 @@
--- Why stages are not shown: what `stages` says of a text's unit, said of the text.
+-- Why stages are not shown: what `stages` says of a text's unit, stated for the text.
 use Rattle.std.proofs.Common.{◌≡◌, ℕ, List, Option, Some, None, MatchOption, refl}
 use Rattle.cc_ast.specs.Tree.{Source}
 use Rattle.cc_link.specs.Text.{IsProgramText}
@@ -17,7 +17,7 @@ unknown_stage (stages.Link f) e = absurd (cc)
 unknown_stage stages.OutOfMemory e = absurd (cc)
 unknown_stage stages.Write e = absurd (cc)
 
--- the name that a text's unit does not define is one that the text's program does not
+-- a name that a text's unit does not define is one that the text's program does not define
 pub unknown_in : {N : Type 0} (text : List ℕ) (s : Source) (bytes : N → List ℕ) → s.text ≡ text → IsProgramText text s.externals → (function : Option N)
     → MatchOption function ⊥ (λ name. ¬ IsDefined s (bytes name)) → MatchOption function ⊥ (λ name. IsUnknown text (bytes name))
 unknown_in text s bytes whose is None why = why

@@ -40,7 +40,7 @@ pub struct Explanation {
 }
 
 impl Explanation {
-    // Nothing but these words.
+    // Only these words.
     fn words(alloc: Global, words: Option<&'static str>) -> Explanation {
         Explanation {
             words,

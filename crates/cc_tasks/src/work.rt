@@ -164,7 +164,7 @@ fn tell<W: Write>(alloc: Global, task: &Task, text: &[u8], writer: &mut W) -> Re
     }
 }
 
-/// A text as far as it was read, and how a task ended for it: the fault, or what is left to be explained.
+/// The part of a text that was read, and how a task ended for it: the fault, or what is left to be explained.
 #[derive(Drop)]
 pub(crate) struct Performed {
     pub(crate) text: Vec<u8>,

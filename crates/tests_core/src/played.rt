@@ -67,7 +67,7 @@ pub fn leaves(
     Ok(right)
 }
 
-/// Whether these events, from a new state with areas of that many bytes on, give these answers, and leave that.
+/// Whether these events, from a new state with areas of this many bytes on, give these answers, and leave that.
 pub fn begins(alloc: Global, area: u32, lines: &[(Line, u32)], wanted: &Held) -> Result<bool, Fail>
     requires least { 64 ≤ area }
     requires most { area ≤ 2 ^ 30 }
@@ -87,7 +87,7 @@ pub fn goes_on(
     leaves(alloc, state, lines, wanted)
 }
 
-// A new state on a disk with areas of that many bytes.
+// A new state on a disk with areas of this many bytes.
 fn fresh(alloc: Global, area: u32) -> Result<State<FewPieces>, Fail>
     requires least { 64 ≤ area }
     requires most { area ≤ 2 ^ 30 }

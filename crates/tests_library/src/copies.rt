@@ -37,7 +37,7 @@ fn area_of(disk: &mut MemoryDisk) -> Result<u32, Fail> {
     Ok(u32::from_le_bytes([a, b, c, d]))
 }
 
-// How many lines there are between a map and its copy in areas of so many bytes, or the number of the refusal.
+// How many lines there are between a map and its copy in areas of this many bytes, or the number of the refusal.
 fn copied(alloc: Global, units: &UnitMap, area: u32) -> Result<Result<usize, u32>, Fail> {
     if area < 64 || area > 1_073_741_824 {
         return Err(Fail::from("no area has so many bytes"));

@@ -83,7 +83,7 @@ fn instructions(alloc: Global, text: &[u8], mask: u32, bits: u32) -> Result<(usi
     Ok((count, has))
 }
 
-// The same of a program that has a condition between two texts.
+// The same for a program that has a condition between two texts.
 fn asked(
     alloc: Global,
     before: &str,

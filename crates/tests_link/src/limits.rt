@@ -106,7 +106,7 @@ fn words_of(
     }
 }
 
-// The image's words with this many moves in front of the first three blocks of `main`.
+// The image's words with this many moves before the first three blocks of `main`.
 fn long_main(
     alloc: Global,
     unit: &Arc<TypedUnit>,
@@ -143,7 +143,7 @@ fn most_words_of_code(rt: HostRuntime) -> Result<(), Fail> {
 const LOOP: &str =
     "int x;int main(void){int i;for(i=0;i<3;i++)if(i==1){x=x+5;}else x=x+1000;write_word(x);}";
 
-// Whether the image runs right with this many moves in front of that block.
+// Whether the image runs right with this many moves before that block.
 fn runs_padded(
     alloc: Global,
     unit: &Arc<TypedUnit>,

@@ -1,4 +1,4 @@
-// Code of any length: the allocation of a function, with moves in front of its blocks that nobody needs. Each becomes one word of
+// Code of any length: the allocation of a function, with moves before its blocks that nobody needs. Each becomes one word of
 // code, and the validator accepts them, since no value lies in the registers between which they move.
 
 use super::orders::piece;
@@ -16,7 +16,7 @@ use std::alloc::Global;
 use std::sync::Arc;
 use std::test::Fail;
 
-/// How many more moves there are in front of a block, and the place of the block, counted from 0.
+/// How many more moves there are before a block, and the place of the block, counted from 0.
 pub type Padding = (usize, usize);
 
 fn padding_of(paddings: &[Padding], place: usize) -> usize {

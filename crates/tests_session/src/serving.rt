@@ -118,8 +118,8 @@ where
     Ok(right)
 }
 
-// A script that 51, 52 or 53 ends ends alone: the next is answered as if it had not been. 52 comes after 65,536 lines, sources
-// not counted.
+// 51, 52 or 53 ends only its own script: the next is answered as if it had not been. 52 comes after 65,536 lines, sources not
+// counted.
 #[test]
 fn a_fault_ends_its_script_alone(rt: HostRuntime) -> Result<(), Fail> {
     let alloc = rt.alloc();

@@ -550,7 +550,7 @@ fn names_that_hide_no_script(rt: HostRuntime) {
     must(&rt, folder.end_spool(spool, held), "its end");
 }
 
-// Whether a client waits for nobody, though another one is busy too: nothing is there that can be claimed.
+// Whether a client waits for nobody, though another one is busy too: nothing that can be claimed is there.
 fn is_left_alone(folder: Folder, spool: &FolderSpool) -> bool {
     let is_alone = !spool.is_awaited();
     is_alone && folder.make("new", "a-directory") && !spool.is_awaited()
@@ -648,7 +648,7 @@ static OLD: [(&str, &str, bool); 8] = [
     // A script that waits, and one that was claimed.
     ("new", "waits", false),
     ("cur", "claimed", false),
-    // What a start that was killed tried these parts with.
+    // The files with which a start that was killed tried these parts.
     ("new", ".try-1", true),
     ("cur", ".try-2", true),
 ];

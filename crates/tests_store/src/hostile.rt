@@ -87,7 +87,7 @@ fn each_value_of_the_area_byte(rt: HostRuntime) -> Result<(), Fail> {
     Ok(())
 }
 
-// Opening syncs what was written before, as it is, without a sync.
+// Opening syncs, as it is, what was written before without a sync.
 #[test]
 fn opening_settles_what_was_written(rt: HostRuntime) -> Result<(), Fail> {
     passes(is_settled(rt.alloc()))

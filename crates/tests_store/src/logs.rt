@@ -17,7 +17,7 @@ enum Step {
     Row { is_framed: bool },
     // A body of this many bytes of this value is added.
     Append(u8, usize, u32),
-    // All is written anew as one body, of this many bytes 1.
+    // All is written again as one body, of this many bytes 1.
     Rewrite(usize, u32),
 }
 
@@ -53,7 +53,7 @@ fn appends<D: Disk>(
     }
 }
 
-// Whether writing all anew as a body of this many bytes 1 is answered with this number, and that body is handed over.
+// Whether writing all again as a body of this many bytes 1 is answered with this number, and that body is handed over.
 fn rewrites<D: Disk>(
     alloc: Global,
     log: &mut Log<D>,

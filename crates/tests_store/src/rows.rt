@@ -15,9 +15,9 @@ use tests_texts::verdict::passes;
 enum Step {
     // A body of this many bytes of this value is added.
     Append(u8, usize, u32),
-    // All is written anew as one body, of this many bytes 1.
+    // All is written again as one body, of this many bytes 1.
     Rewrite(usize, u32),
-    // All is written anew as no body.
+    // All is written again as no body.
     Clear(u32),
 }
 

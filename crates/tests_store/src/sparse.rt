@@ -12,7 +12,7 @@ pub struct SparseDisk {
 }
 
 impl SparseDisk {
-    /// A disk of that size with these bytes at these offsets. A read gives 0 where none is kept.
+    /// A disk of that size with these bytes at these offsets. A read gives 0 for each other byte.
     pub fn new(kept: Vec<(usize, u8)>, size: usize) -> SparseDisk {
         SparseDisk { kept, size }
     }
@@ -23,7 +23,7 @@ impl SparseDisk {
     }
 }
 
-// The bytes from that offset on, 0 where none is kept.
+// The bytes from that offset on, 0 for each that is not kept.
 fn recall(kept: &[(usize, u8)], offset: usize, buffer: &mut [u8]) {
     buffer.fill(0);
     for (at, byte) in kept {

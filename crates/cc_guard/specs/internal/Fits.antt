@@ -17,7 +17,7 @@ abbrev pub AllUnder : ℕ → List Expression → Type 0
 AllUnder n [] = Unit {0}
 AllUnder n (e ∷ es) = Under n e × AllUnder n es
 
--- a statement in so many blocks
+-- a statement in this many blocks
 abbrev pub Fits : (n blocks : ℕ) → Statement → Type 0
 Fits n b Skip = Unit {0}
 Fits n b (Set x e) = (x < n) × Under n e

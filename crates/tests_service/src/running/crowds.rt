@@ -49,7 +49,7 @@ where
 }
 
 // The client after its calls, and whether each was answered by a receipt, or refused for lack of room, after which the library is
-// written anew.
+// written again.
 fn calls<N, R>(
     rt: &R,
     alloc: Global,

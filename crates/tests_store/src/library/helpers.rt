@@ -136,7 +136,7 @@ pub fn steps_done<D: Disk>(
     Ok(steps.len())
 }
 
-/// A formatted disk with areas of that many bytes.
+/// A formatted disk with areas of this many bytes.
 pub fn formatted(alloc: Global, area: u32) -> Result<MemoryDisk, Fail> {
     let mut disk = MemoryDisk::new(alloc, 16 + 2 * area as usize)?;
     format(&mut disk, area)?;

@@ -14,7 +14,7 @@ use tests_texts::verdict::{each_passes, passes};
 // The device calls of opening a library with one record: a sync, the header, the records, which are read ahead.
 const OPENING: u64 = 3;
 
-// Whether these steps on a new library with areas of that many bytes have these numbers, and its disk then holds these units.
+// Whether these steps on a new library with areas of this many bytes have these numbers, and its disk then holds these units.
 fn are_answered(
     alloc: Global,
     area: u32,

@@ -1,5 +1,5 @@
-// The text of the Linear of whole functions, worked by hand from the rules in `docs/INTERMEDIATE.md`: the nodes of RTL, the blocks that
-// come of them with a slot for each register, and the order of blocks.
+// The text of the Linear of whole functions, worked by hand from the rules in `docs/INTERMEDIATE.md`: the nodes of RTL, the
+// blocks made from them with a slot for each register, and the order of blocks.
 
 use super::helpers::LinearStage;
 use std::test::Fail;
