@@ -1915,11 +1915,11 @@ def documents(place):
     """What no program can hold back has its sentence."""
     wrong = []
     for name, pattern, what in SENTENCES:
-        with open(f"{serve.HERE}/../{name}") as file:
+        with open(f"{serve.HERE}/../../{name}") as file:
             if not re.search(pattern, file.read()):
                 wrong.append(f"{name} lacks {what}")
     for name, text in GONE:
-        with open(f"{serve.HERE}/../{name}") as file:
+        with open(f"{serve.HERE}/../../{name}") as file:
             if text in re.sub(r"\s+(// )?", " ", file.read()):
                 wrong.append(f"{name} still says: {text}")
     must(not wrong, "; ".join(wrong))
@@ -1956,7 +1956,7 @@ class Tree:
     def __init__(self, place):
         self.work = place.work
         self.top, self.prefix, self.tools = f"{place.work}/tree", f"{place.work}/prefix", f"{place.work}/tools"
-        source = os.path.join(serve.HERE, "..")
+        source = os.path.join(serve.HERE, "../..")
         for name in ("install", "cclib", "prove-below", "crates.txt"):
             os.makedirs(self.top, exist_ok=True)
             shutil.copy(f"{source}/{name}", self.top)
@@ -2138,7 +2138,7 @@ class Kit:
 
     def __init__(self, place):
         self.top, self.kit = f"{place.work}/clone", f"{place.work}/kit"
-        source = os.path.join(serve.HERE, "..")
+        source = os.path.join(serve.HERE, "../..")
         os.makedirs(self.top)
         for name in ("cclib", "prove-below"):
             shutil.copy(f"{source}/{name}", self.top)
@@ -2191,7 +2191,7 @@ def proof_unwritable(place):
 @attack("team.sh FOLDER twice: a unit that somebody has added since; and a FOLDER with a library of somebody's", 200)
 def team(place):
     """It formats no library that it did not make, and none that has other units: these are there afterwards."""
-    script = os.path.join(serve.HERE, "../examples/team/team.sh")
+    script = os.path.join(serve.HERE, "../../examples/team/team.sh")
     with_program = {**os.environ, "CCLIB": place.program}
     run = lambda folder: subprocess.run([script, folder], env=with_program, stdin=subprocess.DEVNULL, capture_output=True, text=True, timeout=100)
     folder = f"{place.work}/team"

@@ -20,7 +20,7 @@ AREA = 1 << 20
 class Session:
     """A session of the program over the running service, by a script on standard input."""
 
-    PROGRAM = os.environ.get("CCLIB") or os.path.join(HERE, "../crates/cclib/out/cclib")
+    PROGRAM = os.environ.get("CCLIB") or os.path.join(HERE, "../../crates/cclib/out/cclib")
     UNIT = "int f(int x){return x*3;}int main(void){int i;int s=0;for(i=0;i<9;i++)s+=f(i);write_word(s);return s;}"
 
     def run(self, path, script, *options):

@@ -1,12 +1,12 @@
 #!/usr/bin/env python3
 """Looks at what `size` says of programs: those of examples/ and bench/programs, and random ones.
 
-stack.py [COUNT] [SEED] [STEPS]: COUNT random programs (100) of bench/compare.py, from a seed (1). Of each program that has an image:
+stack.py [COUNT] [SEED] [STEPS]: COUNT random programs (100) of tests/outside/compare.py, from a seed (1). Of each program that has an image:
 - the functions, their places and their words are those of the listing behind its start of three words, `code` is its length and `globals` the
   bytes of `image` from 0x00200000 on;
 - frames, chains of calls and the stack are what this script computes from the listing alone: a function's frame is the largest N of its
   `addi x2, x2, -N`, and its calls are its `jal x1`;
-- a plain simulator (bench/image.py) runs the image for STEPS instructions (200,000), and no load or store below x2's first value lies deeper
+- a plain simulator (tests/outside/image.py) runs the image for STEPS instructions (200,000), and no load or store below x2's first value lies deeper
   than the stack that is said.
 So plain and checked. The program has to be built (./cclib --help), or CCLIB names one that is. The status is 1 where one differs."""
 import pathlib
@@ -16,7 +16,7 @@ import sys
 import compare
 import image
 
-TOP = pathlib.Path(__file__).resolve().parent.parent
+TOP = pathlib.Path(__file__).resolve().parent.parent.parent
 MOST_OPEN = 1024
 
 

@@ -2,9 +2,9 @@
 """Compiles the units of a library anew, so that an audit confirms them again: for a library that an earlier compiler has filled.
 
 replace.py LIBRARY [FOLDER], or cclib-replace of an install: audits the library in the file LIBRARY by `cclib library`. Each unit that is not confirmed is replaced by a
-compilation of its own source: the one that the library's file has of it (docs/FORMATS.md), or that of FOLDER/NAME.c. Where the library is
-full (34) it is compacted once and the change is made again. Then all are audited again. A unit whose source is refused stays as it is.
-Says how many were confirmed before and are now; the status is 1 where one is not. The program is the one beside it, or that of the
+compilation of its own source: the one that the library's file has of it (docs/FORMATS.md), or that of FOLDER/NAME.c. A library that is
+full (34) is compacted once and the change is made again. Then all are audited again. A unit whose source is refused stays as it is.
+Says how many were confirmed before and are now; the status is 1 if one is not. The program is the one beside it, or that of the
 repository, which has to be built (./cclib)."""
 
 import os
@@ -67,7 +67,7 @@ def audited(session):
 
 
 def replace(session, name, source):
-    """What the change answers, made again behind a compaction where the library was full."""
+    """What the change answers, and the same change again after a compaction if the library was full."""
     script = b"replace %s %d\n%s\n" % (name.encode(), len(source), source)
     answer = session.call(script)[-1]
     if answer.startswith("fault 34"):

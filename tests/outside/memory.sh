@@ -1,7 +1,7 @@
 #!/usr/bin/env bash
 # Refuses each allocation in turn, and looks what comes of it: memory.sh TASK. A `malloc` put before the C library's (refuse.c) refuses allocation
 # number N, for every N until a run ends before it.
-#   program   `check` and `interpret` of bench/memory.c, of the programs of examples/ and of texts at the limits, `run` and `asm` of a text with two
+#   program   `check` and `interpret` of tests/outside/memory.c, of the programs of examples/ and of texts at the limits, `run` and `asm` of a text with two
 #             functions and 24 locals: each answer is the usual one, or `fault 40 OutOfMemory` with status 1
 #   compile, list, store, service   a test: a compilation (40, and the next one is as ever); an addition to the instruction list (it hands its item back,
 #             leaves the list as it was, and goes through when it is made again); a change of the library (40, the map as before, no device call);
@@ -11,7 +11,7 @@
 # The program has to be built (./cclib), or CCLIB names one that is, and the tests (rt test in the crate); gcc makes the `malloc`.
 set -eu
 # shellcheck source=bench/words.sh
-. "$(dirname "$0")/words.sh"
+. "$(dirname "$0")/../../bench/words.sh"
 room
 total=0 refused=0
 
@@ -48,7 +48,7 @@ program() {
     printf 'int main(void){%s%s}' "$(printf '{%.0s' $(seq 63))" "$(printf '}%.0s' $(seq 63))" > "$work/blocks.c"
     : > "$work/nothing.c"
     printf '/*' > "$work/unclosed.c"
-    for file in "$top"/bench/memory.c "$top"/examples/*.c "$work"/*.c; do
+    for file in "$top"/tests/outside/memory.c "$top"/examples/*.c "$work"/*.c; do
         sweep "$file" check
         sweep "$file" interpret 100000 3 4294967295 4 0
     done
@@ -83,7 +83,7 @@ a_test() {
     echo "$((number - 1)) allocations refused, $refused of them in what is tried: 40 or 41 and all as before"
 }
 
-gcc -shared -fPIC -O1 -o "$work/refuse.so" "$top/bench/refuse.c" -ldl
+gcc -shared -fPIC -O1 -o "$work/refuse.so" "$top/tests/outside/shims/refuse.c" -ldl
 case ${1:-} in
     program) program ;;
     compile) a_test tests_link memory::every_growth_of_compile '' ;;
@@ -94,7 +94,7 @@ case ${1:-} in
             refused=0
             a_test tests_service running::memory::$name '"(not opened|no workers|no memory)"|OutOfMemory|'
         done ;;
-    session) python3 "$top/bench/session.py" refuse "$work" ;;
-    server) python3 "$top/bench/fails.py" memory ;;
+    session) python3 "$top/tests/outside/session.py" refuse "$work" ;;
+    server) python3 "$top/tests/outside/fails.py" memory ;;
     *) fail "program, compile, list, store, service, session or server" ;;
 esac

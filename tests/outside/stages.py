@@ -1,10 +1,10 @@
 #!/usr/bin/env python3
 """Looks at what `stages` answers for the programs of examples/ and bench/programs and for random ones.
 
-stages.py [COUNT] [SEED]: COUNT random programs (100) of bench/compare.py, from a seed (1). Of each program that `asm` lists, `stages` has to
+stages.py [COUNT] [SEED]: COUNT random programs (100) of tests/outside/compare.py, from a seed (1). Of each program that `asm` lists, `stages` has to
 end with status 0; all its code has to be that listing behind its start of three words; each function alone has to be answered by its
 part of the whole; and each stage's text has to be one of its language, in which every label that is named stands. Then each stage but the code
-is run, by bench/languages.py, on eight words, and has to write what `interpret` says: as many words of it as both come to where one of
+is run, by tests/outside/languages.py, on eight words, and has to write what `interpret` says: as many words of it as both come to where one of
 them is cut off, and only what comes before where an operation goes wrong. The program has to be built (./cclib --help), or CCLIB names
 one that is. First values of objects are gcc's."""
 
@@ -111,7 +111,7 @@ def judge(text, room):
 
 def main():
     count, first = (int(it) for it in (*sys.argv[1:3], *(100, 1)[len(sys.argv[1:3]) :]))
-    files = [it for folder in ("../examples", "programs", "programs/*") for it in glob.glob(f"{HERE}/{folder}/*.c")]
+    files = [it for folder in ("../../examples", "../../bench/programs", "../../bench/programs/*") for it in glob.glob(f"{HERE}/{folder}/*.c")]
     texts = [(it, open(it, encoding="utf-8").read()) for it in sorted(files)]
     texts += [(f"seed {it}", compare.Writer(it).program(it)) for it in range(first, first + count)]
     programs, functions, spilled, other = 0, 0, 0, 0

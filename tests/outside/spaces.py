@@ -16,6 +16,7 @@ import sys
 import tempfile
 import time
 
+sys.path.insert(0, os.path.join(os.path.dirname(os.path.abspath(__file__)), "../../tools"))
 import records
 
 HERE = os.path.dirname(os.path.abspath(__file__))
@@ -87,7 +88,7 @@ def play(server, chance, found):
 
 def main():
     words = sys.argv[1:]
-    program = os.environ.get("CCLIB") or os.path.join(HERE, "../crates/cclib/out/cclib")
+    program = os.environ.get("CCLIB") or os.path.join(HERE, "../../crates/cclib/out/cclib")
     if "--program" in words:
         at = words.index("--program")
         program = words[at + 1]

@@ -1,7 +1,7 @@
 #!/usr/bin/env python3
 """Compares how runs end under `trace` and `cover` with what `interpret` answers.
 
-watched.py [COUNT] [SEED]: the programs of examples/ and bench/programs, and COUNT random ones (1,000) of bench/compare.py from a seed (1), each
+watched.py [COUNT] [SEED]: the programs of examples/ and bench/programs, and COUNT random ones (1,000) of tests/outside/compare.py from a seed (1), each
 within 100,000 steps on four words. The last line that says how the run ended is compared. Then a loop of 100,000,000 steps is traced, and the most memory of it and of a short run is
 printed, with the time of all three. The status is 1 if something differs. The program has to be built (./cclib), or CCLIB names one that is."""
 
@@ -15,7 +15,7 @@ import time
 import compare
 
 HERE = os.path.dirname(os.path.abspath(__file__))
-PROGRAM = os.environ.get("CCLIB") or os.path.join(HERE, "../crates/cclib/out/cclib")
+PROGRAM = os.environ.get("CCLIB") or os.path.join(HERE, "../../crates/cclib/out/cclib")
 END = re.compile(r"(ended -?[0-9]+|going|wrong [A-Z][a-z]+|fault .*)$")
 WORDS = ["3", "4294967295", "0", "7"]
 LOOP = b"int main(void){int i;int s;s=0;for(i=0;i<2000000000;i=i+1)s=s+i;return s;}"
@@ -59,7 +59,7 @@ def main():
     count = int(sys.argv[1]) if len(sys.argv) > 1 else 1000
     seed = int(sys.argv[2]) if len(sys.argv) > 2 else 1
     wrong = 0
-    files = sorted(glob.glob(os.path.join(HERE, "../examples/*.c")) + glob.glob(os.path.join(HERE, "programs/*.c")))
+    files = sorted(glob.glob(os.path.join(HERE, "../../examples/*.c")) + glob.glob(os.path.join(HERE, "../../bench/programs/*.c")))
     for path in files:
         with open(path, "rb") as file:
             wrong += differs(path, file.read())

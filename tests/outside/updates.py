@@ -83,7 +83,7 @@ class Counter:
 
 def main():
     words = sys.argv[1:]
-    program = os.environ.get("CCLIB") or os.path.join(HERE, "../crates/cclib/out/cclib")
+    program = os.environ.get("CCLIB") or os.path.join(HERE, "../../crates/cclib/out/cclib")
     if "--program" in words:
         at = words.index("--program")
         program = words[at + 1]

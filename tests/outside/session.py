@@ -18,7 +18,7 @@ import sys
 import tempfile
 import time
 
-TOP = os.path.dirname(os.path.dirname(os.path.abspath(__file__)))
+TOP = os.path.dirname(os.path.dirname(os.path.dirname(os.path.abspath(__file__))))
 PROGRAM = os.environ.get("CCLIB") or os.path.join(TOP, "crates/cclib/out/cclib")
 UNIT = "int f(int x){return x*3;}int main(void){write_word(f(5));return f(2);}"
 OTHER = "int main(void){return 7;}"
@@ -167,7 +167,7 @@ class Answers:
 
 def refuse(work):
     path, library_path, told = (os.path.join(work, it) for it in ("disk", "refuse.so", "told"))
-    subprocess.run(["gcc", "-shared", "-fPIC", "-O1", "-o", library_path, os.path.join(TOP, "bench/refuse.c"), "-ldl"], check=True)
+    subprocess.run(["gcc", "-shared", "-fPIC", "-O1", "-o", library_path, os.path.join(TOP, "tests/outside/shims/refuse.c"), "-ldl"], check=True)
     number = answered = unanswered = 0
     while True:
         number += 1

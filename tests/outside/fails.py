@@ -181,7 +181,7 @@ def main():
     work = serve.tempfile.mkdtemp(prefix="fails-")
     is_memory = words[0] == "memory"
     library = f"{work}/fail.so"
-    source = os.path.join(serve.HERE, "refuse.c" if is_memory else "fail.c")
+    source = os.path.join(serve.HERE, "shims", "refuse.c" if is_memory else "fail.c")
     subprocess.run(["gcc", "-O1", "-shared", "-fPIC", "-o", library, source, "-ldl"], check=True)
     template_of(work)
     calls, ends = collections.Counter(), collections.Counter()

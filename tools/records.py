@@ -15,7 +15,7 @@ MOST, LEAST = 1 << 30, 64
 
 
 class Record:
-    """A record that adds or replaces a unit, and where its parts lie in the file."""
+    """A record that adds or replaces a unit, and the place of its parts in the file."""
 
     def __init__(self, data, at):
         (length,) = struct.unpack_from("<I", data, at + 1)

@@ -74,7 +74,7 @@ def submit_all(place, owner, count, seed, told):
 def record(place, count, seed):
     """A server under submitters: the recorded calls, and each submitter's scripts with their answers."""
     library, calls = f"{place.work}/answered_cuts.so", f"{place.work}/calls"
-    subprocess.run(["gcc", "-O1", "-shared", "-fPIC", "-o", library, os.path.join(serve.HERE, "answered_cuts.c"), "-ldl"], check=True)
+    subprocess.run(["gcc", "-O1", "-shared", "-fPIC", "-o", library, os.path.join(serve.HERE, "shims/answered_cuts.c"), "-ldl"], check=True)
     place.library("", "--format", str(AREA))
     with open(place.disk, "rb") as file:
         first = file.read()

@@ -19,7 +19,7 @@ import tempfile
 import time
 
 HERE = os.path.dirname(os.path.abspath(__file__))
-PROGRAM = os.environ.get("CCLIB") or os.path.join(HERE, "../crates/cclib/out/cclib")
+PROGRAM = os.environ.get("CCLIB") or os.path.join(HERE, "../../crates/cclib/out/cclib")
 SUBMITTERS = 16
 UNITS = 3
 UNIT = "int main(void){int i;int s=0;for(i=1;i<=10;i++)s+=i;write_word(s);return 0;}"

@@ -4,7 +4,7 @@
 # The program has to be built (./cclib), or CCLIB names one that is.
 set -eu
 # shellcheck source=bench/words.sh
-. "$(dirname "$0")/words.sh"
+. "$(dirname "$0")/../../bench/words.sh"
 cclib
 room
 

@@ -1,7 +1,7 @@
 #!/usr/bin/env python3
 """Runs images on qemu's core, which knows nothing of cclib, and looks at the stack below what `size` says.
 
-pattern.py [COUNT] [SEED]: the programs of examples/ and bench/programs, and COUNT random ones of bench/compare.py (200), from a seed (1). Before
+pattern.py [COUNT] [SEED]: the programs of examples/ and bench/programs, and COUNT random ones of tests/outside/compare.py (200), from a seed (1). Before
 each run all words from 0x00600000 up to 0x00800000 less the stack that is said get a pattern; afterwards they have to be unchanged, and the words
 written and the status those of `cclib run`. The stack just above has another pattern: how many images change its lowest word is printed. The start
 and the services are those of examples/team. A program that does not end within a million instructions is passed over. Needs qemu-system-riscv32
@@ -15,7 +15,7 @@ import tempfile
 import compare
 import image
 
-TOP = pathlib.Path(__file__).resolve().parent.parent
+TOP = pathlib.Path(__file__).resolve().parent.parent.parent
 TEAM = TOP / "examples" / "team"
 TOOL = "riscv64-unknown-elf-"
 CHANGED, LOWEST = 0x0BADF00D, 0x0DEE9E57

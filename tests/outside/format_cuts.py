@@ -63,7 +63,7 @@ class Device:
 def recorded(store, path, work):
     """The calls of a --format over that file."""
     library, told = os.path.join(work, "calls.so"), os.path.join(work, "calls")
-    subprocess.run(["gcc", "-O1", "-shared", "-fPIC", "-o", library, os.path.join(HERE, "calls.c"), "-ldl"], check=True)
+    subprocess.run(["gcc", "-O1", "-shared", "-fPIC", "-o", library, os.path.join(HERE, "shims/calls.c"), "-ldl"], check=True)
     done = store.make(path, env={**os.environ, "LD_PRELOAD": library, "CALLS_OF": path, "CALLS_TO": told})
     if done.returncode:
         sys.exit(f"format_cuts.py: the file is not formatted: {done.stdout}{done.stderr}")

@@ -1,7 +1,7 @@
 #!/usr/bin/env python3
 """Counts the random functions whose registers the validator refuses, so that they would get a slot for each value.
 
-refused.py [COUNT] [SEED]: COUNT programs (400), from a seed (1), each with ten functions beside those of bench/compare.py's programs. A
+refused.py [COUNT] [SEED]: COUNT programs (400), from a seed (1), each with ten functions beside those of tests/outside/compare.py's programs. A
 function has up to eight parameters, up to 40 locals that may all be alive at once, loops, and calls of the functions before it. The text of a
 program with a refusal is printed. `cclib stages` says of each function whether its colouring is refused. The program has to be built
 (./cclib), or CCLIB names one that is."""
@@ -12,7 +12,7 @@ import sys
 
 import compare
 
-PROGRAM = os.environ.get("CCLIB") or os.path.join(os.path.dirname(os.path.abspath(__file__)), "../crates/cclib/out/cclib")
+PROGRAM = os.environ.get("CCLIB") or os.path.join(os.path.dirname(os.path.abspath(__file__)), "../../crates/cclib/out/cclib")
 FUNCTIONS = 10
 BEFORE, MAIN = compare.BEGIN.split("int main(void)")
 

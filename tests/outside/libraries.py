@@ -23,10 +23,11 @@ import time
 
 import compare
 import image
+sys.path.insert(0, os.path.join(os.path.dirname(os.path.abspath(__file__)), "../../tools"))
 import records
 
 HERE = os.path.dirname(os.path.abspath(__file__))
-PROGRAM = os.path.join(HERE, "../crates/cclib/out/cclib")
+PROGRAM = os.path.join(HERE, "../../crates/cclib/out/cclib")
 NAMES = ["a", "b", "c", "d1", "e_", "long_name_of_thirty_two_bytes_xx"]
 wrong = 0
 
@@ -260,8 +261,8 @@ def try_cuts(seed):
     chance = random.Random(seed)
     found = {}
     with tempfile.TemporaryDirectory() as work, tempfile.TemporaryDirectory() as place:
-        subprocess.run(["gcc", "-O1", "-shared", "-fPIC", "-o", f"{place}/fail.so", f"{HERE}/fail.c", "-ldl"], check=True)
-        subprocess.run(["gcc", "-O1", "-shared", "-fPIC", "-o", f"{place}/calls.so", f"{HERE}/calls.c", "-ldl"], check=True)
+        subprocess.run(["gcc", "-O1", "-shared", "-fPIC", "-o", f"{place}/fail.so", f"{HERE}/shims/fail.c", "-ldl"], check=True)
+        subprocess.run(["gcc", "-O1", "-shared", "-fPIC", "-o", f"{place}/calls.so", f"{HERE}/shims/calls.c", "-ldl"], check=True)
         old, new = f"{work}/old", f"{work}/new"
         units = {f"u{it}": Unit(chance) for it in range(300)}
         with open(old, "wb") as file:

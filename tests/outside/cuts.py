@@ -21,7 +21,7 @@ import sys
 import tempfile
 import time
 
-TOP = os.path.dirname(os.path.dirname(os.path.abspath(__file__)))
+TOP = os.path.dirname(os.path.dirname(os.path.dirname(os.path.abspath(__file__))))
 PROGRAM = os.environ.get("CCLIB") or os.path.join(TOP, "crates/cclib/out/cclib")
 TEXT = "int f(int x){return x*3;}int main(void){write_word(f(5));return f(2);}"
 PARTS = ("new", "tmp", "cur", "done")

@@ -19,7 +19,7 @@ import tempfile
 
 import compare
 
-PROGRAM = os.environ.get("CCLIB") or os.path.join(os.path.dirname(os.path.abspath(__file__)), "../crates/cclib/out/cclib")
+PROGRAM = os.environ.get("CCLIB") or os.path.join(os.path.dirname(os.path.abspath(__file__)), "../../crates/cclib/out/cclib")
 TOKENS = re.compile(rb"[A-Za-z_][A-Za-z_0-9]*|[0-9]+|\s+|.", re.DOTALL)
 ODD = [b"\xff", b"\xc3\xa9", b"\x80", b"\x00", b"\x1b", b'"', b"\\", b"'", b"@", b"\xe2\x82", b"\xf0\x9f\x98\x80"]
 

@@ -17,7 +17,7 @@ import subprocess
 import sys
 import tempfile
 
-PROGRAM = os.environ.get("CCLIB") or os.path.join(os.path.dirname(os.path.abspath(__file__)), "../crates/cclib/out/cclib")
+PROGRAM = os.environ.get("CCLIB") or os.path.join(os.path.dirname(os.path.abspath(__file__)), "../../crates/cclib/out/cclib")
 # gcc 12 folds -(-2147483648 / (x + 1)) into -2147483648 / ~x, in spite of -fwrapv, and so ends by a signal where x is 0: then clang is asked.
 PEERS = ["gcc", *filter(shutil.which, ["clang"])]
 MOST = "1000000000"
