@@ -3,7 +3,7 @@
 # with 1, 2 and 4 workers, beside what the machine itself gains when as many processes compile the same text at once, on one thread each.
 # Each is the mean of TIMES turns (10) without a start that does none, and the best of ROUNDS rounds (5) counts, in which all are done in turn.
 # The programs have to be built (./prove-below bench, ./cclib), or BENCH and CCLIB name some that are.
-# bench/memory.sh session and server check that no thread waits for ever if memory is refused, with one client and with more.
+# tests/outside/memory.sh session and server check that no thread waits for ever if memory is refused, with one client and with more.
 set -eu
 # shellcheck source=bench/words.sh
 . "$(dirname "$0")/words.sh"

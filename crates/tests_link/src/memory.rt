@@ -1,4 +1,4 @@
-// Compilations with a growth that is refused. `bench/memory.sh compile` refuses each allocation of this test in turn, so there is
+// Compilations with a growth that is refused. `tests/outside/memory.sh compile` refuses each allocation of this test in turn, so there is
 // one test for all.
 
 use cc_link::{CompiledUnit, compile};

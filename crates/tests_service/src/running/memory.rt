@@ -1,4 +1,4 @@
-// An `add` with a growth that is refused, its text handed in first or not. `bench/memory.sh service` refuses each allocation of
+// An `add` with a growth that is refused, its text handed in first or not. `tests/outside/memory.sh service` refuses each allocation of
 // these tests in turn, so there is one test for all.
 
 use super::ahead::put_number;
