@@ -1,28 +1,25 @@
 -- What each exit of a commit owes, in terms of what contracts see of a book: that its type keeps what it keeps, and the answer.
-use Rattle.std.proofs.Common.{◌≡◌, ◌≢◌, ℕ, zero, suc, ◌+◌, inl, inr, Bool, true, false, IsTrue, List, [], ◌∷◌, ◌++◌, length, Result, Ok, Err, refl, sym, ap, ◌∙◌, subst, arith, length-append}
+use Rattle.std.proofs.Common.{◌≡◌, ◌≢◌, ℕ, zero, suc, ◌+◌, inl, inr, Bool, true, false, IsTrue, List, [], ◌∷◌, ◌++◌, length, Some, None, Result, Ok, Err, refl, sym, ap, ◌∙◌, subst, arith, length-append}
 use Rattle.std.specs.Prelude.{◌==◌, IsOk, if◌then◌else◌}
 use Rattle.cc_disk.specs.declared.disk.Disk.{Ghosts}
 use Rattle.cc_disk.specs.Images.{LeavesOnly}
-use Rattle.cc_library.specs.declared.command.LibraryCommand as made
+use Rattle.cc_library.specs.Change as made
 use Rattle.cc_library.specs.declared.fault.LibraryFault.{LibraryFault}
 use Rattle.cc_library.specs.declared.fault.LibraryFault.TheVariants as fault
-use Rattle.cc_library.specs.Apply.{Units, after, after_all}
+use Rattle.cc_library.specs.Apply.{Units, after, after_all, apply, exists, absent, refusal}
 use Rattle.cc_library.specs.Answers as answers
 use Rattle.cc_library.specs.Recovered.{View, RecoversAlone, RecoversOneOf}
-use Rattle.cc_history.specs.declared.command.Command.{Command}
 use Rattle.cc_history.specs.declared.command.Asked.{Asked}
 use Rattle.cc_history.specs.declared.command.Asked.TheVariants.{Change, Fetch, Names}
 use Rattle.cc_history.specs.declared.entry.Entry.{Entry}
 use Rattle.cc_history.specs.declared.entry.Receipt.{Receipt}
 use Rattle.cc_history.specs.declared.reply.Reply.{Reply}
 use Rattle.cc_history.specs.declared.reply.Reply.TheVariants as reply
-use Rattle.cc_history.specs.Calls.{HasAgreedUnit, HasAgreed, change_of, changes_of, reply_of, reply_of_change}
+use Rattle.cc_history.specs.Calls.{Command, HasAgreed, HasAgreedUnit, changes_of, reply_of, reply_of_change}
 use Rattle.cc_history.specs.History.{MemberView, Chronicle, HaveAgreed, IsOwn, IsRecorded, LastStands, Replays, entry_of}
 use Rattle.cc_history.specs.Laws.{RecordsKeep, next_of, member_of}
 use Rattle.cc_history.proofs.Histories.{snoc_cases}
-use Rattle.cc_history.specs.declared.command.Command.TheVariants as commands
 use Rattle.cc_recorded.specs.Book.{BookView, IsRecordedLibrary, RecoversTo, chronicle_of, AllAgreed}
-use Rattle.cc_recorded.specs.Book.{HasAgreedUnit as AgreedChange}
 use Rattle.cc_recorded.specs.Changed.{AllRecover}
 use Rattle.cc_recorded.specs.Member.{IsMember}
 use Rattle.cc_recorded.specs.Answers.{IsLook}
@@ -94,17 +91,6 @@ alone_of D named total book kept idle h image left =
 
 -- ---- what the library answered
 
--- a refusal without a device call leaves the library
-pub untouched : {Disk : Type 0} (change : made.LibraryCommand) (old new : View Disk) (f : LibraryFault) → f ≢ fault.DiskFault → answers.ChangeLeaves {T = Unit {0}} change old new (Err f) → new ≡ old
-untouched change old new fault.DiskFault away leaves = absurd (away refl)
-untouched change old new fault.Closed away leaves = leaves
-untouched change old new fault.Exists away leaves = leaves
-untouched change old new fault.Absent away leaves = leaves
-untouched change old new fault.Full away leaves = leaves
-untouched change old new fault.OutOfMemory away leaves = leaves
-untouched change old new fault.Damaged away leaves = leaves
-untouched change old new fault.NotALibrary away leaves = leaves
-
 -- a change with this answer is accepted
 not_done : (b : Bool) → (if b then reply.Exists else reply.Absent) ≡ reply.Done → ⊥
 not_done true is = cc
@@ -113,6 +99,27 @@ not_done false is = cc
 pub done_is_ok : (r : Result Units ℕ) → reply_of_change r ≡ reply.Done → IsOk r
 done_is_ok (Ok made) is = refl
 done_is_ok (Err number) is = absurd (not_done (number == 31) is)
+
+-- the map's refusal says the answer
+pub answers_done : (r : Result Units ℕ) → refusal r ≡ None → reply.Done ≡ reply_of_change r
+answers_done (Ok made) is = refl
+answers_done (Err number) is = absurd (cc)
+
+pub answers_refused : (r : Result Units ℕ) (number : ℕ) → refusal r ≡ Some number → reply_of_change r ≡ (if number == 31 then reply.Exists else reply.Absent)
+answers_refused (Ok made) number is = absurd (cc)
+answers_refused (Err other) number is = let same : other ≡ number = cc in ap (λ (n : ℕ). if n == 31 then reply.Exists else reply.Absent) same
+
+-- a library that is not closed, and whose map accepts the change, has no other fault
+pub no_other : {Disk : Type 0} (old : View Disk) (change : made.LibraryCommand) (before behind : ℕ) (f : LibraryFault) → old.closed ≡ false → IsOk (apply old.units change)
+    → answers.ChangeAnswers {T = Unit {0}} old change before behind (Err f) → f ≢ fault.DiskFault → f ≢ fault.Full → f ≢ fault.OutOfMemory → ⊥
+no_other old change before behind fault.DiskFault idle ok is disk full memory = disk refl
+no_other old change before behind fault.Full idle ok is disk full memory = full refl
+no_other old change before behind fault.OutOfMemory idle ok is disk full memory = memory refl
+no_other old change before behind fault.Closed idle ok is disk full memory = let both : true ≡ false = sym is.0 ∙ idle in cc
+no_other old change before behind fault.Exists idle ok is disk full memory = let not : IsOk {A = Units} {E = ℕ} (Err exists) = subst (λ (r : Result Units ℕ). IsOk r) is.1 ok in cc
+no_other old change before behind fault.Absent idle ok is disk full memory = let not : IsOk {A = Units} {E = ℕ} (Err absent) = subst (λ (r : Result Units ℕ). IsOk r) is.1 ok in cc
+no_other old change before behind fault.Damaged idle ok is disk full memory = is
+no_other old change before behind fault.NotALibrary idle ok is disk full memory = is
 
 -- ---- an exit with an entry
 
@@ -144,21 +151,16 @@ receipt_is receipt number entry is = (ap (λ (r : Receipt). r.number) is, ap (λ
 
 -- ---- an exit after the device has failed
 
-change_agrees : (command : Command) → HasAgreed command → AgreedChange (change_of command)
-change_agrees (commands.Add name unit) agrees = agrees
-change_agrees (commands.Replace name unit) agrees = agrees
-change_agrees (commands.Withdraw name) agrees = tt
-
-only_agreed : (c : made.LibraryCommand) → AgreedChange c → AllAgreed (c ∷ [])
-only_agreed c agrees zero d at = let same : c ≡ d = cc in subst AgreedChange same agrees
+only_agreed : (c : made.LibraryCommand) → HasAgreed c → AllAgreed (c ∷ [])
+only_agreed c agrees zero d at = let same : c ≡ d = cc in subst HasAgreed same agrees
 only_agreed c agrees (suc k) d at = absurd (cc)
 
 -- the type keeps what it keeps
 pub keeps_failed : {Disk : Type 0} (D : Ghosts Disk) (named : Units) (total : ℕ) (before : BookView Disk) (new_library : View Disk) (history : List Entry) (failed : List made.LibraryCommand) (command : Command) (change : made.LibraryCommand)
     → IsRecordedLibrary D named total before → HasAgreed command → history ≡ before.history → failed ≡ before.failed ++ change ∷ [] → before.library.closed ≡ false
-    → new_library ≡ record before.library { disk = new_library.disk; closed = true } → change ≡ change_of command
+    → new_library ≡ record before.library { disk = new_library.disk; closed = true } → change ≡ command
     → (IsTrue D.honest → (image : List ℕ) → D.may_leave new_library.disk image → RecoversOneOf before.library.units (after before.library.units change) image)
-    → (failed ≡ change_of command ∷ []) × IsRecordedLibrary D named total (record before { library = new_library; history = history; failed = failed })
+    → (failed ≡ command ∷ []) × IsRecordedLibrary D named total (record before { library = new_library; history = history; failed = failed })
 keeps_failed D named total before new_library history failed command change book agrees history_is failed_is idle library_is change_is images =
     let none = book.idle idle in
     let one : failed ≡ change ∷ [] = failed_is ∙ ap (λ (l : List made.LibraryCommand). l ++ change ∷ []) none in
@@ -168,7 +170,7 @@ keeps_failed D named total before new_library history failed command change book
       record {
         replays = subst (λ (c : Chronicle). Replays c) (λ i. record { base = before.base; units = sym units i; history = sym history_is i }) book.replays;
         agreed = subst HaveAgreed (sym history_is) book.agreed;
-        agreed_failed = subst (λ (l : List made.LibraryCommand). AllAgreed l) (sym one) (only_agreed change (subst (λ (c : made.LibraryCommand). AgreedChange c) (sym change_is) (change_agrees command agrees)));
+        agreed_failed = subst (λ (l : List made.LibraryCommand). AllAgreed l) (sym one) (only_agreed change (subst (λ (c : made.LibraryCommand). HasAgreed c) (sym change_is) agrees));
         counted = book.counted ∙ ap length (sym history_is);
         base = book.base;
         idle = λ not. absurd (cc (shut, not));

@@ -19,7 +19,7 @@ ghost use Rattle.cc_service.specs.Stored.{IsStored};
 ghost use Rattle.cc_recorded.specs.Answers.{IsLook};
 ghost use Rattle.cc_service.specs.Updating.{UpdateAnswers};
 ghost use Rattle.cc_service.specs.internal.Under.{IsSeen, MakesAnswers, UpdatesBy};
-ghost use Rattle.cc_history.specs.declared.command.Command.TheVariants as commands;
+ghost use Rattle.cc_library.specs.declared.command.Change.TheVariants as commands;
 ghost use Rattle.cc_recorded.specs.declared.fault.BookFault.{BookFault};
 ghost use Rattle.cc_service.specs.declared.fault.ServiceFault.TheVariants as service;
 
