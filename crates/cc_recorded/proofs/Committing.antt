@@ -1,13 +1,10 @@
 -- What each exit of a commit owes, in terms of what contracts see of a book: that its type keeps what it keeps, and the answer.
-use Rattle.std.proofs.Common.{◌≡◌, ◌≢◌, ℕ, zero, suc, ◌+◌, inl, inr, Bool, true, false, IsTrue, List, [], ◌∷◌, ◌++◌, length, Some, None, Result, Ok, Err, refl, sym, ap, ◌∙◌, subst, arith, length-append}
+use Rattle.std.proofs.Common.{◌≡◌, ℕ, zero, suc, ◌+◌, inl, inr, Bool, true, false, IsTrue, List, [], ◌∷◌, ◌++◌, length, Result, Ok, Err, refl, sym, ap, ◌∙◌, subst, arith, length-append}
 use Rattle.std.specs.Prelude.{◌==◌, IsOk, if◌then◌else◌}
 use Rattle.cc_disk.specs.declared.disk.Disk.{Ghosts}
 use Rattle.cc_disk.specs.Images.{LeavesOnly}
 use Rattle.cc_library.specs.Change as made
-use Rattle.cc_library.specs.declared.fault.LibraryFault.{LibraryFault}
-use Rattle.cc_library.specs.declared.fault.LibraryFault.TheVariants as fault
-use Rattle.cc_library.specs.Apply.{Units, after, after_all, apply, exists, absent, refusal}
-use Rattle.cc_library.specs.Answers as answers
+use Rattle.cc_library.specs.Apply.{Units, after, after_all}
 use Rattle.cc_library.specs.Recovered.{View, RecoversAlone, RecoversOneOf}
 use Rattle.cc_history.specs.declared.command.Asked.{Asked}
 use Rattle.cc_history.specs.declared.command.Asked.TheVariants.{Change, Fetch, Names}
@@ -99,27 +96,6 @@ not_done false is = cc
 pub done_is_ok : (r : Result Units ℕ) → reply_of_change r ≡ reply.Done → IsOk r
 done_is_ok (Ok made) is = refl
 done_is_ok (Err number) is = absurd (not_done (number == 31) is)
-
--- the map's refusal says the answer
-pub answers_done : (r : Result Units ℕ) → refusal r ≡ None → reply.Done ≡ reply_of_change r
-answers_done (Ok made) is = refl
-answers_done (Err number) is = absurd (cc)
-
-pub answers_refused : (r : Result Units ℕ) (number : ℕ) → refusal r ≡ Some number → reply_of_change r ≡ (if number == 31 then reply.Exists else reply.Absent)
-answers_refused (Ok made) number is = absurd (cc)
-answers_refused (Err other) number is = let same : other ≡ number = cc in ap (λ (n : ℕ). if n == 31 then reply.Exists else reply.Absent) same
-
--- a library that is not closed, and whose map accepts the change, has no other fault
-pub no_other : {Disk : Type 0} (old : View Disk) (change : made.LibraryCommand) (before behind : ℕ) (f : LibraryFault) → old.closed ≡ false → IsOk (apply old.units change)
-    → answers.ChangeAnswers {T = Unit {0}} old change before behind (Err f) → f ≢ fault.DiskFault → f ≢ fault.Full → f ≢ fault.OutOfMemory → ⊥
-no_other old change before behind fault.DiskFault idle ok is disk full memory = disk refl
-no_other old change before behind fault.Full idle ok is disk full memory = full refl
-no_other old change before behind fault.OutOfMemory idle ok is disk full memory = memory refl
-no_other old change before behind fault.Closed idle ok is disk full memory = let both : true ≡ false = sym is.0 ∙ idle in cc
-no_other old change before behind fault.Exists idle ok is disk full memory = let not : IsOk {A = Units} {E = ℕ} (Err exists) = subst (λ (r : Result Units ℕ). IsOk r) is.1 ok in cc
-no_other old change before behind fault.Absent idle ok is disk full memory = let not : IsOk {A = Units} {E = ℕ} (Err absent) = subst (λ (r : Result Units ℕ). IsOk r) is.1 ok in cc
-no_other old change before behind fault.Damaged idle ok is disk full memory = is
-no_other old change before behind fault.NotALibrary idle ok is disk full memory = is
 
 -- ---- an exit with an entry
 

@@ -259,10 +259,7 @@ impl<N: Based, D: Disk> RecordedLibrary<N, D> {
         Ok(self.library.space())
     }
 
-    /// Writes the library's records anew, one Add per name. It makes no entry in the history, and the map stays, at every moment.
-    ///
-    /// Refusals, in this order: 36 where the device has failed before, 34 where the new records do not fit, 35 where the device
-    /// failed. 40 where memory ran out, before the first device call. After 34, 36 and 40 all is as before.
+    /// Writes the library's records again: `Book::compact` has the refusals.
     pub fn compact(&mut self, alloc: Global) -> Result<(), BookFault>
         ensures compacted { IsBookCompacted D.Disk self.old self.new result }
     {
@@ -307,8 +304,8 @@ fn looked<D: Disk>(alloc: Global, library: &Library<D>, asked: &Asked) -> Result
     ensures { IfOk result (λ reply. reply ≡ reply_of library.now.units asked.now) }
 {
     match asked {
-        // Unreachable: a change is not a look-up.
-        Asked::Change(_) => Err(AllocError),
+        // A change is not a look-up.
+        Asked::Change(_) => unreachable!(),
         Asked::Fetch(name) => match library.get(name) {
             Some(unit) => Ok(Reply::Unit(SharedUnit::new(Arc::try_clone(unit)?))),
             None => Ok(Reply::Absent),

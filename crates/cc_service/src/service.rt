@@ -329,32 +329,18 @@ impl<N: Named + Send + Sync + 'static, D: Disk> Service<N, D> {
             drop(prepared);
             return Err(ServiceFault::BadName);
         };
-        // It counts as a client that waits for the unit.
+        // Until then it counts as a client that waits for the unit.
         self.putting.fetch_add(1, Ordering::SeqCst);
-        let answer = self.put_unit(rt, alloc, client, put, name, prepared);
-        self.putting.fetch_sub(1, Ordering::SeqCst);
-        answer
-    }
-
-    // Puts the unit of a prepared text in the library.
-    fn put_unit<R: Wait>(
-        &self,
-        rt: &R,
-        alloc: Global,
-        client: &mut Client<N>,
-        put: Put,
-        name: Name,
-        prepared: Prepared<N>,
-    ) -> Result<Receipt, ServiceFault>
-        requires named { IsTrue (is_name name) }
-        ensures answers { PutAnswers prepared.mode (Puts put prepared.mode name prepared.text) name prepared.text client.old.member client.new.member result }
-        ensures stored { IfOk result (λ receipt. IsStored D.Disk N.base N.from N.left receipt) }
-        ensures past_text { IfErr result (λ fault. IsPastText fault) }
-        ensures sent { client.new.sent ≡ client.old.sent }
-    {
         match prepared.unit(rt, alloc, &self.pool) {
-            Ok(unit) => self.change(rt, alloc, client, change_of(put, name, unit)),
-            Err(fault) => Err(fault),
+            Ok(unit) => {
+                let answer = self.change(rt, alloc, client, change_of(put, name, unit));
+                self.putting.fetch_sub(1, Ordering::SeqCst);
+                answer
+            }
+            Err(fault) => {
+                self.putting.fetch_sub(1, Ordering::SeqCst);
+                Err(fault)
+            }
         }
     }
 
