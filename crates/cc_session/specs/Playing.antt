@@ -323,8 +323,8 @@ IsEnding most BadLine = ⊥
 IsEnding most Stopped = IsBounded most
 IsEnding most fault = Unit {0}
 
--- How far a script was done that such a fault ended. Its reader and its writer alone know that it could not be read, 53, or that
--- an answer could not be written, 54. Whoever is asked whether it is to end alone knows that it is, 61.
+-- How far a script was done that such a fault ended. Only its reader knows that it could not be read, 53, and only its writer
+-- that an answer could not be written, 54. Only whoever is asked whether it is to end knows that it is, 61.
 abbrev pub IsStoppedBy : Mode → Dialect → (most : Option ℕ) → ScriptFault → (script : List ℕ) (first last : Talk) → Type 0
 IsStoppedBy mode dialect most BadLine script first last = ⊥
 IsStoppedBy mode dialect most EndOfScript script first last = IsPlayedUpTo mode dialect most script (IsCutIn dialect most first.client) first last
