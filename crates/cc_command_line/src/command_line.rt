@@ -169,7 +169,7 @@ fn checked_option<'a>(alloc: Global, about: &'static str) -> Arg<'a> {
 pub(crate) fn checked_word<'a>(alloc: Global) -> Arg<'a> {
     checked_option(
         alloc,
-        "The image stops in place where the program goes wrong by an index, a division or a shift",
+        "The image stops in place if the program goes wrong by an index, a division or a shift",
     )
 }
 
@@ -177,7 +177,7 @@ pub(crate) fn checked_word<'a>(alloc: Global) -> Arg<'a> {
 pub(crate) fn checked_session<'a>(alloc: Global) -> Arg<'a> {
     checked_option(
         alloc,
-        "Compile checked images, which stop in place where the program goes wrong, and let `audit` confirm no others",
+        "Compile checked images, which stop in place if the program goes wrong, and let `audit` confirm no others",
     )
 }
 
@@ -226,7 +226,7 @@ fn asm_command<'a>(alloc: Global) -> Result<Command<'a>, AllocError> {
 
 fn stages_command<'a>(alloc: Global) -> Result<Command<'a>, AllocError> {
     let function = Arg::new(alloc, FUNCTION).help(
-        "The function that is shown: all of them where none is given",
+        "The function that is shown: all, if none is given",
     );
     let begun = Command::new(alloc, "stages")
         .about("Show what the compiler makes of each function, stage by stage")
@@ -261,7 +261,7 @@ fn command<'a>(alloc: Global) -> Result<Command<'a>, AllocError> {
         .long(QUIET)
         .action(ArgAction::SetTrue)
         .global(true)
-        .help("Explain no fault on standard error");
+        .help("Write no explanations to standard error");
     let whole = Command::new(alloc, "cclib")
         .version("0.1.0")
         .about(

@@ -10,7 +10,7 @@ const FILES: &str = "FILE";
 
 pub(crate) const BOTH_RULE: &str = "files are given as words or by --file, and not by both";
 
-pub(crate) const EMPTY_RULE: &str = "a path of no letters names no file";
+pub(crate) const EMPTY_RULE: &str = "an empty path names no file";
 
 pub(crate) const NO_FILE_RULE: &str =
     "--file goes with what reads a program: not with DISK and NAME, nor with a line of a script but `add`, `replace` and `update`";

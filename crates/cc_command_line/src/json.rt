@@ -9,7 +9,7 @@ use std::alloc::{AllocError, Global};
 pub(crate) const JSON: &str = "json";
 
 pub(crate) const JSON_RULE: &str =
-    "--json goes with check, interpret, run, size, safe, call, diff, log, library, and submit but for its lines `image` and `source`";
+    "--json goes with check, interpret, run, size, safe, call, diff, log, library, and submit except its lines `image` and `source`";
 
 /// The command with the option.
 pub(crate) fn with_json<'a>(alloc: Global, whole: Command<'a>) -> Result<Command<'a>, AllocError> {

@@ -177,7 +177,7 @@ pub(crate) fn call_command<'a>(alloc: Global) -> Result<Command<'a>, AllocError>
 /// The command `diff` with its words.
 pub(crate) fn diff_command<'a>(alloc: Global) -> Result<Command<'a>, AllocError> {
     Command::new(alloc, "diff")
-        .about("Say where two libraries differ")
+        .about("Show how two libraries differ")
         .after_help(DIFF_HELP)
         .arg(word(alloc, "LEFT", "The file that has the one library"))?
         .arg(word(alloc, "RIGHT", "The file that has the other"))
@@ -214,7 +214,7 @@ pub(crate) fn copy_command<'a>(alloc: Global) -> Result<Command<'a>, AllocError>
     let confirmed = flag(alloc, CONFIRMED, "Leave out what an audit does not confirm");
     let names = Arg::new(alloc, "NAME")
         .num_args(0..)
-        .help("The names of the units: all of them where none is given");
+        .help("The names of the units: all, if none is given");
     let begun = Command::new(alloc, "copy")
         .about("Copy the units of a library into a new one, or some of them")
         .after_help(COPY_HELP)

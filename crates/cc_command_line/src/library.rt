@@ -30,7 +30,7 @@ const STRICT: &str = "strict";
 
 pub(crate) const WORKERS_RULE: &str = "N is a decimal number from 1 to 8";
 
-pub(crate) const PATH_RULE: &str = "a path of no letters names no file and no folder";
+pub(crate) const PATH_RULE: &str = "an empty path names no file and no folder";
 
 // ORDER ScriptCommand
 // What a person reads below the options of the command.

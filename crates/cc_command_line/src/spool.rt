@@ -152,7 +152,7 @@ pub(crate) fn serve_command<'a>(alloc: Global) -> Result<Command<'a>, AllocError
         alloc,
         FORMAT,
         "AREA",
-        "Make the file where it is not there, with room for AREA bytes of records: 64 to 1073741824",
+        "Make the file if it is not there, with room for AREA bytes of records: 64 to 1073741824",
     );
     let clients = option(
         alloc,
@@ -180,7 +180,7 @@ pub(crate) fn serve_command<'a>(alloc: Global) -> Result<Command<'a>, AllocError
     );
     let begun = Command::new(alloc, "serve")
         .about(
-            "Do the scripts that others leave in a folder, many at a time, over a library in a file",
+            "Serve the scripts that others leave in a folder, many at a time, over a library in a file",
         )
         .after_help(SERVE_HELP)
         .arg(disk)?
@@ -203,7 +203,7 @@ pub(crate) fn submit_command<'a>(alloc: Global) -> Result<Command<'a>, AllocErro
         alloc,
         WAIT,
         "SECONDS",
-        "Take the script back where no server began it in so many seconds: 1 to 86400",
+        "Take the script back if no server begins it in so many seconds: 1 to 86400",
     );
     let words = Arg::new(alloc, COMMAND)
         .num_args(0..)

@@ -104,7 +104,9 @@ fn with_unit_at<'a>(
 /// The command `size` with its words.
 pub(crate) fn size_command<'a>(alloc: Global) -> Result<Command<'a>, AllocError> {
     let begun = Command::new(alloc, "size")
-        .about("Say how much an image takes: its code, its globals, and a stack that is enough")
+        .about(
+            "Show how much memory an image takes: its code, its globals, and a stack that is enough",
+        )
         .after_help(SIZE_HELP)
         .arg(checked_word(alloc))?;
     let begun = with_unit(alloc, begun, false)?;

@@ -241,7 +241,7 @@ impl<'a> Search<'a> {
                 return Ok(());
             }
         }
-        let message = words(alloc, "further errors are not told: correct these first")?;
+        let message = words(alloc, "further errors are not shown: correct these first")?;
         let (at, related) = (None, None);
         self.told.push(Diagnostic {
             at,

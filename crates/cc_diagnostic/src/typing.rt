@@ -411,7 +411,7 @@ fn message_of(alloc: Global, view: &View<'_>, fault: &TypeFault) -> Result<Strin
         TypeFault::WrongCount(_) => wrong_count(alloc, view),
         TypeFault::VoidValue(_) => view.with(alloc, " is void: its call has no value to use"),
         TypeFault::BadReturn(_) => bad_return(alloc, view),
-        TypeFault::BadBreak(_) => view.with(alloc, " stands outside a loop"),
+        TypeFault::BadBreak(_) => view.with(alloc, " is outside a loop"),
         TypeFault::NoMain(_) => no_main(alloc, view),
         TypeFault::Undefined(_) => undefined(alloc, view),
         TypeFault::TooMany(_) => too_many(alloc, view),

@@ -14,11 +14,11 @@ use std::path::Path;
 
 /// What is told where there is no disk on the file for 35.
 const NO_FILE: &str =
-    "cclib: the file could not be opened, or another process has it open; where it is not there yet, `--format AREA` makes it\n";
+    "cclib: the file could not be opened, or another process has it open; if it is not there yet, `--format AREA` makes it\n";
 
 /// The same for a block device that is in use.
 const IN_USE: &str =
-    "cclib: the device is mounted or swapped on, or another device stands on it: lsblk, findmnt and swapon --show tell which\n";
+    "cclib: the device is mounted or swapped on, or another device is built on it: lsblk, findmnt and swapon --show say which\n";
 
 /// The same for one that is too small.
 const SMALL: &str = "cclib: the device has fewer than 16 + 2 * AREA bytes\n";

@@ -101,7 +101,7 @@ fn tell_recovered<E: Write>(begun: u64, kept: usize, stuck: u64, told: &mut E) -
         let names = word(stuck, "name", "names");
         writeln!(
             told,
-            "cclib: cur has {stuck} {names} that can't be taken away, as that of a directory that is not empty: nobody else can use these for scripts"
+            "cclib: cur has {stuck} {names} that can't be removed, as that of a directory that is not empty: scripts can't have these names"
         )?;
     }
     told.flush()
@@ -112,7 +112,7 @@ fn tell_crowded<E: Write>(folder: &str, waiting: usize, told: &mut E) -> io::Res
     if waiting > MOST_ENTRIES {
         writeln!(
             told,
-            "cclib: {folder}/new has more than {MOST_ENTRIES} entries: what stands behind these is not seen before some are gone"
+            "cclib: {folder}/new has more than {MOST_ENTRIES} entries: those after these are not seen until some are gone"
         )?;
     }
     told.flush()
@@ -217,10 +217,7 @@ fn tell_ready<E: Write>(folder: &str, clients: usize, told: &mut E) -> io::Resul
 
 // Tells that what nobody fetched was not taken away.
 fn tell_uncleared<E: Write>(folder: &str, why: &io::Error, told: &mut E) -> io::Result<()> {
-    writeln!(
-        told,
-        "cclib: what is old in {folder} is not taken away: {why}"
-    )?;
+    writeln!(told, "cclib: old files in {folder} are not removed: {why}")?;
     told.flush()
 }
 

@@ -295,7 +295,7 @@ fn explain<R: AllocGlobal, E: Write>(
     if number == SpoolFault::Interrupted.number() {
         writeln!(
             told,
-            "cclib: the server ended while it did the script; `list` tells whether the last command was done"
+            "cclib: the server ended while it did the script; `list` shows whether the last command was done"
         )?;
         return told.flush();
     }

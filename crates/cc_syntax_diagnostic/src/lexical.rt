@@ -133,7 +133,7 @@ fn reason(number: &[u8]) -> &'static str {
     } else if has(number, b"lL") {
         "there is no suffix l or L in this C; int and unsigned have 32 bits"
     } else if is_hexadecimal || !number.starts_with(b"0") {
-        "it has decimal digits, or hexadecimal ones behind 0x, and then u or nothing"
+        "one has decimal digits, or hexadecimal ones after 0x, and then u or nothing"
     } else if has(number, b"8") {
         "8 is no octal digit, and a number that begins with 0 is octal"
     } else {

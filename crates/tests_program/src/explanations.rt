@@ -21,7 +21,7 @@ static CHECKED: [(&str, &str, &str); 6] = [
     (
         "int main(void){\n totl=1;\n while(1){sums=2;continue;}\n break;\n}",
         "fault 11 Unknown at 2:2\n",
-        "-:2:2: 'totl' is not declared\n    2 |  totl=1;\n      |  ^\n-:3:11: 'sums' is not declared\n    3 |  while(1){sums=2;continue;}\n      |           ^\n-:4:2: 'break' stands outside a loop\n    4 |  break;\n      |  ^\n",
+        "-:2:2: 'totl' is not declared\n    2 |  totl=1;\n      |  ^\n-:3:11: 'sums' is not declared\n    3 |  while(1){sums=2;continue;}\n      |           ^\n-:4:2: 'break' is outside a loop\n    4 |  break;\n      |  ^\n",
     ),
     (
         "int main(void){return 1 2;}",

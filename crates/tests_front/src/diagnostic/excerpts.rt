@@ -49,7 +49,7 @@ static LINES: [Line; 9] = [
     ),
     (
         b"int \xc3\xa9;",
-        "-:1:5: U+00E9 begins no token: names have letters, digits and _ alone in this C, and outside comments there is no other\n    1 | int \u{e9};\n      |     ^\n",
+        "-:1:5: U+00E9 begins no token: names have only letters, digits and _ in this C, and outside comments there is no other\n    1 | int \u{e9};\n      |     ^\n",
     ),
 ];
 

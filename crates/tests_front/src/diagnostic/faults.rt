@@ -93,7 +93,7 @@ static SPELLING: [Row; 18] = [
     ),
     (
         "int x=0xe+1;",
-        "-:1:7: '0xe+1' is no decimal, octal or hexadecimal constant: it has decimal digits, or hexadecimal ones behind 0x, and then u or nothing
+        "-:1:7: '0xe+1' is no decimal, octal or hexadecimal constant: one has decimal digits, or hexadecimal ones after 0x, and then u or nothing
     1 | int x=0xe+1;
       |       ^
 ",
@@ -282,7 +282,7 @@ static GRAMMAR: [Row; 37] = [
     ),
     (
         "int main(void){else;}",
-        "-:1:16: unexpected 'else': it stands without an 'if', whose statement would have to end directly before it
+        "-:1:16: unexpected 'else': it has no 'if', whose statement would have to end directly before it
     1 | int main(void){else;}
       |                ^
 ",
@@ -793,14 +793,14 @@ static OTHERS: [Row; 16] = [
     ),
     (
         "int main(void){break;}",
-        "-:1:16: 'break' stands outside a loop
+        "-:1:16: 'break' is outside a loop
     1 | int main(void){break;}
       |                ^
 ",
     ),
     (
         "int main(void){while(0);continue;}",
-        "-:1:25: 'continue' stands outside a loop
+        "-:1:25: 'continue' is outside a loop
     1 | int main(void){while(0);continue;}
       |                         ^
 ",

@@ -297,7 +297,7 @@ static FIRST_HOUR_3: [Row; 26] = [
     (
         "int main(void) {\n  break;\n  return 0;\n}\n",
         "2:3",
-        "'break' stands outside a loop",
+        "'break' is outside a loop",
     ),
     (
         "int a[3];\nint main(void) {\n  a = 1;\n  return a[0];\n}\n",
