@@ -25,8 +25,9 @@ mod pair;
 mod statements;
 mod taken;
 
+pub use boxes::{both, boxed_expression, boxed_statement, constant, local};
 pub use code::{Expression, Statement};
-pub use fault::CminorFault;
+pub use fault::CodeFault;
 pub use lower::to_cminor;
 pub use numbers::variables_above;
 pub use pair::CminorPair;

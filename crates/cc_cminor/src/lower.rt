@@ -16,7 +16,6 @@ ghost use Rattle.cc_cminor.specs.Size.{AtMostTwelveAToken, AtMostOnePartialAToke
 ghost use Rattle.cc_cminor.specs.internal.Lowered.{IsLowered};
 
 use super::code::Statement;
-use super::fault::CminorFault;
 use super::pair::CminorPair;
 use super::statements::body;
 use cc_c_semantics::{
@@ -66,12 +65,12 @@ fn paired(unit: Arc<TypedUnit>, function: usize, code: Box<Statement>) -> Cminor
 /// than depth, the code reaches something that it cannot do, with the same output (`fails_alike`, `goes_wrong`): nothing that may
 /// go wrong is left out.
 ///
-/// Fails only with `CminorFault::OutOfMemory` (40), if memory runs out.
+/// `AllocError` if memory runs out.
 pub fn to_cminor(
     alloc: Global,
     unit: &Arc<TypedUnit>,
     function: usize,
-) -> Result<CminorPair, CminorFault>
+) -> Result<CminorPair, AllocError>
     requires { function < length (defined_names (source (arc_value unit.now))) }
     ensures mode { IfOk result (λ p. p.mode ≡ Plain) }
     ensures unit { IfOk result (λ p. p.unit ≡ arc_value unit.now) }
@@ -86,7 +85,7 @@ pub fn to_cminor(
     let code = lowered(alloc, unit, function)?;
     let Ok(unit) = Arc::try_clone(unit) else {
         drop(code);
-        return Err(CminorFault::OutOfMemory);
+        return Err(AllocError);
     };
     Ok(paired(unit, function, code))
 }

@@ -142,17 +142,6 @@ enum NotCounted {
     OutOfMemory,
 }
 
-impl From<AllocError> for NotCounted {
-    ghost use Rattle.std.specs.Prelude.{◌≡◌};
-    ghost use Rattle.cc_cover.specs.declared.cover.NotCounted.TheVariants.{OutOfMemory};
-
-    ghost from_gives = { λ _ fault. fault ≡ OutOfMemory };
-
-    fn from(_error: AllocError) -> Self {
-        NotCounted::OutOfMemory
-    }
-}
-
 // Counts a run that the interpreter answers to come out so.
 fn count_outcome(
     alloc: Global,
@@ -232,7 +221,13 @@ fn count_runs<S: Write>(
     seen: &mut S,
 ) -> Result<(Counts, Ends), NotCounted> {
     let program = traced.program();
-    let mut counts = Counts::new(alloc, program.code.len(), program.functions.len())?;
+    let mut counts = match Counts::new(alloc, program.code.len(), program.functions.len()) {
+        Ok(counts) => counts,
+        Err(_) => {
+            drop(inputs);
+            return Err(NotCounted::OutOfMemory);
+        }
+    };
     let mut ends = Ends {
         ended: 0,
         going: 0,
@@ -292,9 +287,16 @@ fn cover_unit<S: Write, W: Write>(
     seen: &mut S,
     writer: &mut W,
 ) -> Result<io::Result<()>, NotCounted> {
-    let Some(traced) = traced_unit(alloc, unit)? else {
-        drop(inputs);
-        return Err(NotCounted::Other);
+    let traced = match traced_unit(alloc, unit) {
+        Ok(Some(traced)) => traced,
+        Ok(None) => {
+            drop(inputs);
+            return Err(NotCounted::Other);
+        }
+        Err(_) => {
+            drop(inputs);
+            return Err(NotCounted::OutOfMemory);
+        }
     };
     let (counts, ends) = count_runs(alloc, unit, &traced, text, steps, inputs, seen)?;
     Ok(write_counts(alloc, &traced, text, texts, &counts, ends, is_one, writer))

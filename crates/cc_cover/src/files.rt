@@ -31,17 +31,6 @@ enum NoInputs {
     OutOfMemory,
 }
 
-impl From<AllocError> for NoInputs {
-    ghost use Rattle.std.specs.Prelude.{◌≡◌};
-    ghost use Rattle.cc_cover.specs.declared.files.NoInputs.TheVariants.{OutOfMemory};
-
-    ghost from_gives = { λ _ fault. fault ≡ OutOfMemory };
-
-    fn from(_error: AllocError) -> Self {
-        NoInputs::OutOfMemory
-    }
-}
-
 // The bytes of a reader, up to one more than a file of inputs may have.
 fn read_lines<R: Read>(alloc: Global, reader: &mut R) -> Result<Vec<u8>, NoInputs> {
     let mut text = Vec::new(alloc);
@@ -55,7 +44,9 @@ fn read_lines<R: Read>(alloc: Global, reader: &mut R) -> Result<Vec<u8>, NoInput
         if count == 0 {
             break;
         }
-        text.extend_from_slice(&piece[..count])?;
+        if text.extend_from_slice(&piece[..count]).is_err() {
+            return Err(NoInputs::OutOfMemory);
+        }
     }
     Ok(text)
 }

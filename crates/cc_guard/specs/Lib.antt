@@ -6,8 +6,6 @@ pub mod Held
 pub mod Laws
 -- units in which no function needs a guard
 pub mod Safe
--- the numbers of the faults
-pub mod Fault
 -- definitions that only private contracts and proofs use
 pub mod internal
 -- worked examples

@@ -8,11 +8,11 @@ ghost use Rattle.cc_cminor.specs.Code.{expression_of, expressions_of};
 ghost use Rattle.cc_guard.specs.Guard.{asked, reads_left, waiting, waiting_if, indexed, guarded, guarded_all};
 ghost use Rattle.cc_guard.specs.internal.Written.{Adds, AddsAll, here, sizes_of};
 
-use crate::boxes::{binary, constant, load, local, unary};
+use crate::boxes::{binary, load, unary};
 use crate::guards::{Guards, add_asked, bounded, waiting};
 use crate::known::{always, is_below, most};
 use crate::sizes::{ObjectSize, elements_in};
-use cc_cminor::Expression;
+use cc_cminor::{Expression, constant, local};
 use cc_words::{Binary, Width};
 use std::alloc::{AllocError, Global};
 

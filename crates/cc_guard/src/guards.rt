@@ -9,9 +9,9 @@ ghost use Rattle.cc_guard.specs.Guard as guard;
 ghost use Rattle.cc_guard.specs.Guard.{Stop, StopBoth, guard_code, asked_signed, asked, learned, waiting, bounded, forever, with_loop};
 ghost use Rattle.cc_guard.specs.internal.Written.{Adds, AddsAll, here, Sees, some_of};
 
-use crate::boxes::{binary, boxed_statement, constant, copied, local, sequence, unary};
+use crate::boxes::{binary, copied, sequence, unary};
 use crate::known::Limit;
-use cc_cminor::{Expression, Statement};
+use cc_cminor::{Expression, Statement, both, boxed_statement, constant, local};
 use cc_words::{Binary, Unary};
 use std::alloc::{AllocError, Global};
 
@@ -287,18 +287,4 @@ pub fn with_loop(alloc: Global, code: Box<Statement>) -> Result<Box<Statement>, 
     let forever = boxed_statement(alloc, Statement::Loop(skip))?;
     let outer = both(alloc, inner, forever)?;
     boxed_statement(alloc, Statement::Block(outer))
-}
-
-// Two statements that run one after another.
-fn both(
-    alloc: Global,
-    first: Box<Statement>,
-    second: Box<Statement>,
-) -> Result<Box<Statement>, AllocError>
-    ensures { IfOk result (λ s. statement_of s.value ≡ cminor.Sequence (statement_of first.value) (statement_of second.value)) }
-{
-    let mut all = Vec::new(alloc);
-    all.push(Box::into_inner(first))?;
-    all.push(Box::into_inner(second))?;
-    sequence(alloc, all)
 }

@@ -10,9 +10,9 @@ ghost use Rattle.cc_cminor.specs.internal.Statements.{statements_of};
 ghost use Rattle.cc_cminor.specs.Numbers.{StatementFits};
 ghost use Rattle.cc_guard.specs.Held.{held_word, held_operand, held_test, held_in, with_words, IsHeld};
 
-use crate::boxes::{binary, boxed_statement, constant, copied, local, sequence};
+use crate::boxes::{binary, copied, sequence};
 use crate::wanted::wanted_words;
-use cc_cminor::{Expression, Statement, variables_above};
+use cc_cminor::{Expression, Statement, boxed_statement, constant, local, variables_above};
 use std::alloc::{AllocError, Global};
 
 /// The greatest number of variables that code may have.

@@ -12,7 +12,6 @@ mod boxes;
 mod changed;
 mod constants;
 mod expressions;
-mod fault;
 mod guards;
 mod heads;
 mod held;
@@ -23,6 +22,6 @@ mod sizes;
 mod statements;
 mod wanted;
 
-pub use fault::GuardFault;
+pub use cc_cminor::CodeFault as GuardFault;
 pub use laws::{guards_set_few, only_depth_is_left, unguarded_code_stays};
 pub use pass::{guard, needs_no_guard};

@@ -8,20 +8,19 @@ ghost use Rattle.cc_cminor.specs.Exits.{ExitsFit};
 ghost use Rattle.cc_cminor.specs.Numbers.{most_variables};
 ghost use Rattle.cc_cminor.specs.Pair.{tree_of, code_of, FailsAlike, GoesWrong};
 ghost use Rattle.cc_cminor.specs.Variables.{above_statement};
+ghost use Rattle.cc_cminor.specs.declared.fault.CodeFault.TheVariants.{FunctionTooLarge};
 ghost use Rattle.cc_guard.specs.Guard.{guarded_code, has_guards, guarded_function, variables_in};
 ghost use Rattle.cc_guard.specs.Held.{IsHeld};
 ghost use Rattle.cc_guard.specs.Safe.{NeedsNoGuard};
-ghost use Rattle.cc_guard.specs.declared.fault.GuardFault.TheVariants.{FunctionTooLarge};
 ghost use Rattle.cc_guard.specs.internal.Written.{Sees};
 
 use crate::constants::constants_fit;
-use crate::fault::GuardFault;
 use crate::guards::{Seen, with_loop};
 use crate::held::{MOST_VARIABLES, held};
 use crate::sizes::object_sizes;
 use crate::statements::{Done, statement};
 use cc_c_semantics::{Mode, calls_keep_objects};
-use cc_cminor::{CminorPair, Statement, variables_above};
+use cc_cminor::{CminorPair, CodeFault as GuardFault, Statement, variables_above};
 use cc_types::TypedUnit;
 use std::alloc::{AllocError, Global};
 

@@ -10,13 +10,13 @@ ghost use Rattle.cc_guard.specs.Guard.{known_after, code_after};
 ghost use Rattle.cc_guard.specs.internal.Written.{SeesStatement, sizes_of};
 
 use crate::after::{after, head, meet, within};
-use crate::boxes::{boxed_statement, sequence};
+use crate::boxes::sequence;
 use crate::changed::{kept, leaves};
 use crate::expressions::{expression, expressions, index};
 use crate::guards::{Seen, begun, finished, note};
 use crate::known::Limit;
 use crate::sizes::ObjectSize;
-use cc_cminor::{Expression, Statement};
+use cc_cminor::{Expression, Statement, boxed_statement};
 use cc_words::Width;
 use std::alloc::{AllocError, Global};
 

@@ -127,8 +127,11 @@ fn made_in(
     linked_units_follow();
     linked_units_are_backed();
     let _kept = unit.externals();
-    let made = stored(alloc, unit, bodies.as_slice(), ordered.as_slice());
-    Ok(made?)
+    let made = match stored(alloc, unit, bodies.as_slice(), ordered.as_slice()) {
+        Ok(made) => made,
+        Err(_) => return Err(LinkFault::OutOfMemory),
+    };
+    Ok(made)
 }
 
 /// Links the pieces of a unit in a mode, lent in any order: its source is the unit's text, its certificate has the LTL of each function, and on
@@ -212,16 +215,16 @@ pub(crate) fn link_all_in(
     ensures backed { IfOk result (λ unit'. IsBackedFrom mode unit'.source (stack_of (source (arc_value unit.now)).externals pieces.now) unit'.image) }
     ensures refused { IfErr result (λ fault. (fault ≡ OutOfMemory) ⊎ (linked_in mode (source (arc_value unit.now)) pieces.now ≡ Err fault)) }
 {
-    let lent = match lent(alloc, pieces) {
+    let lent = match lend(alloc, pieces) {
         Ok(lent) => lent,
         Err(_) => return Err(LinkFault::OutOfMemory),
     };
     link_in(alloc, mode, unit, lent.as_slice())
 }
 
-// References to pieces, in their order.
-fn lent(alloc: Global, pieces: &[Piece]) -> Result<Vec<&Piece>, AllocError>
-    ensures { IfOk result (λ lent. lent_pieces lent.items ≡ pieces.now) }
+/// References to pieces, in their order. `AllocError` if memory runs out.
+pub fn lend(alloc: Global, pieces: &[Piece]) -> Result<Vec<&Piece>, AllocError>
+    ensures { IfOk result (λ all. lent_pieces all.items ≡ pieces.now) }
 {
     let mut lent = Vec::with_capacity(alloc, pieces.len())?;
     for piece in pieces {

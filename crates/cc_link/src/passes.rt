@@ -5,10 +5,10 @@ ghost use Rattle.std.specs.Arc.{arc_value};
 ghost use Rattle.cc_ast.specs.Source.{source};
 ghost use Rattle.cc_types.specs.Typed.{defined_names};
 ghost use Rattle.cc_cminor.specs.Pair.{code_of};
+ghost use Rattle.cc_cminor.specs.declared.fault.CodeFault.TheVariants.{FunctionTooLarge, OutOfMemory};
 ghost use Rattle.cc_mode.specs.Long.{IsLongIn};
 ghost use Rattle.cc_rtl_language.specs.Rtl.{most_nodes};
 ghost use Rattle.cc_rtl.specs.Size.{function_nodes};
-ghost use Rattle.cc_rtl.specs.declared.fault.RtlFault.TheVariants.{FunctionTooLarge, OutOfMemory};
 
 use crate::watching::{Allocation, Allocator, Seen, Watch};
 use cc_c_semantics::Mode;

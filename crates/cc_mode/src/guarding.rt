@@ -8,12 +8,12 @@ ghost use Rattle.cc_cminor.specs.Pair.{tree_of, code_of, FailsAlike};
 ghost use Rattle.cc_cminor.specs.Size.{AtMostTwelveAToken, AtMostOnePartialAToken};
 ghost use Rattle.cc_rtl_language.specs.Rtl.{most_nodes};
 ghost use Rattle.cc_rtl.specs.Size.{function_nodes};
-ghost use Rattle.cc_rtl.specs.declared.fault.RtlFault.TheVariants.{FunctionTooLarge};
+ghost use Rattle.cc_cminor.specs.declared.fault.CodeFault.TheVariants.{FunctionTooLarge};
 ghost use Rattle.cc_mode.specs.Long.{IsLongIn};
 
 use cc_c_semantics::Mode;
 use cc_cminor::CminorPair;
-use cc_guard::{GuardFault, guard, guards_set_few};
+use cc_guard::{guard, guards_set_few};
 use cc_rtl::RtlFault;
 use std::alloc::Global;
 
@@ -42,8 +42,7 @@ fn checked(alloc: Global, pair: CminorPair) -> Result<CminorPair, RtlFault>
     guards_set_few();
     match guard(alloc, pair) {
         Ok(made) => Ok(made),
-        Err(GuardFault::FunctionTooLarge) => Err(RtlFault::FunctionTooLarge),
-        Err(GuardFault::OutOfMemory) => Err(RtlFault::OutOfMemory),
+        Err(fault) => Err(fault),
     }
 }
 

@@ -4,11 +4,10 @@
 //! that a function takes, and `generate` makes the nodes from the function's Cminor.
 #![tactic(auto)]
 
-mod fault;
 mod generate;
 mod size;
 mod translate;
 
+pub use cc_cminor::CodeFault as RtlFault;
 pub use cc_rtl_language::{Node, Rtl, RtlPair, rtl_is_a_layer};
-pub use fault::RtlFault;
 pub use translate::to_rtl;

@@ -15,7 +15,7 @@ use crate::size::{Sized, UnitSize};
 use crate::tables::{entry, frames, ones, sizes};
 use cc_emit::Piece;
 use cc_link::{
-    BuildFault, Compilation, LinkFault, Mode, compile_along_in, compile_whole_in, in_order,
+    BuildFault, Compilation, LinkFault, Mode, compile_along_in, compile_whole_in, in_order, lend,
 };
 use cc_resolve::lay_out;
 use cc_rv32::image::Image;
@@ -70,22 +70,11 @@ fn measured(
     })
 }
 
-// References to pieces, in their order.
-fn lent(alloc: Global, pieces: &[Piece]) -> Result<Vec<&Piece>, AllocError>
-    ensures { IfOk result (λ lent. lent_pieces lent.items ≡ pieces.now) }
-{
-    let mut lent = Vec::with_capacity(alloc, pieces.len())?;
-    for piece in pieces {
-        lent.push(piece)?;
-    }
-    Ok(lent)
-}
-
 // What a compiled text takes.
 fn size_of(alloc: Global, made: &Compilation) -> Result<UnitSize, AllocError>
     ensures { IfOk result (IsSize (source (arc_value made.now.typed)).externals made.now.pieces.items made.now.unit.image) }
 {
-    let lent = lent(alloc, made.pieces.as_slice())?;
+    let lent = lend(alloc, made.pieces.as_slice())?;
     measured(
         alloc,
         &made.typed,

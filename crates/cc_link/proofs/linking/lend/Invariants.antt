@@ -1,6 +1,6 @@
 use Rattle.std.proofs.Common.{◌≡◌, ◌++◌, drop}
 use Rattle.cc_link.specs.Linked.{lent_pieces}
-use Rattle.cc_link.proofs.linking.lent.Given as goal
+use Rattle.cc_link.proofs.linking.lend.Given as goal
 
 -- the references so far, and the pieces that are left
 abbrev pub invariant-loop-piece : goal.invariant-loop-piece
