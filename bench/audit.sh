@@ -54,6 +54,6 @@ python3 "$top/bench/hostile.py" audit
 
 for text in "$top"/bench/programs/*.c "$work/unit.c"; do add "$(basename "$text" .c)" "$text"; done > "$work/script"
 library "$work/disk" "$work/script" --format 1000000 > "$work/added"
-python3 "$top/bench/records.py" sizes "$work/disk" | awk '
+python3 "$top/tools/records.py" sizes "$work/disk" | awk '
     { printf "%s: %d bytes without a certificate, %d with, ratio %.2f\n", $1, $2, $3, $3 / $2; sum += log($3 / $2) }
     END { printf "geometric mean of the ratios: %.2f\n", exp(sum / NR) }'

@@ -15,7 +15,7 @@ session() { "$cclib" library "$1/disk" --quiet --workers 1 < "$work/$2"; }
 
 : > "$work/nothing"
 for ((n = 0; n < count; n++)); do echo compact; done > "$work/script"
-for folder in "$memory" "$work"; do python3 "$top/bench/records.py" make "$folder/disk" 1 8192 2048 > /dev/null; done
+for folder in "$memory" "$work"; do python3 "$top/tools/records.py" make "$folder/disk" 1 8192 2048 > /dev/null; done
 for _ in $(seq "${ROUNDS:-10}"); do
     for what in nothing script; do
         timed memory.$what session "$memory" $what

@@ -12,6 +12,7 @@ import resource
 import subprocess
 import sys
 
+sys.path.insert(0, os.path.join(os.path.dirname(os.path.abspath(__file__)), "../tests/outside"))
 import compare
 
 TOP = pathlib.Path(__file__).resolve().parent.parent

@@ -6,7 +6,7 @@
 # compiler is given too, its words of the programs of bench/programs, unoptimised, run on both:
 # bench/machine.sh './rv32sim -d' clang --target=riscv32, or with riscv64-unknown-elf-gcc
 # The two run in turn, and the best of ROUNDS runs (5) counts. Ours is `run` in a session over a library with a unit of these words, which
-# bench/records.py writes; its time is that without a run. The program has to be built (./cclib), or CCLIB names one that is.
+# tools/records.py writes; its time is that without a run. The program has to be built (./cclib), or CCLIB names one that is.
 set -eu
 # shellcheck source=bench/words.sh
 . "$(dirname "$0")/words.sh"
@@ -42,7 +42,7 @@ ours() { "$cclib" library "$work/disk" --quiet --workers 1 < "$work/$1"; }
 both() {
     rm -f "$work"/time.*
     peer=
-    python3 "$top/bench/records.py" image "$work/disk" "$1" "$2"
+    python3 "$top/tools/records.py" image "$work/disk" "$1" "$2"
     echo "run image $3" > "$work/run"
     for _ in $(seq "${ROUNDS:-5}"); do
         timed start ours nothing

@@ -3,7 +3,7 @@
 # 4 workers, beside what the machine itself gains when as many processes compile the same text at once, on one thread each.
 # Each is the mean of TIMES turns (10) without a start that does none, and the best of ROUNDS rounds (5) counts, in which all are done in turn.
 # The programs have to be built (./prove-below bench, ./cclib), or BENCH and CCLIB name some that are.
-# That no thread waits for ever where memory is refused, with one client and with more: bench/memory.sh session and server.
+# That no thread waits for ever where memory is refused, with one client and with more: tests/outside/memory.sh session and server.
 set -eu
 # shellcheck source=bench/words.sh
 . "$(dirname "$0")/words.sh"

@@ -17,8 +17,8 @@ session() { "$cclib" library "$work/$1" --quiet --workers 1 < "$work/$2"; }
 : > "$work/nothing"
 yes 'run u1000000 0' | head -n "$times" > "$work/runs"
 yes compact | head -n "$count" > "$work/commits"
-python3 "$top/bench/records.py" make "$work/large" 1 16384 1 > /dev/null
-python3 "$top/bench/records.py" make "$work/small" 1 0 1 > /dev/null
+python3 "$top/tools/records.py" make "$work/large" 1 16384 1 > /dev/null
+python3 "$top/tools/records.py" make "$work/small" 1 0 1 > /dev/null
 for _ in $(seq "${ROUNDS:-10}"); do
     timed large session large runs
     timed small session small runs

@@ -64,7 +64,7 @@ touch "$work/empty/stop"
 wait $!
 # How many bytes the unit has on the disk.
 put a 1 | "$cclib" library "$work/disk" --quiet > /dev/null
-unit=$(python3 "$top/bench/records.py" sizes "$work/disk" | awk '{ print $3 }')
+unit=$(python3 "$top/tools/records.py" sizes "$work/disk" | awk '{ print $3 }')
 
 for task in withdraw put; do
     theirs=put

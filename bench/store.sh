@@ -18,7 +18,7 @@ gcc -O2 -o "$work/plain" "$top/bench/commits.c"
 : > "$work/nothing"
 
 # make FILE COUNT SOURCE WORDS: a library of such units, in $work; prints how many bytes a body has
-make() { python3 "$top/bench/records.py" make "$work/$1" "$2" "$3" "$4"; }
+make() { python3 "$top/tools/records.py" make "$work/$1" "$2" "$3" "$4"; }
 session() { "$cclib" library "$work/ours" --quiet --workers 1 < "$work/$1"; }
 
 # commits NAME LENGTH: the script does them over $work/fresh, whose records have LENGTH bytes each

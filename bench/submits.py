@@ -27,6 +27,7 @@ import sys
 import threading
 import time
 
+sys.path.insert(0, os.path.join(os.path.dirname(os.path.abspath(__file__)), "../tests/outside"))
 import serve
 import session
 
@@ -198,7 +199,7 @@ def sqlite_rate(program, count, clients, length):
 def rates(count=480):
     work = serve.Place()
     program = f"{work.work}/sqlite"
-    subprocess.run(["gcc", "-O2", "-pthread", "-o", program, os.path.join(serve.HERE, "sqlite.c"), "-lsqlite3"], check=True)
+    subprocess.run(["gcc", "-O2", "-pthread", "-o", program, os.path.join(os.path.dirname(os.path.abspath(__file__)), "sqlite.c"), "-lsqlite3"], check=True)
     best = {}
     for _ in range(3):
         fed, length = library_rate(count)

@@ -64,7 +64,7 @@ def not_in_row(row):
         yield f"a clause of '{promise}'"
     for crate, modules in NAMED.findall(tests):
         yield from (f"{crate}: `{it}`" for it in QUOTED.findall(modules) if not (CRATES / crate / "src" / f"{it}.rt").is_file())
-    yield from (it for it in re.findall(r"`(bench/[\w.]+)`", tests) if not (TOP / it).is_file())
+    yield from (it for it in re.findall(r"`((?:bench|tests/outside|tools)/[\w.]+)`", tests) if not (TOP / it).is_file())
     for crate, names in NAMED.findall(edits):
         yield from (f"{crate}: `{it}`" for it in QUOTED.findall(names) if not (CRATES / crate / "must-fail" / f"{it}.edit").is_file())
 

@@ -92,10 +92,10 @@ def pages():
 
 
 def sources():
-    """Returns the files with comments, by the folder that has a budget: each crate, the scripts of bench and tools."""
+    """Returns the files with comments, by the folder that has a budget: each crate, the scripts of bench, tests/outside and tools."""
     crates = {f"crates/{it.name}": it for it in sorted((TOP / "crates").iterdir()) if it.is_dir()}
     found = {name: [file for room in ("src", "specs", "proofs") for end in ("rt", "antt") for file in sorted((it / room).rglob(f"*.{end}"))] for name, it in crates.items()}
-    for name in ("bench", "tools"):
+    for name in ("bench", "tests/outside", "tools"):
         found[name] = [file for end in ("py", "sh") for file in sorted((TOP / name).rglob(f"*.{end}"))]
     return found
 

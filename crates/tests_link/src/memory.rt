@@ -1,4 +1,4 @@
-// Compilations of which a growth is refused. `bench/memory.sh compile` refuses each allocation of this test in turn, so one in all.
+// Compilations of which a growth is refused. `tests/outside/memory.sh compile` refuses each allocation of this test in turn, so one in all.
 
 use cc_link::{CompiledUnit, compile};
 use std::alloc::Global;

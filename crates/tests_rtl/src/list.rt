@@ -120,7 +120,7 @@ fn inserts(list: &mut InstrList<u32>, item: u32) -> bool {
     }
 }
 
-// Any of these growths may be refused (`bench/memory.sh list` refuses each in turn).
+// Any of these growths may be refused (`tests/outside/memory.sh list` refuses each in turn).
 #[test]
 fn a_refused_growth_hands_the_item_back(rt: HostRuntime) {
     let mut list = InstrList::new(rt.alloc());

@@ -69,7 +69,7 @@ static LOOKS: [(&str, &str); 3] = [
     ),
 ];
 
-// The record of `int main(void){}` under a name of one letter takes 121 bytes, by bench/records.py; that of a withdrawal 9.
+// The record of `int main(void){}` under a name of one letter takes 121 bytes, by tools/records.py; that of a withdrawal 9.
 static SPACES: [(&str, &str); 3] = [
     (
         "space\nspace a\nspace \nSpace\nlist\n",

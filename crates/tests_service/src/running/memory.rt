@@ -1,4 +1,4 @@
-// An `add` of which a growth is refused, its text handed in first or not. `bench/memory.sh service` refuses each allocation of these tests in
+// An `add` of which a growth is refused, its text handed in first or not. `tests/outside/memory.sh service` refuses each allocation of these tests in
 // turn, so one in all.
 
 use super::ahead::put_number;
