@@ -3,7 +3,7 @@
 // All memory that this needs beside the clients' is taken before the service is opened, so that no client is lost once it works. The disk
 // and the spools are handed back, so a next service can go on with them.
 
-ghost use Rattle.std.specs.Prelude.{◌≡◌, ◌≤◌, ◌<◌, ℕ, All, List, [], IsTrue, IfOk, IfErr, OnOk, length, map, slice_index_or, vec_len};
+ghost use Rattle.std.specs.Prelude.{◌≡◌, ◌≤◌, ℕ, All, List, [], IsTrue, IfOk, IfErr, OnOk, map, vec_len};
 ghost use Rattle.std.specs.Vec.{vec_capacity};
 ghost use Rattle.cc_c_semantics.specs.declared.mode.Mode.TheVariants.{Plain};
 ghost use Rattle.cc_library.specs.Apply.{Units};
@@ -13,7 +13,7 @@ ghost use Rattle.cc_service.specs.Fault.{fault_number};
 ghost use Rattle.cc_recorded.specs.Opened.{IsOpened};
 ghost use Rattle.cc_recorded.specs.Since.{IsPast};
 ghost use Rattle.cc_service.specs.declared.fault.ServiceFault.TheVariants.{TooManyClients};
-ghost use Rattle.cc_session.specs.Session.{EndsSince, HasEnded};
+ghost use Rattle.cc_session.specs.Session.{EndsSince, IsEnded};
 ghost use Rattle.cc_session.specs.declared.end.SessionEnd.TheVariants.{Fault, Finished};
 ghost use Rattle.cc_session.specs.Spooling.{HasDone, HaveServed, ServingEnds, given_by};
 
@@ -133,63 +133,6 @@ fn dismiss<N: Named, S: Drop>(
     }
 }
 
-fn attend_post<N, H, S, D>(
-    rt: &H,
-    alloc: Global,
-    mode: Mode,
-    service: &Service<N, D>,
-    post: &mut Post<N, S>,
-    meter: &Meter,
-)
-where
-    N: Named + Send + Sync + 'static,
-    H: Wait,
-    S: Spool,
-    D: Disk,
-    ensures { HasDone mode (given_by S.taken S.ended post.old.spool) post.old.client.member (given_by S.taken S.ended post.new.spool) post.new.client.member }
-{
-    attend_in(
-        rt,
-        alloc,
-        mode,
-        service,
-        &mut post.client,
-        &mut post.spool,
-        meter,
-    );
-}
-
-// Each client does the scripts of its spool, in a thread of its own where one can be made. Those for which none can be made begin when others
-// have ended.
-fn attend_all<N, H, S, D>(
-    rt: &H,
-    alloc: Global,
-    mode: Mode,
-    service: &Service<N, D>,
-    posts: &mut [Post<N, S>],
-    meter: &Meter,
-)
-where
-    N: Named + Send + Sync + 'static,
-    H: Threads + Wait + Send + Sync,
-    S: Spool + Send,
-    D: Disk + Send,
-    ensures { (i : ℕ) (d : _) → i < length posts.old → HasDone mode
-        (given_by S.taken S.ended (slice_index_or posts.old i d).spool) (slice_index_or posts.old i d).client.member
-        (given_by S.taken S.ended (slice_index_or posts.new i d).spool) (slice_index_or posts.new i d).client.member }
-{
-    let count = posts.len();
-    if count == 0 {
-        return;
-    }
-    thread::for_each_mut(
-        rt,
-        posts,
-        count,
-        &|_, post| attend_post(rt, alloc, mode, service, post, meter),
-    );
-}
-
 // What is there when the clients have ended their work: they, their spools, and how it ended.
 #[derive(Drop)]
 struct Worked<N: Named, S> {
@@ -198,7 +141,8 @@ struct Worked<N: Named, S> {
     end: SessionEnd,
 }
 
-// A client for each spool does what this gives. Where the service has too few of them nothing is done.
+// A client for each spool does what this gives, in a thread of its own if one can be made; those for which none can be made begin when others have
+// ended. If the service has too few clients nothing is done.
 fn work<N, H, S, E, D, T>(
     rt: &H,
     alloc: Global,
@@ -229,9 +173,27 @@ where
     } = room;
     match hire(rt, alloc, service, spools.len(), &mut clients) {
         Ok(()) => {
+            let count = spools.len().max(1);
             pair(&mut clients, spools, &mut posts);
             steward.opened(explanations);
-            attend_all(rt, alloc, mode, service, posts.as_mut_slice(), meter);
+            thread::for_each_mut(
+                rt,
+                posts.as_mut_slice(),
+                count,
+                &|_: usize, post: &mut Post<N, S>|
+                    ensures { HasDone mode (given_by S.taken S.ended post.entry.now.spool) post.entry.now.client.member (given_by S.taken S.ended post.exit.now.spool) post.exit.now.client.member }
+                {
+                    attend_in(
+                        rt,
+                        alloc,
+                        mode,
+                        service,
+                        &mut post.client,
+                        &mut post.spool,
+                        meter,
+                    )
+                },
+            );
             dismiss(posts, &mut clients, &mut left);
             Worked {
                 clients,
@@ -278,48 +240,33 @@ fn unserved<S: Spool + Drop, D: Disk + Drop>(
     }
 }
 
-// The clients of a service do what the spools give, and it is ended.
-fn serve_opened<N, H, S, E, D, T>(
+// Ends a service whose clients worked so, and reports that to the steward if scripts were taken.
+fn end_service<N, H, S, E, D, T>(
     rt: &H,
     alloc: Global,
-    mode: Mode,
     service: Service<N, D>,
-    room: Room<N, S>,
-    spools: Vec<S>,
-    bounds: Bounds,
+    worked: Worked<N, S>,
+    meter: &Meter,
     steward: &mut T,
     explanations: &mut E,
 ) -> Served<D, S>
 where
     N: Named + Send + Sync + 'static,
-    H: Threads + Wait + Send + Sync,
-    S: Spool + Send + Drop,
+    H: Wait,
+    S: Spool + Drop,
     E: Write,
-    D: Disk + Send + Drop,
+    D: Disk + Drop,
     T: Steward,
-    requires posts { (room.posts.items ≡ []) × (vec_len spools ≤ vec_capacity room.posts) }
-    requires clients { (room.clients.items ≡ []) × (vec_len spools ≤ vec_capacity room.clients) }
-    requires spools { (room.spools.items ≡ []) × (vec_len spools ≤ vec_capacity room.spools) }
     // Whatever bytes those were that recover to the map that the service's type names.
-    ensures { (bytes : List ℕ) → (IsTrue D.honest → Recovers bytes N.base) → HasEnded D.Disk N.failures bytes N.from N.left
-        (HaveServed mode (map (given_by S.taken S.ended) spools.items) (map (given_by S.taken S.ended) result.spools.items)) result.end result.disk }
+    ensures ended { (bytes : List ℕ) → (IsTrue D.honest → Recovers bytes N.base)
+        → IsEnded D.Disk N.failures bytes N.from N.left (members worked.clients.items) worked.end result.end result.disk }
+    ensures spools { result.spools ≡ worked.spools }
 {
-    let meter = Meter::new(bounds);
     let Worked {
         clients,
         spools,
         end: worked,
-    } = work(
-        rt,
-        alloc,
-        mode,
-        &service,
-        room,
-        spools,
-        &meter,
-        steward,
-        explanations,
-    );
+    } = worked;
     let (disk, end) = finish(
         rt,
         alloc,
@@ -335,7 +282,7 @@ where
     Served { disk, spools, end }
 }
 
-// Opens a service for the spools, where there is room for them.
+// Opens a service for the spools, if there is room for them; its clients do what the spools give, and it is ended.
 fn serve_begun<N, H, S, E, D, G, T>(
     rt: &H,
     alloc: Global,
@@ -380,17 +327,21 @@ where
         return unserved(spools, library.into_disk(), fault);
     };
     match Service::<N, D>::over(rt, alloc, fresh, library, workers, gate) {
-        Ok(service) => serve_opened(
-            rt,
-            alloc,
-            mode,
-            service,
-            room,
-            spools,
-            bounds,
-            steward,
-            explanations,
-        ),
+        Ok(service) => {
+            let meter = Meter::new(bounds);
+            let worked = work(
+                rt,
+                alloc,
+                mode,
+                &service,
+                room,
+                spools,
+                &meter,
+                steward,
+                explanations,
+            );
+            end_service(rt, alloc, service, worked, &meter, steward, explanations)
+        }
         Err((fault, disk)) => {
             drop(room);
             unserved(spools, disk, fault)

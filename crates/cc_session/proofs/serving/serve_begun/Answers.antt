@@ -1,7 +1,8 @@
--- Why no service was opened; an honest disk was read at most, and no spool was asked.
-use Rattle.std.proofs.Common.{◌≡◌, ◌∙◌, ℕ, ap, inr, map, refl, subst}
+-- Why no service was opened; an honest disk was read at most, and no spool was asked. Or it was opened, and its clients did what the spools gave.
+use Rattle.std.proofs.Common.{◌≡◌, ◌∙◌, ℕ, ap, inr, map, refl, subst, sym}
 use Rattle.cc_library.specs.declared.fault.LibraryFault.TheVariants.{OutOfMemory}
 use Rattle.cc_service.specs.declared.fault.ServiceFault.TheVariants.{Opening}
+use Rattle.cc_service.specs.Client.{members}
 use Rattle.cc_session.specs.Session.{HasEnded}
 use Rattle.cc_session.specs.Spooling.{HaveServed, given_by}
 use Rattle.cc_session.proofs.Ends.{not_over, reads_back, reads_none, recovers_base, unserved_by}
@@ -38,7 +39,10 @@ returns-in-Ok-over g c =
     let N = g.N.Based in
     let by = given_by g.S.Spool.taken g.S.Spool.ended in
     let library = c.args.begun.library in
-    let left = c.serve_opened.result in
+    let worked = c.work-worked.result in
+    let left = c.end_service.result in
+    let before = map by c.args.spools.items in
+    let served = subst (λ spools. HaveServed c.args.mode before (map by spools.items) (members worked.clients.items) worked.end) (sym c.end_service.ensures.spools) c.work-worked.ensures in
     inr
-    (subst (λ (n : ℕ). HasEnded D n (D.seen library.disk) N.from N.left (HaveServed c.args.mode (map by c.args.spools.items) (map by left.spools.items)) left.end left.disk) c.requires.failures
-    (c.serve_opened.ensures (D.seen library.disk) (recovers_base D N.base library c.requires.recovered c.requires.named)))
+    (subst (λ (n : ℕ). HasEnded D n (D.seen library.disk) N.from N.left (HaveServed c.args.mode before (map by left.spools.items)) left.end left.disk) c.requires.failures
+    (members worked.clients.items, worked.end, served, c.end_service.ensures.ended (D.seen library.disk) (recovers_base D N.base library c.requires.recovered c.requires.named)))
