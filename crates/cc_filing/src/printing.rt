@@ -1,4 +1,4 @@
-// Where a command prints.
+// The buffers that a command prints to.
 
 use cc_answers::Telling;
 use std::alloc::{AllocError, Global};

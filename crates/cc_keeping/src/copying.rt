@@ -17,6 +17,7 @@ use cc_watch::AnswerProgress;
 use std::alloc::{AllocError, Global};
 use std::fs::{self, OpenOptions, Permissions};
 use std::io::{self, Print, Write};
+use std::os::unix::fs::{OpenOptionsExt, PermissionsExt};
 use std::rt::Clock;
 
 /// The rights of a file that is made: its owner's alone.

@@ -111,60 +111,12 @@ fn end_of(played: Result<(), ScriptFault>) -> Option<u32>
     }
 }
 
-// Does the next script of a spool, where there is one; whether more may come. The meter counts it from when it was taken until its answer is
-// handed over, with the receipts that it brought.
-fn attend_one<N, H, S, D>(
-    rt: &H,
-    alloc: Global,
-    mode: Mode,
-    service: &Service<N, D>,
-    client: &mut Client<N>,
-    spool: &mut S,
-    meter: &Meter,
-) -> bool
-where
-    N: Named + Send + Sync + 'static,
-    H: Wait,
-    S: Spool,
-    D: Disk,
-    ensures { HasDone mode (given_by S.taken S.ended spool.old) client.old.member (given_by S.taken S.ended spool.new) client.new.member }
+// Whether no further script of a spool is to be taken.
+fn is_closing<S: Spool>(spool: &mut S, meter: &Meter) -> bool
+    ensures taken { S.taken spool.new ≡ S.taken spool.old }
+    ensures ended { S.ended spool.new ≡ S.ended spool.old }
 {
-    if spool.is_over() {
-        return false;
-    }
-    if meter.is_full() {
-        return false;
-    }
-    if let Some((mut text, mut answer)) = spool.next() {
-        meter.begin_script();
-        let seen = client.receipts().len();
-        let others = Others {
-            spool: &*spool,
-            meter,
-        };
-        let player = Player {
-            rt,
-            alloc,
-            service,
-            mode,
-            most: Some(MOST_LINES),
-            patience: &others,
-        };
-        let mut script = Reading::new(&mut text);
-        let halted = player.play(
-            client,
-            &mut script,
-            Dialect::Served,
-            &mut answer,
-            &mut io::sink(),
-        );
-        drop(script);
-        let played = tell_halt(halted, &mut answer, &mut io::sink());
-        spool.deliver(text, answer, end_of(played));
-        let entries = client.receipts().len().saturating_sub(seen);
-        meter.end_script(entries as u64, client.held_since(seen));
-    }
-    true
+    spool.is_over() || meter.is_full()
 }
 
 /// Does the scripts of a spool in a mode one after another, by one client of a service, until the spool says that no more is to be taken, or the
@@ -193,9 +145,40 @@ where
     ensures { HasDone mode (given_by S.taken S.ended spool.old) client.old.member (given_by S.taken S.ended spool.new) client.new.member }
 {
     for _ in rt.forever() {
-        if !attend_one(rt, alloc, mode, service, client, spool, meter) {
+        if is_closing(spool, meter) {
             break;
         }
+        let Some((mut text, mut answer)) = spool.next() else {
+            continue;
+        };
+        // The meter counts a script from when it was taken until its answer is handed over, with the receipts that it brought.
+        meter.begin_script();
+        let seen = client.receipts().len();
+        let others = Others {
+            spool: &*spool,
+            meter,
+        };
+        let player = Player {
+            rt,
+            alloc,
+            service,
+            mode,
+            most: Some(MOST_LINES),
+            patience: &others,
+        };
+        let mut script = Reading::new(&mut text);
+        let halted = player.play(
+            client,
+            &mut script,
+            Dialect::Served,
+            &mut answer,
+            &mut io::sink(),
+        );
+        drop(script);
+        let played = tell_halt(halted, &mut answer, &mut io::sink());
+        spool.deliver(text, answer, end_of(played));
+        let entries = client.receipts().len().saturating_sub(seen);
+        meter.end_script(entries as u64, client.held_since(seen));
     }
 }
 
