@@ -182,11 +182,7 @@ where
             tell_end(alloc, left.end, writer, explanations);
             return left;
         }
-        let Served {
-            disk,
-            spools,
-            end: _,
-        } = left;
+        let Served { disk, spools, .. } = left;
         left = serve_quietly(
             rt,
             alloc,
