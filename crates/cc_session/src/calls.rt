@@ -30,7 +30,7 @@ use cc_library::Name;
 use cc_link::Mode;
 use cc_runs::words_in;
 use cc_script::{
-    Dialect, LINE_BYTES, MOST_BYTES, NextLine, ScriptCommand, ScriptFault, command_of,
+    Dialect, LINE_BYTES, NextLine, SCRIPT_BYTES, ScriptCommand, ScriptFault, command_of,
 };
 use cc_service::{Client, Found, Named, Prepared, Put, Service, ServiceFault};
 use cc_task::Part;
@@ -699,7 +699,7 @@ impl<'a, N: Named + Send + Sync + 'static, H: Wait, D: Disk, P: Patience> Player
         let mut hints = Hints::new(self.alloc);
         let mut held = Held::new(client);
         // Each line but the last takes a byte at least.
-        for lines in 0..=MOST_BYTES {
+        for lines in 0..=SCRIPT_BYTES {
             held.count(client);
             let limit = held.limit(self.most, lines, self.patience);
             match script.next_line(&mut line, limit)? {
