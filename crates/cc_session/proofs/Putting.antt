@@ -8,12 +8,18 @@ use Rattle.cc_script.specs.Reading.{Ahead, Between, IsLine, IsNotRead, IsNoSourc
 use Rattle.cc_script.specs.declared.fault.ScriptFault.{ScriptFault}
 use Rattle.cc_script.specs.declared.fault.ScriptFault.TheVariants.{BadLine, EndOfScript, ScriptTooLong, ReadFault, WriteFault, Stopped}
 use Rattle.cc_c_semantics.specs.declared.mode.Mode.{Mode}
+use Rattle.cc_history.specs.declared.entry.Receipt.{Receipt}
+use Rattle.cc_history.specs.History.{MemberView}
+use Rattle.cc_service.specs.Serving.{PutAnswers, Puts}
 use Rattle.cc_service.specs.Updating.{UpdateAnswers}
-use Rattle.cc_session.specs.Playing.{CallsAndWrites, IsBegun, IsSentTo, IsSentTwice, IsShortOfTwo, IsUnended, IsUnendedOfTwo, Talk, Writes, talk}
+use Rattle.cc_service.specs.declared.fault.ServiceFault.{ServiceFault}
+use Rattle.cc_service.specs.declared.service.Put.{Put}
+use Rattle.cc_session.specs.Playing.{CallsAndWrites, IsBegun, IsSent, IsSentTo, IsSentTwice, IsShortOfTwo, IsUnended, IsUnendedOfTwo, Talk, Writes, talk}
 use Rattle.cc_session.specs.Telling.{SaysChange, no_memory_text}
-use Rattle.cc_session.specs.internal.Calls.{DoesAndTells, DoesOr, UpdatesIf}
+use Rattle.cc_session.specs.internal.Calls.{CallsAndTells, DoesAndTells, DoesOr, UpdatesIf}
 use Rattle.cc_session.specs.internal.Steps.{HasSent, IsDone, IsNotDone, IsShortOf}
 use Rattle.cc_session.specs.declared.reading.Sent.TheVariants.{NoRoom, Source, Unended}
+use Rattle.cc_session.proofs.Obeying.{tells_call, tells_more}
 use Rattle.cc_session.proofs.Playing.{between_map, between_then, done_of, known_by, known_map, known_then, line_behind, more_before, skipped}
 
 -- ---- one source
@@ -192,3 +198,20 @@ twice_unread mode name many count x left h ScriptTooLong why = (inl refl, why.1)
 twice_unread mode name many count x left h ReadFault why = inl refl
 twice_unread mode name many count x left h WriteFault why = absurd why
 twice_unread mode name many count x left h Stopped why = absurd why
+
+-- ---- a unit that is put
+
+-- what was put is a text that was prepared: its mode and its bytes are those that were asked for, and the client was the same
+pub put_as : (put : Put) (name : List ℕ) (its mode : Mode) (text source : List ℕ) (before old new : MemberView) (answer : Result Receipt ServiceFault) → its ≡ mode → text ≡ source → before ≡ old
+    → PutAnswers its (Puts put its name text) name text before new answer → PutAnswers mode (Puts put mode name source) name source old new answer
+put_as put name its mode text source before old new answer one two three it =
+    subst (λ (h : MemberView). PutAnswers mode (Puts put mode name source) name source h new answer) three
+    (subst (λ (t : List ℕ). PutAnswers mode (Puts put mode name t) name t before new answer) two (subst (λ (m : Mode). PutAnswers m (Puts put m name text) name text before new answer) one it))
+
+pub put_step : {T : Type 0} (answer : Result T ScriptFault) (mode : Mode) (put : Put) (name : List ℕ) (bytes : Vec ℕ Global) (sent : List ℕ) → sent ≡ bytes.items
+    → (count : ℕ) (x y : Ahead) (old new : Talk) → Between x y (λ b a. HasSent b count (Source bytes) a) → CallsAndTells (PutAnswers mode (Puts put mode name sent) name sent) (SaysChange sent) old new answer
+    → IsDone (λ b a o n. IsSent mode (Puts put) name count b a o n) (IsShortOf count) (IsUnended count) x y old new answer
+put_step answer mode put name bytes sent same count x y old new read it =
+    let Does : List ℕ → Talk → Talk → Type 0 = λ source o n. CallsAndWrites (PutAnswers mode (Puts put mode name source) name source) (SaysChange source) o n in
+    sent_step answer Does bytes sent same count x y old new read
+    (tells_more answer (Does sent) (DoesOr (Does sent)) old new (λ n done. inl done) (tells_call answer (PutAnswers mode (Puts put mode name sent) name sent) (SaysChange sent) old new it))
