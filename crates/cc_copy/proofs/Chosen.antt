@@ -13,7 +13,7 @@ use Rattle.std.proofs.lemmas.Map.Text.{is_eq-slice_cmp}
 use Rattle.std.proofs.lemmas.Slice.Eq.{bytes_eq-Decides}
 use Rattle.std.specs.FinMap as map
 use Rattle.cc_unit.specs.declared.unit.StoredUnit.{StoredUnit}
-use Rattle.cc_library.specs.declared.command.LibraryCommand.TheVariants.{Add}
+use Rattle.cc_library.specs.declared.command.Change.TheVariants.{Add}
 use Rattle.cc_library.specs.Apply.{Units, after, kept, exists}
 use Rattle.cc_copy.specs.Choice.{is_among}
 

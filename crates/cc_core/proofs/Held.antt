@@ -12,7 +12,7 @@ use Rattle.cc_journal.specs.Commit.{area_begin}
 use Rattle.cc_journal.specs.Journal.{HoldsFrom}
 use Rattle.cc_journal.proofs.Records.{length-records_push, length-record_bytes}
 use Rattle.cc_journal.proofs.Images.{frame, length-frame, behind_gate, at_gate, committed, length-written}
-use Rattle.cc_library.specs.declared.command.LibraryCommand.{LibraryCommand}
+use Rattle.cc_library.specs.Change.{LibraryCommand}
 use Rattle.cc_library.specs.Body.{body_of}
 use Rattle.cc_core.specs.declared.contents.Due.{Due}
 use Rattle.cc_core.specs.declared.contents.Due.TheVariants.{WriteBody, SyncBody, WriteGate, SyncGate, Acknowledge}

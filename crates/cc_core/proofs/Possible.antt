@@ -7,12 +7,12 @@ use Rattle.std.proofs.lemmas.List.{length-append, length-take-le}
 use Rattle.cc_journal.specs.Commit.{Commit, behind_gate}
 use Rattle.cc_journal.specs.Format.{records, room_of}
 use Rattle.cc_disk.specs.Model.{written}
-use Rattle.cc_library.specs.declared.command.LibraryCommand.{LibraryCommand}
+use Rattle.cc_library.specs.Change.{LibraryCommand}
 use Rattle.cc_library.specs.Apply.{after}
 use Rattle.cc_library.specs.Body.{body_of}
 use Rattle.cc_library.specs.Compact.{compacted}
-use Rattle.cc_core.specs.declared.command.Request.{Request}
-use Rattle.cc_core.specs.declared.command.Request.TheVariants as request
+use Rattle.cc_core.specs.Request.{Request}
+use Rattle.cc_library.specs.declared.command.Change.TheVariants as request
 use Rattle.cc_core.specs.declared.command.Numbered.{Numbered}
 use Rattle.cc_core.specs.declared.command.Reply.{Reply}
 use Rattle.cc_core.specs.declared.command.Reply.TheVariants as replies

@@ -20,14 +20,14 @@ use Rattle.cc_journal.proofs.Images.{frame}
 use Rattle.cc_journal.proofs.Records.{holds_alone, holds_same}
 use Rattle.cc_journal.proofs.Bytes.{empty_holds}
 use Rattle.cc_unit.specs.declared.unit.StoredUnit.{StoredUnit}
-use Rattle.cc_library.specs.declared.command.LibraryCommand.{LibraryCommand}
+use Rattle.cc_library.specs.Change.{LibraryCommand}
 use Rattle.cc_library.specs.Apply.{Units, apply, after, library_of, AreAccepted}
 use Rattle.cc_library.specs.Body.{IsCommand, body_of}
 use Rattle.cc_library.specs.Compact.{compacted}
 use Rattle.cc_library.specs.Recovered.{StandFor, Recovers}
 use Rattle.cc_library.proofs.Standing.{holds_recovers}
-use Rattle.cc_core.specs.declared.command.Request.{Request}
-use Rattle.cc_core.specs.declared.command.Request.TheVariants as request
+use Rattle.cc_core.specs.Request.{Request}
+use Rattle.cc_library.specs.declared.command.Change.TheVariants as request
 use Rattle.cc_core.specs.declared.command.Numbered.{Numbered}
 use Rattle.cc_core.specs.declared.command.Reply.{Reply}
 use Rattle.cc_core.specs.declared.job.Job.{Job}

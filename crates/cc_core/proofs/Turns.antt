@@ -8,13 +8,12 @@ use Rattle.std.specs.Cmp.{nat_cmp_total, eq_by_cmp_equiv}
 use Rattle.std.specs.FinMap.{FinMap, get, insert, remove, empty, get-empty, get-insert, get-remove, nat_cmp-IsAntisymmetric}
 use Rattle.std.proofs.lemmas.List.{append-nil, length-append, length-take}
 use Rattle.cc_unit.specs.declared.unit.StoredUnit.{StoredUnit}
-use Rattle.cc_library.specs.declared.command.LibraryCommand.{LibraryCommand}
-use Rattle.cc_library.specs.declared.command.LibraryCommand.TheVariants as command
+use Rattle.cc_library.specs.Change.{LibraryCommand}
+use Rattle.cc_library.specs.declared.command.Change.TheVariants as command
 use Rattle.cc_library.specs.Body.{IsCommand}
 use Rattle.cc_core.specs.declared.command.Numbered.{Numbered}
 use Rattle.cc_core.specs.declared.command.Reply.{Reply}
-use Rattle.cc_core.specs.declared.command.Request.{Request}
-use Rattle.cc_core.specs.declared.command.Request.TheVariants as request
+use Rattle.cc_core.specs.Request.{Request}
 use Rattle.cc_core.specs.declared.contents.Contents.{Contents}
 use Rattle.cc_core.specs.declared.contents.Core.{Core}
 use Rattle.cc_core.specs.declared.event.Event.{Event}
@@ -336,18 +335,18 @@ module _ {P : Type 0} (rules : Rules P) (keeps : P → Type 0) where
 
     pub can_be_ready : (c : LibraryCommand) → HasBuilt rules keeps c → CanBeReady rules keeps old client worker c
     can_be_ready (command.Add name unit) b =
-        with_source (request.Add name unit.source) (command.Add name unit) unit refl (λ n so. so) (λ its is. ap (with_unit (command.Add name)) is) b
+        with_source (command.Add name unit.source) (command.Add name unit) unit refl (λ n so. so) (λ its is. ap (with_unit (command.Add name)) is) b
     can_be_ready (command.Replace name unit) b =
-        with_source (request.Replace name unit.source) (command.Replace name unit) unit refl (λ n so. so) (λ its is. ap (with_unit (command.Replace name)) is) b
+        with_source (command.Replace name unit.source) (command.Replace name unit) unit refl (λ n so. so) (λ its is. ap (with_unit (command.Replace name)) is) b
     can_be_ready (command.Withdraw name) b = record {
-      events = event.Submit client call (request.Withdraw name) ∷ [];
-      new = submitted (request.Withdraw name) [];
-      run = (submitted (request.Withdraw name) [], (submits (request.Withdraw name) 0 refl, refl));
+      events = event.Submit client call (command.Withdraw name) ∷ [];
+      new = submitted (command.Withdraw name) [];
+      run = (submitted (command.Withdraw name) [], (submits (command.Withdraw name) 0 refl, refl));
       core = refl;
-      job = job_at call (request.Withdraw name) [];
-      held = got_inserted old.jobs client.number (job_at call (request.Withdraw name) []);
+      job = job_at call (command.Withdraw name) [];
+      held = got_inserted old.jobs client.number (job_at call (command.Withdraw name) []);
       there = refl;
       comes = refl;
-      others = λ k apart. other_inserted old.jobs client.number (job_at call (request.Withdraw name) []) k apart;
+      others = λ k apart. other_inserted old.jobs client.number (job_at call (command.Withdraw name) []) k apart;
       idle = idle;
     }

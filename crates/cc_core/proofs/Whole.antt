@@ -4,10 +4,9 @@ use Rattle.std.proofs.Common.{◌≡◌, ℕ, zero, suc, ◌≤◌, Bool, true, 
 use Rattle.std.specs.Prelude.{slice_get, IsTrue, IsOk, nat_le}
 use Rattle.std.proofs.lemmas.Bool.{leb-true}
 use Rattle.cc_unit.specs.declared.unit.StoredUnit.{StoredUnit}
-use Rattle.cc_library.specs.declared.command.LibraryCommand.{LibraryCommand}
-use Rattle.cc_library.specs.declared.command.LibraryCommand.TheVariants as command
-use Rattle.cc_core.specs.declared.command.Request.{Request}
-use Rattle.cc_core.specs.declared.command.Request.TheVariants as request
+use Rattle.cc_library.specs.Change.{LibraryCommand}
+use Rattle.cc_library.specs.declared.command.Change.TheVariants as command
+use Rattle.cc_core.specs.Request.{Request}
 use Rattle.cc_core.specs.declared.job.Job.{Job}
 use Rattle.cc_core.specs.declared.job.Progress.{Progress}
 use Rattle.cc_core.specs.declared.job.Progress.TheVariants.{Waiting, Taken, Made, Refused}
@@ -139,11 +138,11 @@ module _ {P : Type 0} (rules : Rules P) (keeps : P → Type 0) where
 
   command_right : (is_right : StoredUnit → Type 0) → IsLawful is_right → (job : Job P) (asked : Request) (c : LibraryCommand)
       → job.request ≡ asked → IsNamed job → IsTrue (all_there job.pieces) → command_of rules job asked ≡ Ok c → IsRightCommand is_right c
-  command_right is_right law job (request.Add name source) c asks named there is =
+  command_right is_right law job (command.Add name source) c asks named there is =
       with_unit_right is_right (command.Add name) (λ u h. h) (built rules job source) c (λ u made. built_has (λ s v. is_right v) law job source u named (ap source_in asks) there made) is
-  command_right is_right law job (request.Replace name source) c asks named there is =
+  command_right is_right law job (command.Replace name source) c asks named there is =
       with_unit_right is_right (command.Replace name) (λ u h. h) (built rules job source) c (λ u made. built_has (λ s v. is_right v) law job source u named (ap source_in asks) there made) is
-  command_right is_right law job (request.Withdraw name) c asks named there is =
+  command_right is_right law job (command.Withdraw name) c asks named there is =
       let same : command.Withdraw name ≡ c = cc in subst (IsRightCommand is_right) same tt
 
   -- the command that a job begins is accepted
@@ -165,11 +164,11 @@ module _ {P : Type 0} (rules : Rules P) (keeps : P → Type 0) where
 
   command_has_source : IsOfSource → (job : Job P) (asked : Request) (c : LibraryCommand)
       → job.request ≡ asked → IsNamed job → IsTrue (all_there job.pieces) → command_of rules job asked ≡ Ok c → command_source c ≡ source_in asked
-  command_has_source law job (request.Add name source) c asks named there is =
+  command_has_source law job (command.Add name source) c asks named there is =
       with_unit_source (command.Add name) source (λ u. refl) (built rules job source) c (λ u made. built_has (λ s v. v.source ≡ s) law job source u named (ap source_in asks) there made) is
-  command_has_source law job (request.Replace name source) c asks named there is =
+  command_has_source law job (command.Replace name source) c asks named there is =
       with_unit_source (command.Replace name) source (λ u. refl) (built rules job source) c (λ u made. built_has (λ s v. v.source ≡ s) law job source u named (ap source_in asks) there made) is
-  command_has_source law job (request.Withdraw name) c asks named there is = let same : command.Withdraw name ≡ c = cc in ap command_source (sym same)
+  command_has_source law job (command.Withdraw name) c asks named there is = let same : command.Withdraw name ≡ c = cc in ap command_source (sym same)
 
   pub verdict_source : IsOfSource → (phase : Phase) (library : Units) (store : StoreState) (job : Job P) (c : LibraryCommand)
       → IsNamed job → IsTrue (all_there job.pieces) → verdict rules phase library store job ≡ Ok c → command_source c ≡ source_in job.request

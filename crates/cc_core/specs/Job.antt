@@ -3,10 +3,9 @@ use Rattle.std.specs.Prelude.{ℕ, ◌≡◌, Bool, true, false, List, [], ◌�
 use Rattle.std.specs.List.{list_all}
 use Rattle.std.specs.FinMap.{contains_key}
 use Rattle.cc_unit.specs.declared.unit.StoredUnit.{StoredUnit}
-use Rattle.cc_library.specs.declared.command.LibraryCommand.{LibraryCommand}
-use Rattle.cc_library.specs.declared.command.LibraryCommand.TheVariants as command
-use Rattle.cc_core.specs.declared.command.Request.{Request}
-use Rattle.cc_core.specs.declared.command.Request.TheVariants as request
+use Rattle.cc_library.specs.Change.{LibraryCommand}
+use Rattle.cc_library.specs.declared.command.Change.TheVariants as command
+use Rattle.cc_core.specs.Request.{Request}
 use Rattle.cc_core.specs.declared.fault.Refusal.{Refusal}
 use Rattle.cc_core.specs.declared.fault.Refusal.TheVariants as refusal
 use Rattle.cc_core.specs.declared.ids.CallId.{CallId}
@@ -24,9 +23,9 @@ use Rattle.cc_core.specs.Store.{room_taken}
 
 -- the source that a request hands in, if it hands one in
 abbrev pub source_in : Request → Option (List ℕ)
-source_in (request.Add name source) = Some source
-source_in (request.Replace name source) = Some source
-source_in (request.Withdraw name) = None
+source_in (command.Add name source) = Some source
+source_in (command.Replace name source) = Some source
+source_in (command.Withdraw name) = None
 
 -- a refusal, if there is one; else what comes next
 abbrev pub unless : {A E : Type 0} → Option E → Result A E → Result A E
@@ -78,9 +77,9 @@ module _ {P : Type 0} where
 
   -- the number of pieces of a request, or the number that refuses it, by its source's plan; a withdrawal has no pieces
   abbrev pub IsPlanned : Rules P → Request → Result ℕ ℕ → Type 0
-  IsPlanned rules (request.Add name source) plan = rules.plan source plan
-  IsPlanned rules (request.Replace name source) plan = rules.plan source plan
-  IsPlanned rules (request.Withdraw name) plan = plan ≡ Ok 0
+  IsPlanned rules (command.Add name source) plan = rules.plan source plan
+  IsPlanned rules (command.Replace name source) plan = rules.plan source plan
+  IsPlanned rules (command.Withdraw name) plan = plan ≡ Ok 0
 
   -- the job after one piece has come further
   abbrev pub with_piece : Job P → PartIndex → Progress P → Job P
@@ -120,9 +119,9 @@ module _ {P : Type 0} where
 
   -- the command of a job, or the number that refuses it
   abbrev pub command_of : Rules P → Job P → Request → Result LibraryCommand ℕ
-  command_of rules job (request.Add name source) = with_unit (command.Add name) (built rules job source)
-  command_of rules job (request.Replace name source) = with_unit (command.Replace name) (built rules job source)
-  command_of rules job (request.Withdraw name) = Ok (command.Withdraw name)
+  command_of rules job (command.Add name source) = with_unit (command.Add name) (built rules job source)
+  command_of rules job (command.Replace name source) = with_unit (command.Replace name) (built rules job source)
+  command_of rules job (command.Withdraw name) = Ok (command.Withdraw name)
 
   -- the command that a job whose pieces are all there begins, or why it is refused
   abbrev pub verdict : Rules P → Phase → Units → StoreState → Job P → Result LibraryCommand Refusal

@@ -1,8 +1,8 @@
 -- What a build does, without any code: its rules, when pieces are all pieces of a source, and when pieces give a unit.
 use Rattle.std.specs.Prelude.{ℕ, ◌≡◌, List, length, slice_get, Some, Result, Ok, All}
 use Rattle.cc_unit.specs.declared.unit.StoredUnit.{StoredUnit}
-use Rattle.cc_library.specs.declared.command.LibraryCommand.{LibraryCommand}
-use Rattle.cc_library.specs.declared.command.LibraryCommand.TheVariants as command
+use Rattle.cc_library.specs.Change.{LibraryCommand}
+use Rattle.cc_library.specs.declared.command.Change.TheVariants as command
 
 -- the rules of a build whose pieces have the type P
 pub record Rules (P : Type 0) : Type 1 where

@@ -5,8 +5,8 @@ use Rattle.cc_disk.specs.Model.{IsImage, bytes_of}
 use Rattle.cc_disk.specs.Images.{LeavesAlone, IsWritten}
 use Rattle.cc_journal.specs.Commit.{IsCommitted}
 use Rattle.cc_journal.specs.Format.{HoldsRecords, records, record_bytes}
-use Rattle.cc_library.specs.declared.command.LibraryCommand.{LibraryCommand}
-use Rattle.cc_library.specs.declared.command.LibraryCommand.TheVariants as command
+use Rattle.cc_library.specs.Change.{LibraryCommand}
+use Rattle.cc_library.specs.declared.command.Change.TheVariants as command
 use Rattle.cc_unit.specs.declared.unit.StoredUnit.{StoredUnit}
 use Rattle.cc_library.specs.Apply.{Units, AreAccepted, library_of}
 use Rattle.cc_library.specs.Body.{IsCommand, body_of}

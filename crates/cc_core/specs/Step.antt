@@ -5,11 +5,11 @@ use Rattle.std.specs.FinMap.{FinMap, get, insert, remove, empty}
 use Rattle.cc_disk.specs.Model.{bytes_of}
 use Rattle.cc_journal.specs.Commit.{Commit}
 use Rattle.cc_journal.specs.Format.{HoldsRecords, records, room_of}
-use Rattle.cc_library.specs.declared.command.LibraryCommand.{LibraryCommand}
+use Rattle.cc_library.specs.Change.{LibraryCommand}
 use Rattle.cc_library.specs.Apply.{Units, after, library_of}
 use Rattle.cc_library.specs.Compact.{compacted}
 use Rattle.cc_library.specs.Recovered.{StandFor}
-use Rattle.cc_core.specs.declared.command.Request.{Request}
+use Rattle.cc_core.specs.Request.{Request}
 use Rattle.cc_core.specs.declared.command.Numbered.{Numbered}
 use Rattle.cc_core.specs.declared.command.Reply.{Reply}
 use Rattle.cc_core.specs.declared.command.Reply.TheVariants as replies

@@ -6,7 +6,7 @@ use Rattle.cc_disk.specs.Model.{Cell, bytes_of, IsImage, written, synced, crashe
 use Rattle.cc_disk.specs.Images.{LeavesAlone}
 use Rattle.cc_journal.specs.Format.{header, IsArea}
 use Rattle.cc_journal.specs.Commit.{Commit, append_commit, area_begin, rewrite_commit}
-use Rattle.cc_library.specs.declared.command.LibraryCommand.{LibraryCommand}
+use Rattle.cc_library.specs.Change.{LibraryCommand}
 use Rattle.cc_library.specs.Apply.{Units}
 use Rattle.cc_library.specs.Body.{body_of}
 use Rattle.cc_library.specs.Compact.{compacted}

@@ -1,9 +1,9 @@
 -- How a run can go on: which steps are turns of it, what they leave unchanged, and how a client's job is handed in and made ready to begin.
 use Rattle.std.specs.Prelude.{ℕ, ◌≡◌, ◌≤◌, IsTrue, List, Some, None, Ok}
 use Rattle.std.specs.FinMap.{get}
-use Rattle.cc_library.specs.declared.command.LibraryCommand.{LibraryCommand}
+use Rattle.cc_library.specs.Change.{LibraryCommand}
 use Rattle.cc_library.specs.Body.{IsCommand, body_of}
-use Rattle.cc_core.specs.declared.command.Request.{Request}
+use Rattle.cc_core.specs.Request.{Request}
 use Rattle.cc_core.specs.declared.contents.Contents.{Contents}
 use Rattle.cc_core.specs.declared.event.Event.{Event}
 use Rattle.cc_core.specs.declared.event.Event.TheVariants as events

@@ -5,16 +5,11 @@ ghost use Rattle.std.specs.Prelude.{◌≡◌, IfOk};
 use crate::fault::Refusal;
 use crate::sequence::Sequence;
 use crate::sequence_number::SequenceNumber;
-use cc_library::{LibraryCommand, Name};
+use cc_library::{Change, LibraryCommand};
 use std::alloc::AllocError;
 
-/// What a client asks for: a name, and for the first two a source, which may be any bytes.
-#[derive(Drop)]
-pub enum Request {
-    Add(Name, Sequence<u8>),
-    Replace(Name, Sequence<u8>),
-    Withdraw(Name),
-}
+/// What a client asks for: a change that carries a source, which may be any bytes.
+pub type Request = Change<Sequence<u8>>;
 
 /// A command with its name: the sequence number of its Begin among all Begins that took a step. Two commands that ask for the same have
 /// different numbers.

@@ -3,7 +3,7 @@
 ghost use Rattle.std.specs.Prelude.{◌≡◌, ◌++◌, ℕ, Option, None, List};
 ghost use Rattle.std.specs.FinMap.{get, empty};
 ghost use Rattle.cc_library.specs.Apply.{Units, after};
-ghost use Rattle.cc_library.specs.declared.command.LibraryCommand.{LibraryCommand};
+ghost use Rattle.cc_library.specs.Change.{LibraryCommand};
 ghost use Rattle.cc_core.specs.declared.contents.Contents.{Contents};
 ghost use Rattle.cc_core.specs.declared.event.Event.{Event};
 ghost use Rattle.cc_core.specs.declared.command.Numbered.{Numbered};

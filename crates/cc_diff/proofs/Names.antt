@@ -12,7 +12,7 @@ use Rattle.std.proofs.lemmas.Cmp.{eq_by_cmp_equiv}
 use Rattle.std.proofs.lemmas.List.Folds.{list_any_more, list_any-append}
 use Rattle.std.specs.FinMap as map
 use Rattle.cc_unit.specs.declared.unit.StoredUnit.{StoredUnit}
-use Rattle.cc_library.specs.declared.command.LibraryCommand.TheVariants.{Add}
+use Rattle.cc_library.specs.declared.command.Change.TheVariants.{Add}
 use Rattle.cc_library.specs.Apply.{Units, after, kept, exists}
 use Rattle.cc_diff.specs.internal.Names.{HasNameToo}
 

@@ -12,7 +12,7 @@ use Rattle.std.specs.FinMap as map
 use Rattle.std.specs.FinMap.Entries.{find, is_sorted, below_all}
 use Rattle.cc_journal.specs.Format.{record_bytes, records, room_of}
 use Rattle.cc_unit.specs.declared.unit.StoredUnit.{StoredUnit}
-use Rattle.cc_library.specs.declared.command.LibraryCommand.TheVariants.{Add}
+use Rattle.cc_library.specs.declared.command.Change.TheVariants.{Add}
 use Rattle.cc_library.specs.Apply.{Units, apply, after, after_all, kept, exists, AreAccepted}
 use Rattle.cc_library.specs.Body.{Spells, body_of}
 use Rattle.cc_library.specs.Recovered.{AreSpelled, StandFor}

@@ -10,7 +10,7 @@ use Rattle.cc_journal.specs.contracts.fault.JournalFault.{the_type}
 use Rattle.cc_journal.specs.declared.fault.JournalFault.{JournalFault}
 use Rattle.cc_journal.specs.declared.fault.JournalFault.TheVariants as journal
 use Rattle.cc_journal.specs.Journal as journals
-use Rattle.cc_library.specs.declared.command.LibraryCommand.{LibraryCommand}
+use Rattle.cc_library.specs.Change.{LibraryCommand}
 use Rattle.cc_library.specs.Fault.{fault_of}
 use Rattle.cc_library.specs.Apply.{Units, after, apply}
 use Rattle.cc_library.specs.Body.{body_of}

@@ -12,8 +12,8 @@ use Rattle.std.specs.FinMap.Entries.{put, by_order, is_sorted, is_sorted-where_k
 use Rattle.cc_journal.specs.Format.{record_bytes, records}
 use Rattle.cc_unit.specs.declared.unit.StoredUnit.{StoredUnit}
 use Rattle.cc_library.specs.declared.command.Kind.TheVariants as kind
-use Rattle.cc_library.specs.declared.command.LibraryCommand.{LibraryCommand}
-use Rattle.cc_library.specs.declared.command.LibraryCommand.TheVariants.{Add, Replace, Withdraw}
+use Rattle.cc_library.specs.Change.{LibraryCommand}
+use Rattle.cc_library.specs.declared.command.Change.TheVariants.{Add, Replace, Withdraw}
 use Rattle.cc_library.specs.Apply.{Units, after, after_all, kept}
 use Rattle.cc_library.specs.Body.{body_of}
 use Rattle.cc_library.specs.Recovered.{AreSpelled, StandFor}

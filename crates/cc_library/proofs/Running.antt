@@ -3,7 +3,7 @@ use Rattle.std.proofs.Common.{◌≡◌, ◌≢◌, ◌⊎◌, inl, inr, ℕ, �
 use Rattle.std.specs.Prelude.{Result, Ok, Err}
 use Rattle.cc_disk.specs.Images.{LeavesOnly}
 use Rattle.cc_journal.specs.Format.{HasHeader, HoldsRecords}
-use Rattle.cc_library.specs.declared.command.LibraryCommand.{LibraryCommand}
+use Rattle.cc_library.specs.Change.{LibraryCommand}
 use Rattle.cc_library.specs.declared.command.Edit.{Edit}
 use Rattle.cc_library.specs.declared.command.Edit.TheVariants.{Change, Compact}
 use Rattle.cc_library.specs.declared.fault.LibraryFault.{LibraryFault}

@@ -5,7 +5,7 @@ use Rattle.std.specs.Prelude.{IsOk, Err}
 use Rattle.std.specs.FinMap.{empty}
 use Rattle.cc_disk.specs.Images.{LeavesOnly, OnlyReads}
 use Rattle.cc_journal.specs.Format.{HoldsAlone, HoldsOldOrNew, HoldsOneOf}
-use Rattle.cc_library.specs.declared.command.LibraryCommand.{LibraryCommand}
+use Rattle.cc_library.specs.Change.{LibraryCommand}
 use Rattle.cc_library.specs.declared.fault.LibraryFault.{LibraryFault}
 use Rattle.cc_library.specs.declared.fault.LibraryFault.TheVariants.{Exists, Absent, Full, DiskFault, Closed, Damaged, NotALibrary, OutOfMemory}
 use Rattle.cc_library.specs.Apply.{Units, apply, after, after_all, AreAccepted}

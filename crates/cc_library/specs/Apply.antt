@@ -4,8 +4,8 @@ use Rattle.std.specs.Ordering.{nat_cmp}
 use Rattle.std.specs.Cmp.Lexicographic.{slice_cmp}
 use Rattle.std.specs.FinMap.{FinMap, empty, contains_key, insert, remove}
 use Rattle.cc_unit.specs.declared.unit.StoredUnit.{StoredUnit}
-use Rattle.cc_library.specs.declared.command.LibraryCommand.{LibraryCommand}
-use Rattle.cc_library.specs.declared.command.LibraryCommand.TheVariants.{Add, Replace, Withdraw}
+use Rattle.cc_library.specs.Change.{LibraryCommand}
+use Rattle.cc_library.specs.declared.command.Change.TheVariants.{Add, Replace, Withdraw}
 
 -- a finite map from names, in the order of their bytes, to units
 abbrev pub Units : Type 0

@@ -2,6 +2,8 @@
 pub mod Fault
 -- the bytes that are a name
 pub mod Name
+-- a change that carries the unit
+pub mod Change
 -- the map from names to units, and what a command does to it
 pub mod Apply
 -- a command as the body of a record

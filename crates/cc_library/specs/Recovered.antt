@@ -3,7 +3,7 @@ use Rattle.std.specs.Prelude.{◌≡◌, ◌⊎◌, ℕ, Bool, List, [], ◌∷�
 use Rattle.std.specs.FinMap.{empty}
 use Rattle.std.specs.Coded.{Coded, code_by, coded×, coded_ℕ, coded_list, coded_bool}
 use Rattle.cc_journal.specs.Format.{HoldsRecords}
-use Rattle.cc_library.specs.declared.command.LibraryCommand.{LibraryCommand}
+use Rattle.cc_library.specs.Change.{LibraryCommand}
 use Rattle.cc_library.specs.Apply.{Units, after_all, AreAccepted}
 use Rattle.cc_library.specs.Body.{Spells}
 

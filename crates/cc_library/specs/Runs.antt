@@ -1,6 +1,6 @@
 -- A run of edits: each is done in turn, and after each in which the device failed (35) the disk is opened again.
 use Rattle.std.specs.Prelude.{◌≡◌, ◌≢◌, ◌⊎◌, ℕ, Bool, false, IsTrue, List, [], ◌∷◌, ◌++◌, Result, Ok, Err}
-use Rattle.cc_library.specs.declared.command.LibraryCommand.{LibraryCommand}
+use Rattle.cc_library.specs.Change.{LibraryCommand}
 use Rattle.cc_library.specs.declared.command.Edit.{Edit}
 use Rattle.cc_library.specs.declared.command.Edit.TheVariants.{Change, Compact}
 use Rattle.cc_library.specs.declared.fault.LibraryFault.{LibraryFault}

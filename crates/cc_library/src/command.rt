@@ -28,13 +28,17 @@ impl Kind {
     }
 }
 
-/// A change of a library: Add sets the unit of an absent name, Replace that of a present one, Withdraw removes a present name.
+/// A change of a library: Add sets the unit of an absent name, Replace that of a present one, Withdraw removes a present name. What it
+/// carries for the unit depends on who makes it: the unit, a compiled one, or its source.
 #[derive(Drop)]
-pub enum LibraryCommand {
-    Add(Name, SharedUnit),
-    Replace(Name, SharedUnit),
+pub enum Change<U> {
+    Add(Name, U),
+    Replace(Name, U),
     Withdraw(Name),
 }
+
+/// A change that carries the unit.
+pub type LibraryCommand = Change<SharedUnit>;
 
 /// A step of `Library::run`: a change of the map, or `Library::compact`.
 #[derive(Drop)]

@@ -3,7 +3,7 @@
 //! `name` is a name, `unit` and `units` are what is kept, `command` what changes it, `body` and `reading` a command as
 //! the body of a record, `replaying` what records stand for, `library` the library and its calls, `space` how much of
 //! its area it takes.
-//! It hands out `Library`, `Name`, `UnitMap`, `LibraryCommand`, `Edit`, `Kind`, `SharedUnit`, `SpaceUse`, `command_body`,
+//! It hands out `Library`, `Name`, `UnitMap`, `Change`, `LibraryCommand`, `Edit`, `Kind`, `SharedUnit`, `SpaceUse`, `command_body`,
 //! `body_length`, `body_of_command`, `read_command`, `replay` and the faults.
 #![tactic(auto)]
 
@@ -19,7 +19,7 @@ mod unit;
 mod units;
 
 pub use body::{body_length, body_of_command, command_body};
-pub use command::{Edit, Kind, LibraryCommand};
+pub use command::{Change, Edit, Kind, LibraryCommand};
 pub use fault::{LibraryFault, NameFault};
 pub use library::Library;
 pub use name::{NAME_BYTES, Name};

@@ -1,7 +1,7 @@
 // Reading a command from the body of a record.
 
 ghost use Rattle.std.specs.Prelude.{◌≡◌, ◌≤◌, ◌*◌, length, drop, IfOk};
-ghost use Rattle.cc_library.specs.declared.command.LibraryCommand.{LibraryCommand};
+ghost use Rattle.cc_library.specs.Change.{LibraryCommand};
 ghost use Rattle.cc_library.specs.Body.{Spells};
 ghost use Rattle.cc_library.specs.internal.Reading.{byte_in, taken, number_in, words_in, words_field_in, source_in, name_in, certificate_in, unit_in, kind_in, command_in};
 ghost use Rattle.cc_library.specs.Answers.{Gives};

@@ -1,7 +1,7 @@
 -- What a command of a library stored, and why it stored nothing.
 use Rattle.std.specs.Prelude.{◌≡◌, ℕ, Bool, false, IsTrue, List, Some, None}
 use Rattle.cc_unit.specs.declared.unit.StoredUnit.{StoredUnit}
-use Rattle.cc_library.specs.declared.command.LibraryCommand.{LibraryCommand}
+use Rattle.cc_library.specs.Change.{LibraryCommand}
 use Rattle.cc_library.specs.Name.{is_name}
 use Rattle.cc_library.specs.Answers.{OpenFaults}
 use Rattle.cc_log.specs.Commands.{HasCommands, stored_at}

@@ -4,7 +4,7 @@ ghost use Rattle.std.specs.Prelude.{◌≡◌, ◌≢◌, ◌++◌, [], ◌∷�
 ghost use Rattle.std.specs.FinMap as map;
 ghost use Rattle.cc_disk.specs.Images.{LeavesOnly, OnlyReads};
 ghost use Rattle.cc_unit.specs.declared.unit.StoredUnit.{StoredUnit};
-ghost use Rattle.cc_library.specs.declared.command.LibraryCommand.{LibraryCommand};
+ghost use Rattle.cc_library.specs.Change.{LibraryCommand};
 ghost use Rattle.cc_library.specs.Apply.{Units, library_of};
 ghost use Rattle.cc_library.specs.Body.{IsCommand};
 ghost use Rattle.cc_library.specs.Recovered.{Recovers, RecoversAlone, RecoversOneOf};

@@ -6,7 +6,7 @@ use Rattle.cc_disk.specs.declared.disk.Disk.{Ghosts}
 use Rattle.cc_disk.specs.Images.{LeavesAlone}
 use Rattle.cc_disk.specs.Model.{bytes_of, IsImage, settled}
 use Rattle.cc_journal.specs.Format.{HoldsRecords, records}
-use Rattle.cc_library.specs.declared.command.LibraryCommand.{LibraryCommand}
+use Rattle.cc_library.specs.Change.{LibraryCommand}
 use Rattle.cc_library.specs.Apply.{AreAccepted, library_of}
 use Rattle.cc_library.specs.Recovered.{StandFor}
 use Rattle.cc_core.specs.declared.command.Numbered.{Numbered}

@@ -6,7 +6,7 @@ use Rattle.std.specs.FinMap.{empty, get}
 use Rattle.cc_disk.specs.declared.disk.Disk.{Ghosts}
 use Rattle.cc_disk.specs.Model.{bytes_of, IsImage}
 use Rattle.cc_journal.specs.Format.{HoldsRecords, records}
-use Rattle.cc_library.specs.declared.command.LibraryCommand.{LibraryCommand}
+use Rattle.cc_library.specs.Change.{LibraryCommand}
 use Rattle.cc_library.specs.Apply.{AreAccepted, library_of}
 use Rattle.cc_library.specs.Recovered.{View}
 use Rattle.cc_core.specs.declared.command.Numbered.{Numbered}

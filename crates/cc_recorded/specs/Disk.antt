@@ -5,7 +5,7 @@ use Rattle.cc_disk.specs.declared.disk.Disk.{Ghosts}
 use Rattle.cc_disk.specs.Images.{LeavesAlone}
 use Rattle.cc_journal.specs.Commit.{FailsIn, IsCommitted}
 use Rattle.cc_journal.specs.Format.{HasAreaByte, HoldsRecords}
-use Rattle.cc_library.specs.declared.command.LibraryCommand.{LibraryCommand}
+use Rattle.cc_library.specs.Change.{LibraryCommand}
 use Rattle.cc_library.specs.Answers.{commit_of, rewrites_in}
 use Rattle.cc_library.specs.Recovered.{View}
 use Rattle.cc_recorded.specs.declared.fault.BookFault.{BookFault}

@@ -1,7 +1,7 @@
 -- What the type of a book keeps, and what follows from it for whatever a crash leaves.
 use Rattle.std.specs.Prelude.{◌≡◌, ◌⊎◌, ◌+◌, ◌≤◌, ℕ, Bool, false, IsTrue, List, [], ◌++◌, length}
 use Rattle.cc_disk.specs.declared.disk.Disk.{Ghosts}
-use Rattle.cc_library.specs.declared.command.LibraryCommand.{LibraryCommand}
+use Rattle.cc_library.specs.Change.{LibraryCommand}
 use Rattle.cc_library.specs.Apply.{Units, library_of}
 use Rattle.cc_library.specs.Recovered.{Recovers}
 use Rattle.cc_core.specs.declared.command.Numbered.{Numbered}

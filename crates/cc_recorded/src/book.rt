@@ -9,7 +9,6 @@ ghost use Rattle.cc_library.specs.Answers.{IsMended, OpenFaults};
 ghost use Rattle.cc_library.specs.Apply.{Units};
 ghost use Rattle.cc_library.specs.Recovered.{Recovers, RecoversAlone};
 ghost use Rattle.cc_headline.specs.Compiling.{compiling, Keeps, is_right};
-ghost use Rattle.cc_history.specs.Calls.{change_of};
 ghost use Rattle.cc_history.specs.Closing.{AreApart, AreOwn, IsClosed, IsNotWhole, ReceiptsStand};
 ghost use Rattle.cc_history.specs.History.{LastStands};
 ghost use Rattle.cc_recorded.specs.Book.{BookView};
@@ -29,7 +28,7 @@ use crate::recorded::{Ended, RecordedLibrary};
 use cc_core::laws::{crash_law, turn_law, units_law};
 use cc_disk::{Disk, History};
 use cc_headline::{CcBuild, made_units_are_built};
-use cc_history::{Asked, Command, Receipt, units_agree};
+use cc_history::{Asked, Command, Receipt, command_kept, units_agree};
 use cc_library::{Library, LibraryFault, SpaceUse, UnitMap};
 use std::alloc::Global;
 use std::marker::Model;
@@ -59,12 +58,13 @@ impl<N: Based, D: Disk> Model for Book<N, D> {
     ghost use Rattle.cc_recorded.specs.Promise.{IsBook};
     ghost use Rattle.cc_recorded.specs.Book.{BookView, book_code};
     ghost use Rattle.cc_library.specs.contracts.units.UnitMap as units;
-    ghost use Rattle.cc_library.specs.contracts.command.LibraryCommand as change;
+    ghost use Rattle.cc_library.specs.contracts.command.Change as change;
+    ghost use Rattle.cc_library.specs.contracts.unit.SharedUnit as shared;
     ghost use Rattle.cc_history.specs.contracts.entry.Entry as entry;
 
     ghost Value = { BookSince D };
 
-    ghost coded = { since_code (book_code D.code units.the_row.coded entry.the_row.coded change.the_row.coded) };
+    ghost coded = { since_code (book_code D.code units.the_row.coded entry.the_row.coded (change.the_row shared.the_row).coded) };
 
     ghost view = { λ b. record { book = b.recorded; since = b.since.items } };
 
@@ -184,7 +184,7 @@ impl<N: Based, D: Disk> Book<N, D> {
         ensures since { self.new.since ≡ self.old.since ++ self.new.book ∷ [] }
     {
         self.recorded.kept();
-        command.kept();
+        command_kept(&command);
         made_units_are_built();
         turn_law::<CcBuild>();
         let result = self.recorded.commit(alloc, client, command);
@@ -227,9 +227,9 @@ impl<N: Based, D: Disk> Book<N, D> {
 
     // Whether 34 would refuse a change of this client now, but not after a `compact`.
     fn is_mended_by_compact(&self, client: &Member<N>, command: &Command) -> Result<bool, BookFault>
-        ensures mended { IfOk result (λ mended. IsTrue mended → IsMended self.now.book.library (change_of command.now)) }
+        ensures mended { IfOk result (λ mended. IsTrue mended → IsMended self.now.book.library command.now) }
         ensures stands { IfOk result (λ mended. IsTrue mended → LastStands self.now.book.history client.now.receipts) }
-        ensures not { IfOk result (λ mended. mended ≡ false → ¬ IsMended self.now.book.library (change_of command.now)) }
+        ensures not { IfOk result (λ mended. mended ≡ false → ¬ IsMended self.now.book.library command.now) }
         ensures refused { IfErr result (λ fault. IsRefusedEarly self.now.book.history client.now fault) }
         ensures idle { IfErr result (λ _. self.now.book.library.closed ≡ false) }
     {

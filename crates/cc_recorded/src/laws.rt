@@ -7,9 +7,8 @@ ghost use Rattle.cc_library.specs.Recovered.{StandFor};
 ghost use Rattle.cc_core.specs.Run.{IsOpened};
 ghost use Rattle.cc_core.specs.declared.contents.Contents.{Contents};
 ghost use Rattle.cc_core.specs.declared.ids.ClientId.{ClientId};
-ghost use Rattle.cc_history.specs.declared.command.Command.{Command};
 ghost use Rattle.cc_history.specs.declared.entry.Receipt.{Receipt};
-ghost use Rattle.cc_history.specs.Calls.{change_of};
+ghost use Rattle.cc_history.specs.Calls.{Command};
 ghost use Rattle.cc_history.specs.History.{MemberView};
 ghost use Rattle.cc_recorded.specs.declared.fault.BookFault.{BookFault};
 ghost use Rattle.cc_recorded.specs.Book.{BookView};
@@ -28,8 +27,8 @@ use cc_disk::Disk;
 pub fn commits_are_steps<D: Disk, B: Build>()
     ensures { (before after : BookView D) (old new : MemberView) (command : Command) (result : Result Receipt BookFault) (s : Contents B.Piece) (client : ClientId)
         → CommitAnswers D.failures before old command after new result
-        → (IsTrue D.honest → ChangesDisk D.Disk (change_of command) before.library after.library result)
-        → Shows D.Disk before s → Has B.rules s client (change_of command)
+        → (IsTrue D.honest → ChangesDisk D.Disk command before.library after.library result)
+        → Shows D.Disk before s → Has B.rules s client command
         → IsCommitOf B.rules (Shows D.Disk after) s client result }
 {}
 

@@ -4,11 +4,10 @@ use Rattle.std.specs.Prelude.{if◌then◌else◌}
 use Rattle.std.specs.FinMap.{contains_key, insert, remove}
 use Rattle.cc_library.specs.Apply.{Units, absent, exists}
 use Rattle.cc_library.specs.Name.{is_name}
-use Rattle.cc_history.specs.Calls.{reply_of, reply_of_change}
 use Rattle.cc_history.specs.declared.command.Asked.{Asked}
 use Rattle.cc_history.specs.declared.command.Asked.TheVariants.{Change}
-use Rattle.cc_history.specs.declared.command.Command.{Command}
-use Rattle.cc_history.specs.declared.command.Command.TheVariants as commands
+use Rattle.cc_history.specs.Calls.{Command, reply_of, reply_of_change}
+use Rattle.cc_library.specs.declared.command.Change.TheVariants as commands
 use Rattle.cc_history.specs.declared.entry.Entry.{Entry}
 use Rattle.cc_history.specs.declared.entry.Receipt.{Receipt}
 use Rattle.cc_history.specs.declared.reply.Reply.{Reply}

@@ -10,11 +10,10 @@ use Rattle.cc_library.specs.unit.StoredUnit.{StoredUnit}
 use Rattle.cc_library.specs.Apply.{Units, absent, after}
 use Rattle.cc_library.specs.Name.{is_name}
 use Rattle.cc_library.specs.Recovered.{RecoversOneOf, View}
-use Rattle.cc_history.specs.Calls.{change_of, reply_of_change, reply_of_found}
 use Rattle.cc_history.specs.declared.command.Asked.{Asked}
 use Rattle.cc_history.specs.declared.command.Asked.TheVariants.{Fetch}
-use Rattle.cc_history.specs.declared.command.Command.{Command}
-use Rattle.cc_history.specs.declared.command.Command.TheVariants.{Replace}
+use Rattle.cc_history.specs.Calls.{Command, reply_of_change, reply_of_found}
+use Rattle.cc_library.specs.declared.command.Change.TheVariants.{Replace}
 use Rattle.cc_history.specs.declared.entry.Entry.{Entry}
 use Rattle.cc_history.specs.declared.entry.Receipt.{Receipt}
 use Rattle.cc_history.specs.declared.reply.Reply.{Reply}
@@ -181,12 +180,12 @@ module _ {Disk : Type 0} (D : Ghosts Disk) where
       → (IsTrue D.honest → (image : List ℕ) → D.left_since before.library.disk (D.moment before.library.disk) image → D.may_leave before.library.disk image) → AllRecover D before
       → (before.library.closed ≡ false → before.failed ≡ []) → ChangesAtOnce D command before after_it
   nothing_at_once before after_it command same only_now images idle =
-      subst (λ (b : BookView Disk). ChangesAtOnce D command before b) (sym same) (no_call_between D before (after before.library.units (change_of command)) only_now images idle)
+      subst (λ (b : BookView Disk). ChangesAtOnce D command before b) (sym same) (no_call_between D before (after before.library.units command) only_now images idle)
 
   -- a change after a look, which leaves the library
   pub at_once_after : (before between after_it : BookView Disk) (command : Command) → between.library ≡ before.library → ChangesAtOnce D command between after_it → ChangesAtOnce D command before after_it
   at_once_after before between after_it command same moments =
-      subst (λ (l : View Disk). IsTrue D.honest → l.closed ≡ false → LeavesOnly D.moment D.left_since l.disk after_it.library.disk (RecoversOneOf l.units (after l.units (change_of command)))) same moments
+      subst (λ (l : View Disk). IsTrue D.honest → l.closed ≡ false → LeavesOnly D.moment D.left_since l.disk after_it.library.disk (RecoversOneOf l.units (after l.units command))) same moments
 
   -- the books after a look, and those after what comes then
   pub since_after : (a b c : BookSince Disk) → b.since ≡ a.since ++ b.book ∷ [] → (c ≡ b) ⊎ ((between : List (BookView Disk)) × (c.since ≡ b.since ++ (between ++ c.book ∷ [])))

@@ -7,7 +7,7 @@ use Rattle.cc_disk.specs.declared.disk.Disk.{Ghosts}
 use Rattle.cc_library.specs.unit.StoredUnit.{StoredUnit}
 use Rattle.cc_library.specs.Name.{is_name}
 use Rattle.cc_c_semantics.specs.declared.mode.Mode.{Mode}
-use Rattle.cc_history.specs.declared.command.Command.{Command}
+use Rattle.cc_history.specs.Calls.{Command}
 use Rattle.cc_history.specs.declared.command.Asked.TheVariants.{Fetch}
 use Rattle.cc_history.specs.declared.entry.Receipt.{Receipt}
 use Rattle.cc_history.specs.declared.reply.Reply.TheVariants as reply

@@ -9,7 +9,7 @@ ghost use Rattle.cc_recorded.specs.Compacting.{IsCompactedFor};
 ghost use Rattle.cc_service.specs.Serving.{IsEntered, IsTurnedDown};
 ghost use Rattle.cc_service.specs.Updating.{UpdatesBook};
 ghost use Rattle.cc_service.specs.internal.Under.{HasCompared, UpdatesSeen};
-ghost use Rattle.cc_history.specs.declared.command.Command.TheVariants.{Replace};
+ghost use Rattle.cc_library.specs.declared.command.Change.TheVariants.{Replace};
 
 use crate::client::Client;
 use crate::fault::ServiceFault;

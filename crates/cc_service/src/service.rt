@@ -19,7 +19,7 @@ ghost use Rattle.cc_service.specs.Stored.{IsStored};
 ghost use Rattle.cc_recorded.specs.Answers.{IsLook};
 ghost use Rattle.cc_service.specs.Updating.{UpdateAnswers};
 ghost use Rattle.cc_service.specs.internal.Under.{IsSeen, MakesAnswers, UpdatesBy};
-ghost use Rattle.cc_history.specs.declared.command.Command.TheVariants as commands;
+ghost use Rattle.cc_library.specs.declared.command.Change.TheVariants as commands;
 ghost use Rattle.cc_recorded.specs.declared.fault.BookFault.{BookFault};
 ghost use Rattle.cc_service.specs.declared.fault.ServiceFault.TheVariants as service;
 
@@ -255,11 +255,11 @@ impl<N: Named + Send + Sync + 'static, D: Disk> Service<N, D> {
         ensures stored { IfOk result (λ receipt. IsStored D.Disk N.base N.from N.left receipt) }
         ensures sent { HasSentFor source.now client.old.sent client.new.sent }
     {
-        let Ok(name) = Name::new(name) else {
+        let Ok(_) = Name::new(name) else {
             return Err(ServiceFault::BadName);
         };
         match begun(rt, alloc, &self.pool, &mut client.pass, mode, source) {
-            Ok(prepared) => self.put_counted(rt, alloc, client, put, name, prepared),
+            Ok(prepared) => self.put_prepared(rt, alloc, client, put, name, prepared),
             Err(fault) => Err(fault),
         }
     }
@@ -329,50 +329,18 @@ impl<N: Named + Send + Sync + 'static, D: Disk> Service<N, D> {
             drop(prepared);
             return Err(ServiceFault::BadName);
         };
-        self.put_counted(rt, alloc, client, put, name, prepared)
-    }
-
-    // Puts the unit of a prepared text in the library, and counts as a client that waits for it.
-    fn put_counted<R: Wait>(
-        &self,
-        rt: &R,
-        alloc: Global,
-        client: &mut Client<N>,
-        put: Put,
-        name: Name,
-        prepared: Prepared<N>,
-    ) -> Result<Receipt, ServiceFault>
-        requires named { IsTrue (is_name name) }
-        ensures answers { PutAnswers prepared.mode (Puts put prepared.mode name prepared.text) name prepared.text client.old.member client.new.member result }
-        ensures stored { IfOk result (λ receipt. IsStored D.Disk N.base N.from N.left receipt) }
-        ensures past_text { IfErr result (λ fault. IsPastText fault) }
-        ensures sent { client.new.sent ≡ client.old.sent }
-    {
+        // Until then it counts as a client that waits for the unit.
         self.putting.fetch_add(1, Ordering::SeqCst);
-        let answer = self.put_unit(rt, alloc, client, put, name, prepared);
-        self.putting.fetch_sub(1, Ordering::SeqCst);
-        answer
-    }
-
-    // Puts the unit of a prepared text in the library.
-    fn put_unit<R: Wait>(
-        &self,
-        rt: &R,
-        alloc: Global,
-        client: &mut Client<N>,
-        put: Put,
-        name: Name,
-        prepared: Prepared<N>,
-    ) -> Result<Receipt, ServiceFault>
-        requires named { IsTrue (is_name name) }
-        ensures answers { PutAnswers prepared.mode (Puts put prepared.mode name prepared.text) name prepared.text client.old.member client.new.member result }
-        ensures stored { IfOk result (λ receipt. IsStored D.Disk N.base N.from N.left receipt) }
-        ensures past_text { IfErr result (λ fault. IsPastText fault) }
-        ensures sent { client.new.sent ≡ client.old.sent }
-    {
         match prepared.unit(rt, alloc, &self.pool) {
-            Ok(unit) => self.change(rt, alloc, client, change_of(put, name, unit)),
-            Err(fault) => Err(fault),
+            Ok(unit) => {
+                let answer = self.change(rt, alloc, client, change_of(put, name, unit));
+                self.putting.fetch_sub(1, Ordering::SeqCst);
+                answer
+            }
+            Err(fault) => {
+                self.putting.fetch_sub(1, Ordering::SeqCst);
+                Err(fault)
+            }
         }
     }
 
@@ -400,30 +368,15 @@ impl<N: Named + Send + Sync + 'static, D: Disk> Service<N, D> {
             return Err(ServiceFault::BadName);
         };
         match begun(rt, alloc, &self.pool, &mut client.pass, mode, source) {
-            Ok(prepared) => self.update_counted(rt, alloc, client, name, expected, prepared),
+            Ok(prepared) => {
+                // It counts as a client that waits for the unit.
+                self.putting.fetch_add(1, Ordering::SeqCst);
+                let answer = self.update_unit(rt, alloc, client, name, expected, prepared);
+                self.putting.fetch_sub(1, Ordering::SeqCst);
+                answer
+            }
             Err(fault) => Err(fault),
         }
-    }
-
-    // Does this with the unit of a prepared text, and counts as a client that waits for it.
-    fn update_counted<R: Wait>(
-        &self,
-        rt: &R,
-        alloc: Global,
-        client: &mut Client<N>,
-        name: Name,
-        expected: &[u8],
-        prepared: Prepared<N>,
-    ) -> Result<Receipt, ServiceFault>
-        requires named { IsTrue (is_name name) }
-        ensures answers { UpdateAnswers prepared.mode name expected.now prepared.text client.old.member client.new.member result }
-        ensures stored { IfOk result (λ receipt. IsStored D.Disk N.base N.from N.left receipt) }
-        ensures sent { client.new.sent ≡ client.old.sent }
-    {
-        self.putting.fetch_add(1, Ordering::SeqCst);
-        let answer = self.update_unit(rt, alloc, client, name, expected, prepared);
-        self.putting.fetch_sub(1, Ordering::SeqCst);
-        answer
     }
 
     // Does this with the unit of a prepared text.

@@ -10,7 +10,7 @@ use Rattle.cc_answers.specs.Text.{line}
 use Rattle.cc_answers.specs.Telling.{script_fault_text}
 use Rattle.cc_task.specs.declared.part.Part.TheVariants as part
 use Rattle.cc_library.specs.declared.space.SpaceUse.{SpaceUse}
-use Rattle.cc_history.specs.declared.command.Command.{Command}
+use Rattle.cc_history.specs.Calls.{Command}
 use Rattle.cc_history.specs.declared.entry.Receipt.{Receipt}
 use Rattle.cc_history.specs.declared.reply.Reply.TheVariants as reply
 use Rattle.cc_history.specs.Held.{receipts_bytes}

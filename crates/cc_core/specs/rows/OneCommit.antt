@@ -4,8 +4,8 @@ use Rattle.std.specs.Prelude.{◌≡◌, [], ◌∷◌, ◌++◌, drop, map, rep
 use Rattle.std.specs.FinMap.{empty}
 use Rattle.cc_disk.specs.Model.{bytes_of, settled}
 use Rattle.cc_journal.specs.Format.{header, records}
-use Rattle.cc_library.specs.declared.command.LibraryCommand.{LibraryCommand}
-use Rattle.cc_library.specs.declared.command.LibraryCommand.TheVariants as command
+use Rattle.cc_library.specs.Change.{LibraryCommand}
+use Rattle.cc_library.specs.declared.command.Change.TheVariants as command
 use Rattle.cc_library.specs.Apply.{after}
 use Rattle.cc_library.specs.Body.{body_of}
 use Rattle.cc_core.specs.declared.command.Numbered.{Numbered}

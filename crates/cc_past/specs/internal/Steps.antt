@@ -1,6 +1,6 @@
 -- The same for commands and images, before it is stated for a disk.
 use Rattle.std.specs.Prelude.{◌≡◌, ◌⊎◌, ℕ, false, List}
-use Rattle.cc_library.specs.declared.command.LibraryCommand.{LibraryCommand}
+use Rattle.cc_library.specs.Change.{LibraryCommand}
 use Rattle.cc_library.specs.Name.{is_name}
 use Rattle.cc_library.specs.Apply.{Units}
 use Rattle.cc_library.specs.Recovered.{RecoversOneOf}

@@ -2,7 +2,7 @@
 use Rattle.std.proofs.Common.{◌≡◌, sym, ap, subst, ◌∙◌}
 use Rattle.std.specs.Arc.{arc_value}
 use Rattle.cc_unit.specs.declared.unit.StoredUnit.{StoredUnit}
-use Rattle.cc_library.specs.declared.command.LibraryCommand.TheVariants as command
+use Rattle.cc_library.specs.declared.command.Change.TheVariants as command
 use Rattle.cc_core.specs.Run.{EachUnit}
 use Rattle.tests_core.specs.Builds.{Seen, is_right}
 use Rattle.tests_core.proofs.opened.with_unit.Goals as goal

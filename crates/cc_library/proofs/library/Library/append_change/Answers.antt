@@ -8,7 +8,7 @@ use Rattle.cc_journal.specs.Commit.{FailsIn, IsCommitted, append_commit, area_be
 use Rattle.cc_journal.specs.Format.{HasAreaByte, records, room_of}
 use Rattle.cc_journal.specs.declared.fault.JournalFault.{JournalFault}
 use Rattle.cc_journal.specs.declared.fault.JournalFault.TheVariants as journal
-use Rattle.cc_library.specs.declared.command.LibraryCommand.{LibraryCommand}
+use Rattle.cc_library.specs.Change.{LibraryCommand}
 use Rattle.cc_library.specs.declared.fault.LibraryFault.{LibraryFault}
 use Rattle.cc_library.specs.declared.fault.LibraryFault.TheVariants.{Exists, Absent, OutOfMemory}
 use Rattle.cc_library.specs.Fault.{fault_of}

@@ -4,7 +4,7 @@ use Rattle.cc_library.specs.Answers.{room_with}
 use Rattle.cc_library.specs.Body.{body_of}
 use Rattle.cc_library.specs.Compact.{compacted, room_compacted}
 use Rattle.cc_library.specs.Recovered.{View}
-use Rattle.cc_library.specs.declared.command.LibraryCommand.{LibraryCommand}
+use Rattle.cc_library.specs.Change.{LibraryCommand}
 use Rattle.cc_library.proofs.Compacting.{no_room_left, room_left}
 use Rattle.cc_library.proofs.library.Library.has_room_compacted.Given.{Over}
 use Rattle.cc_library.proofs.library.Library.has_room_compacted.Goals as goal

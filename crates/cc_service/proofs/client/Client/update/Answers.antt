@@ -1,7 +1,7 @@
 -- A look at the name, and what comes after it.
 use Rattle.std.proofs.Common.{◌≡◌, List, ℕ, [], inr, Err, Ok, refl, rules, subst, sym}
 use Rattle.cc_history.specs.declared.command.Asked.TheVariants.{Fetch}
-use Rattle.cc_history.specs.declared.command.Command.TheVariants.{Replace}
+use Rattle.cc_library.specs.declared.command.Change.TheVariants.{Replace}
 use Rattle.cc_recorded.specs.Answers.{LookAnswers}
 use Rattle.cc_recorded.specs.Book.{BookView}
 use Rattle.cc_recorded.specs.Changed.{AllRecover}
