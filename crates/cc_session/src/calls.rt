@@ -1,6 +1,6 @@
 // The commands of a script, done by one client.
 
-ghost use Rattle.std.specs.Prelude.{◌≡◌, [], List, ℕ, Option, Ok, IfOk, IfSome};
+ghost use Rattle.std.specs.Prelude.{◌≡◌, ◌⊎◌, true, [], List, ℕ, Option, Ok, Err, IfOk, IfSome};
 ghost use Rattle.std.specs.Option.{option_map};
 ghost use Rattle.cc_answers.specs.Telling.{Tells};
 ghost use Rattle.cc_script.specs.Line.{asked_of};
@@ -8,6 +8,7 @@ ghost use Rattle.cc_script.specs.declared.command.Dialect.{Dialect};
 ghost use Rattle.cc_c_semantics.specs.declared.mode.Mode.{Mode};
 ghost use Rattle.cc_history.specs.History.{MemberView};
 ghost use Rattle.cc_service.specs.Serving.{GetAnswers, ListAnswers, PutAnswers, Puts, WithdrawAnswers};
+ghost use Rattle.cc_service.specs.declared.fault.ServiceFault.TheVariants.{OutOfMemory, WorkersGone};
 ghost use Rattle.cc_service.specs.Updating.{UpdateAnswers};
 ghost use Rattle.cc_session.specs.Playing.{Audits, AuditsOne, CallsOn, Compacts, Grows, IsEnding, IsPlayedBy, IsSent, IsSentTo, IsSentTwice, IsShortOfTwo, IsStoppedBy, IsUnended, IsUnendedOfTwo, Measures, Talk, talk, words_of};
 ghost use Rattle.cc_session.specs.Telling.{SaysChange, SaysNames, SaysRunOn, SaysShown};
@@ -125,13 +126,12 @@ impl<'a, N: Named + Send + Sync + 'static, H: Wait, D: Disk, P: Patience> Player
             → CallsAndTells (PutAnswers self.now.mode (Puts put self.now.mode name.now source.now) name.now source.now) (SaysChange source.now)
             (talk old (W.contents answers.old)) (talk client.new.member (W.contents answers.new)) result }
     {
-        match answer {
-            Err(ServiceFault::OutOfMemory) | Err(ServiceFault::WorkersGone) => {
-                hints.forget();
-                self.put_anew(client, put, name, source, answers, explanations)
-            }
-            answer => tell_change(self.alloc, answer, source, answers, explanations),
+        if is_short(&answer) {
+            drop(answer);
+            hints.forget();
+            return self.put_anew(client, put, name, source, answers, explanations);
         }
+        tell_change(self.alloc, answer, source, answers, explanations)
     }
 
     // Adds or replaces a unit, whose source this is. While it waits for the workers they have the sources of the next commands too.
@@ -744,6 +744,17 @@ impl<'a, N: Named + Send + Sync + 'static, H: Wait, D: Disk, P: Patience> Player
             }
         }
         Err(ScriptFault::ScriptTooLong)
+    }
+}
+
+// Whether memory was refused, or a worker is gone.
+fn is_short(answer: &Result<Receipt, ServiceFault>) -> bool
+    ensures { result ≡ true → (answer.now ≡ Err OutOfMemory) ⊎ (answer.now ≡ Err WorkersGone) }
+{
+    match answer {
+        Err(ServiceFault::OutOfMemory) => true,
+        Err(ServiceFault::WorkersGone) => true,
+        Ok(_) | Err(_) => false,
     }
 }
 
