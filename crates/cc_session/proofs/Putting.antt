@@ -13,13 +13,13 @@ use Rattle.cc_history.specs.History.{MemberView}
 use Rattle.cc_service.specs.Serving.{PutAnswers, Puts}
 use Rattle.cc_service.specs.Updating.{UpdateAnswers}
 use Rattle.cc_service.specs.declared.fault.ServiceFault.{ServiceFault}
+use Rattle.cc_service.specs.declared.fault.ServiceFault.TheVariants.{OutOfMemory, WorkersGone}
 use Rattle.cc_service.specs.declared.service.Put.{Put}
-use Rattle.cc_session.specs.Playing.{CallsAndWrites, IsBegun, IsSent, IsSentTo, IsSentTwice, IsShortOfTwo, IsUnended, IsUnendedOfTwo, Talk, Writes, talk}
+use Rattle.cc_session.specs.Playing.{CallsAndWrites, IsBegun, IsSentTo, IsSentTwice, IsShortOfTwo, IsUnended, IsUnendedOfTwo, Talk, Writes, talk}
 use Rattle.cc_session.specs.Telling.{SaysChange, no_memory_text}
 use Rattle.cc_session.specs.internal.Calls.{CallsAndTells, DoesAndTells, DoesOr, UpdatesIf}
 use Rattle.cc_session.specs.internal.Steps.{HasSent, IsDone, IsNotDone, IsShortOf}
 use Rattle.cc_session.specs.declared.reading.Sent.TheVariants.{NoRoom, Source, Unended}
-use Rattle.cc_session.proofs.Obeying.{tells_call, tells_more}
 use Rattle.cc_session.proofs.Playing.{between_map, between_then, done_of, known_by, known_map, known_then, line_behind, more_before, skipped}
 
 -- ---- one source
@@ -208,10 +208,15 @@ put_as put name its mode text source before old new answer one two three it =
     subst (λ (h : MemberView). PutAnswers mode (Puts put mode name source) name source h new answer) three
     (subst (λ (t : List ℕ). PutAnswers mode (Puts put mode name t) name t before new answer) two (subst (λ (m : Mode). PutAnswers m (Puts put m name text) name text before new answer) one it))
 
-pub put_step : {T : Type 0} (answer : Result T ScriptFault) (mode : Mode) (put : Put) (name : List ℕ) (bytes : Vec ℕ Global) (sent : List ℕ) → sent ≡ bytes.items
-    → (count : ℕ) (x y : Ahead) (old new : Talk) → Between x y (λ b a. HasSent b count (Source bytes) a) → CallsAndTells (PutAnswers mode (Puts put mode name sent) name sent) (SaysChange sent) old new answer
-    → IsDone (λ b a o n. IsSent mode (Puts put) name count b a o n) (IsShortOf count) (IsUnended count) x y old new answer
-put_step answer mode put name bytes sent same count x y old new read it =
-    let Does : List ℕ → Talk → Talk → Type 0 = λ source o n. CallsAndWrites (PutAnswers mode (Puts put mode name source) name source) (SaysChange source) o n in
-    sent_step answer Does bytes sent same count x y old new read
-    (tells_more answer (Does sent) (DoesOr (Does sent)) old new (λ n done. inl done) (tells_call answer (PutAnswers mode (Puts put mode name sent) name sent) (SaysChange sent) old new it))
+-- a unit that was put by the same client
+pub put_from : {T : Type 0} (result : Result T ScriptFault) (mode : Mode) (put : Put) (name source : List ℕ) (before old new : MemberView) (one two : Option (List ℕ)) → before ≡ old
+    → CallsAndTells (PutAnswers mode (Puts put mode name source) name source) (SaysChange source) (talk before one) (talk new two) result
+    → CallsAndTells (PutAnswers mode (Puts put mode name source) name source) (SaysChange source) (talk old one) (talk new two) result
+put_from result mode put name source before old new one two same it =
+    subst (λ (h : MemberView). CallsAndTells (PutAnswers mode (Puts put mode name source) name source) (SaysChange source) (talk h one) (talk new two) result) same it
+
+-- a unit that was not put for want of memory, or of a worker: the client is as it was
+pub put_not : (mode : Mode) (put : Put) (name source : List ℕ) (old new : MemberView) (answer : Result Receipt ServiceFault) → (answer ≡ Err OutOfMemory) ⊎ (answer ≡ Err WorkersGone)
+    → PutAnswers mode (Puts put mode name source) name source old new answer → new ≡ old
+put_not mode put name source old new answer (inl is) it = (subst (λ (a : Result Receipt ServiceFault). PutAnswers mode (Puts put mode name source) name source old new a) is it).1
+put_not mode put name source old new answer (inr is) it = (subst (λ (a : Result Receipt ServiceFault). PutAnswers mode (Puts put mode name source) name source old new a) is it).2

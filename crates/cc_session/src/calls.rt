@@ -1,6 +1,6 @@
 // The commands of a script, done by one client.
 
-ghost use Rattle.std.specs.Prelude.{◌≡◌, [], List, ℕ, Option, Ok, IfOk};
+ghost use Rattle.std.specs.Prelude.{◌≡◌, ◌⊎◌, true, [], List, ℕ, Option, Ok, Err, IfOk, IfSome};
 ghost use Rattle.std.specs.Option.{option_map};
 ghost use Rattle.cc_answers.specs.Telling.{Tells};
 ghost use Rattle.cc_script.specs.Line.{asked_of};
@@ -8,8 +8,9 @@ ghost use Rattle.cc_script.specs.declared.command.Dialect.{Dialect};
 ghost use Rattle.cc_c_semantics.specs.declared.mode.Mode.{Mode};
 ghost use Rattle.cc_history.specs.History.{MemberView};
 ghost use Rattle.cc_service.specs.Serving.{GetAnswers, ListAnswers, PutAnswers, Puts, WithdrawAnswers};
+ghost use Rattle.cc_service.specs.declared.fault.ServiceFault.TheVariants.{OutOfMemory, WorkersGone};
 ghost use Rattle.cc_service.specs.Updating.{UpdateAnswers};
-ghost use Rattle.cc_session.specs.Playing.{Audits, AuditsOne, CallsOn, Compacts, Grows, IsPlayedBy, IsSent, IsSentTo, IsSentTwice, IsShortOfTwo, IsUnended, IsUnendedOfTwo, Measures, Talk, talk, words_of};
+ghost use Rattle.cc_session.specs.Playing.{Audits, AuditsOne, CallsOn, Compacts, Grows, IsEnding, IsPlayedBy, IsSent, IsSentTo, IsSentTwice, IsShortOfTwo, IsStoppedBy, IsUnended, IsUnendedOfTwo, Measures, Talk, talk, words_of};
 ghost use Rattle.cc_session.specs.Telling.{SaysChange, SaysNames, SaysRunOn, SaysShown};
 ghost use Rattle.cc_session.specs.internal.Calls.{AuditsName, AuditsNames, CallsAndTells, DoesAndTells, DoesOr, RunsAndTells, TellsAudit, TellsRun, UpdatesIf};
 ghost use Rattle.cc_session.specs.internal.Steps.{IsDone, IsHalted, IsObeyed, IsShortOf};
@@ -125,16 +126,53 @@ impl<'a, N: Named + Send + Sync + 'static, H: Wait, D: Disk, P: Patience> Player
             → CallsAndTells (PutAnswers self.now.mode (Puts put self.now.mode name.now source.now) name.now source.now) (SaysChange source.now)
             (talk old (W.contents answers.old)) (talk client.new.member (W.contents answers.new)) result }
     {
-        match answer {
-            Err(ServiceFault::OutOfMemory) | Err(ServiceFault::WorkersGone) => {
-                hints.forget();
+        if is_short(&answer) {
+            drop(answer);
+            hints.forget();
+            return self.put_anew(client, put, name, source, answers, explanations);
+        }
+        tell_change(self.alloc, answer, source, answers, explanations)
+    }
+
+    // Adds or replaces a unit, whose source this is. While it waits for the workers they have the sources of the next commands too.
+    fn change<R: Read, W: Write, E: Write>(
+        &self,
+        client: &mut Client<N>,
+        script: &Reading<R>,
+        hints: &mut Hints<N>,
+        put: Put,
+        name: &[u8],
+        source: &[u8],
+        answers: &mut W,
+        explanations: &mut E,
+    ) -> Result<(), ScriptFault>
+        ensures { CallsAndTells (PutAnswers self.now.mode (Puts put self.now.mode name.now source.now) name.now source.now) (SaysChange source.now)
+            (talk client.old.member (W.contents answers.old)) (talk client.new.member (W.contents answers.new)) result }
+    {
+        let (rt, alloc, service) = (self.rt, self.alloc, self.service);
+        match self.begun(client, script, hints, source) {
+            Ok(prepared) => {
+                self.look_ahead(client, script, hints);
+                let answer = service.put_prepared(rt, alloc, client, put, name, prepared);
+                self.settle(
+                    answer,
+                    client,
+                    hints,
+                    put,
+                    name,
+                    source,
+                    answers,
+                    explanations,
+                )
+            }
+            Err(fault) => {
+                drop(fault);
                 self.put_anew(client, put, name, source, answers, explanations)
             }
-            answer => tell_change(self.alloc, answer, source, answers, explanations),
         }
     }
 
-    // Adds or replaces a unit whose source comes next. While it waits for the workers they have the sources of the next commands too.
+    // Adds or replaces a unit whose source comes next.
     fn put<R: Read, W: Write, E: Write>(
         &self,
         client: &mut Client<N>,
@@ -150,30 +188,19 @@ impl<'a, N: Named + Send + Sync + 'static, H: Wait, D: Disk, P: Patience> Player
             script.old script.new (talk client.old.member (W.contents answers.old)) (talk client.new.member (W.contents answers.new)) result }
         ensures grows { Grows client.old.member client.new.member }
     {
-        let (rt, alloc, service) = (self.rt, self.alloc, self.service);
-        match script.source(alloc, length)? {
+        match script.source(self.alloc, length)? {
             Sent::Source(source) => {
                 let source = source.as_slice();
-                match self.begun(client, script, hints, source) {
-                    Ok(prepared) => {
-                        self.look_ahead(client, script, hints);
-                        let answer = service.put_prepared(rt, alloc, client, put, name, prepared);
-                        self.settle(
-                            answer,
-                            client,
-                            hints,
-                            put,
-                            name,
-                            source,
-                            answers,
-                            explanations,
-                        )
-                    }
-                    Err(fault) => {
-                        drop(fault);
-                        self.put_anew(client, put, name, source, answers, explanations)
-                    }
-                }
+                self.change(
+                    client,
+                    script,
+                    hints,
+                    put,
+                    name,
+                    source,
+                    answers,
+                    explanations,
+                )
             }
             Sent::NoRoom => tell_no_memory(answers, explanations),
             Sent::Unended => script.refuse_and_skip(answers, explanations),
@@ -720,7 +747,34 @@ impl<'a, N: Named + Send + Sync + 'static, H: Wait, D: Disk, P: Patience> Player
     }
 }
 
-// Writes the line of the fault that ended a script, if one did. If that cannot be written the fault is 54.
+// Whether memory was refused, or a worker is gone.
+fn is_short(answer: &Result<Receipt, ServiceFault>) -> bool
+    ensures { result ≡ true → (answer.now ≡ Err OutOfMemory) ⊎ (answer.now ≡ Err WorkersGone) }
+{
+    match answer {
+        Err(ServiceFault::OutOfMemory) => true,
+        Err(ServiceFault::WorkersGone) => true,
+        Ok(_) | Err(_) => false,
+    }
+}
+
+// Writes the line of the fault that ended a script. If that cannot be written the fault is 54.
+fn tell_line<W: Write, E: Write>(
+    fault: ScriptFault,
+    answers: &mut W,
+    explanations: &mut E,
+) -> Result<(), ScriptFault>
+    ensures { (mode : Mode) (dialect : Dialect) (most : Option ℕ) (script : Option (List ℕ)) (old : Talk) (client : MemberView)
+        → IsEnding most fault × IfSome script (λ bytes. IsStoppedBy mode dialect most fault bytes old (talk client (W.contents answers.old)))
+        → IsPlayedBy mode dialect most script old (talk client (W.contents answers.new)) result }
+{
+    match tell_fault(fault, answers, explanations) {
+        Ok(()) => Err(fault),
+        Err(unwritten) => Err(unwritten),
+    }
+}
+
+// Writes the line of the fault that ended a script, if one did: how the script ended.
 pub(crate) fn tell_halt<W: Write, E: Write>(
     halted: Result<(), ScriptFault>,
     answers: &mut W,
@@ -732,9 +786,6 @@ pub(crate) fn tell_halt<W: Write, E: Write>(
 {
     match halted {
         Ok(()) => Ok(()),
-        Err(fault) => match tell_fault(fault, answers, explanations) {
-            Ok(()) => Err(fault),
-            Err(unwritten) => Err(unwritten),
-        },
+        Err(fault) => tell_line(fault, answers, explanations),
     }
 }

@@ -1,56 +1,31 @@
 -- A source that was handed to the service, one after which another byte stands, and one for which there was no room.
-use Rattle.std.proofs.Common.{◌∙◌, List, ℕ, refl, rules}
+use Rattle.std.proofs.Common.{List, ℕ, inl, refl, rules}
 use Rattle.cc_service.specs.Serving.{PutAnswers, Puts}
-use Rattle.cc_session.specs.Playing.{CallsAndWrites, IsSent, IsUnended, talk}
+use Rattle.cc_session.specs.Playing.{CallsAndWrites, IsSent, IsUnended, Talk, talk}
 use Rattle.cc_session.specs.Telling.{SaysChange}
+use Rattle.cc_session.specs.internal.Calls.{DoesOr}
 use Rattle.cc_session.specs.internal.Steps.{IsNotDone, IsShortOf}
 use Rattle.cc_session.proofs.Growing.{grows_same, put_grows}
+use Rattle.cc_session.proofs.Obeying.{tells_call, tells_more}
 use Rattle.cc_session.proofs.Playing.{not_sent}
-use Rattle.cc_session.proofs.Putting.{put_as, put_step, skip_step, unsent_step}
+use Rattle.cc_session.proofs.Putting.{sent_step, skip_step, unsent_step}
 use Rattle.cc_session.proofs.calls.Player.put.Goals as goal
 
-pub returns-in-Source-Ok-clause-done : goal.returns-in-Source-Ok-clause-done
-returns-in-Source-Ok-clause-done g c =
+pub returns-in-Source-clause-done : goal.returns-in-Source-clause-done
+returns-in-Source-clause-done g c =
     let read = rw c.in-Source.is at c.in_ok-source.ensures.bytes in
     let mode = c.args.self.now.mode in
     let name = c.args.name.now in
     let sent = c.as_slice-source.result.now in
     let old = talk c.args.client.now.member (g.W.Write.contents c.args.answers.now) in
-    let new = talk c.settle.new.client.member (g.W.Write.contents c.settle.new.answers) in
-    let put = put_as c.args.put name c.in-Source-Ok.prepared.mode mode c.in-Source-Ok.prepared.text sent c.look_ahead.new.client.member c.args.client.now.member c.put_prepared-answer.new.client.member
-    c.put_prepared-answer.result c.in-Source-Ok.ensures.mode c.in-Source-Ok.ensures.text (c.look_ahead.ensures ∙ c.begun.ensures.member) c.put_prepared-answer.ensures.answers in
-    put_step c.settle.result mode c.args.put name c.in-Source.source sent c.as_slice-source.ensures.value c.args.length c.args.script.now c.source.new.self old new read
-    (c.settle.ensures c.args.client.now.member put)
+    let new = talk c.change.new.client.member (g.W.Write.contents c.change.new.answers) in
+    let Does : List ℕ → Talk → Talk → Type 0 = λ source o n. CallsAndWrites (PutAnswers mode (Puts c.args.put mode name source) name source) (SaysChange source) o n in
+    sent_step c.change.result Does c.in-Source.source sent c.as_slice-source.ensures.value c.args.length c.args.script.now c.source.new.self old new read
+    (tells_more c.change.result (Does sent) (DoesOr (Does sent)) old new (λ n it. inl it) (tells_call c.change.result (PutAnswers mode (Puts c.args.put mode name sent) name sent) (SaysChange sent) old new c.change.ensures))
 
-pub returns-in-Source-Ok-clause-grows : goal.returns-in-Source-Ok-clause-grows
-returns-in-Source-Ok-clause-grows g c =
-    let mode = c.args.self.now.mode in
-    let name = c.args.name.now in
-    let sent = c.as_slice-source.result.now in
-    let put = put_as c.args.put name c.in-Source-Ok.prepared.mode mode c.in-Source-Ok.prepared.text sent c.look_ahead.new.client.member c.args.client.now.member c.put_prepared-answer.new.client.member
-    c.put_prepared-answer.result c.in-Source-Ok.ensures.mode c.in-Source-Ok.ensures.text (c.look_ahead.ensures ∙ c.begun.ensures.member) c.put_prepared-answer.ensures.answers in
-    let called = c.settle.ensures c.args.client.now.member put in
-    put_grows mode (Puts c.args.put mode name sent) name sent c.args.client.now.member c.settle.new.client.member called.0 called.1
-
-pub returns-in-Source-Err-clause-done : goal.returns-in-Source-Err-clause-done
-returns-in-Source-Err-clause-done g c =
-    let read = rw c.in-Source.is at c.in_ok-source.ensures.bytes in
-    let mode = c.args.self.now.mode in
-    let name = c.args.name.now in
-    let sent = c.as_slice-source.result.now in
-    let W = g.W.Write.contents in
-    let old = talk c.args.client.now.member (W c.args.answers.now) in
-    let new = talk c.put_anew.new.client.member (W c.put_anew.new.answers) in
-    let called = rw c.begun.ensures.member at c.put_anew.ensures in
-    put_step c.put_anew.result mode c.args.put name c.in-Source.source sent c.as_slice-source.ensures.value c.args.length c.args.script.now c.source.new.self old new read called
-
-pub returns-in-Source-Err-clause-grows : goal.returns-in-Source-Err-clause-grows
-returns-in-Source-Err-clause-grows g c =
-    let mode = c.args.self.now.mode in
-    let name = c.args.name.now in
-    let sent = c.as_slice-source.result.now in
-    let called = rw c.begun.ensures.member at c.put_anew.ensures in
-    put_grows mode (Puts c.args.put mode name sent) name sent c.args.client.now.member c.put_anew.new.client.member called.0 called.1
+pub returns-in-Source-clause-grows : goal.returns-in-Source-clause-grows
+returns-in-Source-clause-grows g c =
+    put_grows c.args.self.now.mode (Puts c.args.put c.args.self.now.mode c.args.name.now c.as_slice-source.result.now) c.args.name.now c.as_slice-source.result.now c.args.client.now.member c.change.new.client.member c.change.ensures.0 c.change.ensures.1
 
 pub returns-in-Unended-clause-done : goal.returns-in-Unended-clause-done
 returns-in-Unended-clause-done g c =
