@@ -98,7 +98,7 @@ def plants():
         ("drawn_map", changed("docs/ARCHITECTURE.md", ("| 1 | `cc_words` |", "| 2 | `cc_words` |")), "cc_words: layer and arrows"),
         ("drawn_map", changed("docs/ARCHITECTURE.md", ("| 1 | `cc_words` |", "| 1 | `cc_planted` |")), "cc_planted is no crate"),
         ("drawn_map", changed("crates/cc_link/src/lib.rt", more=arrows), "cc_link: more than 7 arrows"),
-        ("version", {"VERSION": "9.9.9\n"}, "VERSION and command_line.rt"),
+        ("version", {"VERSION": "9.9.9\n"}, "VERSION and commands.rt"),
         ("help_texts", changed("docs/help.txt", ("\n\n", "\n\nplanted\n\n")), "./cclib --help"),
         ("help_texts", changed("cclib", ('echo "cclib $(cat', 'echo "cclib 9$(cat')), "./cclib --version"),
         ("programs", changed("bench/programs/crc.c", more="/* planted */\n"), "bench/programs/crc.c"),

@@ -43,8 +43,8 @@ def help_texts():
 
 def version():
     """The version is in VERSION; the program and what ./cclib says without a build have the same."""
-    code = read("crates/cc_command_line/src/command_line.rt")
-    return differ("VERSION and command_line.rt", read("VERSION").strip(), found(r'^        \.version\("(.*?)"\)$', code))
+    code = read("crates/cc_command_line/src/commands.rt")
+    return differ("VERSION and commands.rt", read("VERSION").strip(), found(r'^        \.version\("(.*?)"\)$', code))
 
 
 def programs():

@@ -7,6 +7,7 @@ use cc_answers::explain_words;
 use cc_disk::FileDisk;
 use cc_journal::format;
 use cc_library::LibraryFault;
+use cc_tasks::PartFault;
 use std::fs::{self, File};
 use std::io::{self, Write};
 use std::os::unix::fs::MetadataExt;
@@ -36,6 +37,14 @@ pub fn disk_of(files: &HostRuntime, path: &str, area: Option<u32>) -> Result<Fil
     match FileDisk::create(files, path, size) {
         Ok(disk) => formatted(disk, area),
         Err(_) => Err(NoDisk::Refused(LibraryFault::DiskFault)),
+    }
+}
+
+/// The disk on the file of a library that is there, for a command that reads it.
+pub fn library_disk(files: &HostRuntime, path: &str) -> Result<FileDisk, PartFault> {
+    match disk_of(files, path, None) {
+        Ok(disk) => Ok(disk),
+        Err(reason) => Err(PartFault::Library(reason.fault())),
     }
 }
 

@@ -5,14 +5,15 @@ ghost use Rattle.std.specs.Prelude.{◌≡◌, false, true, MatchResult};
 ghost use Rattle.std.specs.Io.KnownBytes.{Appends};
 ghost use Rattle.cc_tasks.specs.Written.{found_text};
 
-use crate::filing::disk_of;
-use cc_answers::{Telling, explain_words};
+use crate::filing::library_disk;
+use crate::printing::buffers;
+use cc_answers::explain_words;
 use cc_command_line::Wanted;
 use cc_library::LibraryFault;
 use cc_screen::Screen;
 use cc_tasks::{Done, PartFault, take_out, write_part};
 use std::alloc::{AllocError, Global};
-use std::io::{self, BufWriter, IsTerminal, Print, Write};
+use std::io::{self, IsTerminal, Print, Write};
 
 /// What a person reads if there is no disk on the file because of 35.
 const NO_FILE: &str =
@@ -28,15 +29,11 @@ fn bytes_of<E: Write>(
     wanted: &Wanted,
     errors: &mut E,
 ) -> Result<Vec<u8>, PartFault> {
-    match disk_of(files, wanted.disk.as_str(), None) {
-        Ok(disk) => {
-            let name = wanted.name.as_bytes();
-            let (found, disk) = take_out(alloc, disk, name, wanted.part, errors);
-            drop(disk);
-            found
-        }
-        Err(reason) => Err(PartFault::Library(reason.fault())),
-    }
+    let disk = library_disk(files, wanted.disk.as_str())?;
+    let name = wanted.name.as_bytes();
+    let (found, disk) = take_out(alloc, disk, name, wanted.part, errors);
+    drop(disk);
+    found
 }
 
 /// Explains a fault to a person; a name that no unit has is explained already.
@@ -101,14 +98,8 @@ pub fn take_out_of_file<R: AllocGlobal + Print, E: Write + Drop>(
     is_quiet: bool,
     errors: E,
 ) -> Result<u8, AllocError> {
-    let (Ok(buffered), Ok(errors)) = (
-        BufWriter::new(rt.alloc(), io::writer(rt)),
-        BufWriter::new(rt.alloc(), errors),
-    ) else {
-        return Err(AllocError);
-    };
+    let (buffered, mut told) = buffers(rt.alloc(), io::writer(rt), errors, is_quiet)?;
     let mut writer = Screen::new(buffered, files.stdout().is_terminal());
-    let mut told = Telling { errors, is_quiet };
     let found = bytes_of(rt.alloc(), files, wanted, &mut told);
     let done = write_found(found, &mut writer, &mut told);
     Ok(done.status)

@@ -5,16 +5,16 @@ ghost use Rattle.std.specs.Io.KnownBytes.{Appends};
 ghost use Rattle.cc_runs.specs.Written.{counted_text};
 
 use crate::telling::{refuse, settled, unwritten};
-use cc_answers::{Persons, Telling};
+use cc_answers::Persons;
 use cc_call::{LinesEnd, call, call_lines, unit_on};
 use cc_command_line::Calling;
-use cc_filing::disk_of;
+use cc_filing::{buffers, library_disk};
 use cc_runs::{CountedRun, write_counted_run};
 use cc_tasks::{Done, PartFault};
 use cc_unit::StoredUnit;
 use cc_watch::AnswerProgress;
 use std::alloc::{AllocError, Global};
-use std::io::{BufRead, BufReader, BufWriter, Input, IsTerminal, Write};
+use std::io::{BufRead, BufReader, Input, IsTerminal, Write};
 use std::rt::Clock;
 use std::sync::Arc;
 
@@ -25,24 +25,20 @@ fn run_of<E: Write>(
     asked: &Calling,
     told: &mut E,
 ) -> Result<CountedRun, PartFault> {
-    match disk_of(files, asked.disk.as_str(), None) {
-        Ok(disk) => {
-            let name = asked.name.as_bytes();
-            let words = asked.words.as_slice();
-            let (run, disk) = call(
-                alloc,
-                disk,
-                name,
-                words,
-                asked.steps,
-                asked.is_counted,
-                told,
-            );
-            drop(disk);
-            run
-        }
-        Err(reason) => Err(PartFault::Library(reason.fault())),
-    }
+    let disk = library_disk(files, asked.disk.as_str())?;
+    let name = asked.name.as_bytes();
+    let words = asked.words.as_slice();
+    let (run, disk) = call(
+        alloc,
+        disk,
+        name,
+        words,
+        asked.steps,
+        asked.is_counted,
+        told,
+    );
+    drop(disk);
+    run
 }
 
 // The unit that is to be run line by line.
@@ -52,14 +48,10 @@ fn unit_of<E: Write>(
     asked: &Calling,
     told: &mut E,
 ) -> Result<Arc<StoredUnit>, PartFault> {
-    match disk_of(files, asked.disk.as_str(), None) {
-        Ok(disk) => {
-            let (unit, disk) = unit_on(alloc, disk, asked.name.as_bytes(), told);
-            drop(disk);
-            unit
-        }
-        Err(reason) => Err(PartFault::Library(reason.fault())),
-    }
+    let disk = library_disk(files, asked.disk.as_str())?;
+    let (unit, disk) = unit_on(alloc, disk, asked.name.as_bytes(), told);
+    drop(disk);
+    unit
 }
 
 // Writes a run.
@@ -128,14 +120,8 @@ pub fn call_in_file<R: AllocGlobal + Clock + Input + Copy + Drop, A: Write + Dro
     answers: A,
     errors: E,
 ) -> Result<u8, AllocError> {
-    let (Ok(mut writer), Ok(errors)) = (
-        BufWriter::new(rt.alloc(), answers),
-        BufWriter::new(rt.alloc(), errors),
-    ) else {
-        return Err(AllocError);
-    };
     let is_quiet = persons.is_quiet;
-    let mut told = Telling { errors, is_quiet };
+    let (mut writer, mut told) = buffers(rt.alloc(), answers, errors, is_quiet)?;
     if !asked.is_lines {
         return Ok(match run_of(rt.alloc(), files, asked, &mut told) {
             Ok(run) => answer(&run, &mut writer, &mut told).status,

@@ -5,12 +5,12 @@ ghost use Rattle.std.specs.Io.KnownBytes.{Appends};
 ghost use Rattle.cc_diff.specs.Written.{diff_text};
 
 use crate::telling::{settled, unwritten};
-use cc_answers::{Stands, Telling, explain_words, write_fault_line};
+use cc_answers::{Stands, explain_words, write_fault_line};
 use cc_diff::{DiffFault, DiffLine, diff_disks, write_diff};
-use cc_filing::disk_of;
+use cc_filing::{buffers, disk_of};
 use cc_tasks::Done;
 use std::alloc::{AllocError, Global};
-use std::io::{self, BufWriter, Write};
+use std::io::{self, Write};
 
 // The differences between the libraries in the files.
 fn lines_of(
@@ -78,13 +78,7 @@ pub fn diff_files<R: AllocGlobal, A: Write + Drop, E: Write + Drop>(
     answers: A,
     errors: E,
 ) -> Result<u8, AllocError> {
-    let (Ok(mut writer), Ok(errors)) = (
-        BufWriter::new(rt.alloc(), answers),
-        BufWriter::new(rt.alloc(), errors),
-    ) else {
-        return Err(AllocError);
-    };
-    let mut told = Telling { errors, is_quiet };
+    let (mut writer, mut told) = buffers(rt.alloc(), answers, errors, is_quiet)?;
     Ok(match lines_of(rt.alloc(), files, left, right) {
         Ok(lines) => answer(lines.as_slice(), &mut writer, &mut told).status,
         Err(fault) => {

@@ -6,17 +6,17 @@
 ghost use Rattle.std.specs.Prelude.{◌≤◌};
 
 use crate::telling::{refuse, refuse_quietly, unwritten};
-use cc_answers::{Persons, Telling, tell_audit, tell_ok};
+use cc_answers::{Persons, tell_audit, tell_ok};
 use cc_command_line::Copying;
 use cc_copy::{LeftOut, Selection, copy_units, least_area, selection_on};
 use cc_disk::FileDisk;
-use cc_filing::{disk_of, name_disk};
+use cc_filing::{buffers, library_disk, name_disk};
 use cc_library::{LibraryFault, Name, UnitMap};
 use cc_tasks::PartFault;
 use cc_watch::AnswerProgress;
 use std::alloc::{AllocError, Global};
 use std::fs::{self, OpenOptions, Permissions};
-use std::io::{self, BufWriter, Print, Write};
+use std::io::{self, Print, Write};
 use std::os::unix::fs::{OpenOptionsExt, PermissionsExt};
 use std::rt::Clock;
 
@@ -31,22 +31,11 @@ fn selection_of<S: Write, E: Write>(
     seen: &mut S,
     told: &mut E,
 ) -> Result<Selection, PartFault> {
-    match disk_of(files, asked.old.as_str(), None) {
-        Ok(disk) => {
-            let names = asked.names.as_slice();
-            let (selection, disk) = selection_on(
-                alloc,
-                disk,
-                names,
-                asked.is_confirmed,
-                seen,
-                told,
-            );
-            drop(disk);
-            selection
-        }
-        Err(reason) => Err(PartFault::Library(reason.fault())),
-    }
+    let disk = library_disk(files, asked.old.as_str())?;
+    let names = asked.names.as_slice();
+    let (selection, disk) = selection_on(alloc, disk, names, asked.is_confirmed, seen, told);
+    drop(disk);
+    selection
 }
 
 // Makes an empty file at a path where nothing may be yet.
@@ -236,16 +225,7 @@ pub fn copy_file<R: AllocGlobal + Clock + Print + Copy + Drop, E: Write + Drop>(
     requires least { 64 ≤ asked.now.area }
     requires most { asked.now.area ≤ 1073741824 }
 {
-    let (Ok(mut writer), Ok(errors)) = (
-        BufWriter::new(rt.alloc(), io::writer(rt)),
-        BufWriter::new(rt.alloc(), errors),
-    ) else {
-        return Err(AllocError);
-    };
-    let mut told = Telling {
-        errors,
-        is_quiet: persons.is_quiet,
-    };
+    let (mut writer, mut told) = buffers(rt.alloc(), io::writer(rt), errors, persons.is_quiet)?;
     let selection = match selection_seen(rt, files, asked, persons, &mut told) {
         Ok(selection) => selection,
         Err(fault) => return Ok(refuse(fault, &mut writer, &mut told)),

@@ -9,7 +9,7 @@ use std::fs::File;
 use std::io::{self, BufWriter, Write};
 
 /// The most bytes of an answer.
-const MOST_BYTES: u64 = 16_777_216;
+const ANSWER_BYTES: u64 = 16_777_216;
 
 /// An answer that is being written, of 16,777,216 bytes at most. After a write or a flush was refused, all later ones are refused
 /// too: the file no longer has what was to be written.
@@ -30,7 +30,7 @@ impl AnswerFile {
     {
         Ok(AnswerFile {
             writer: BufWriter::new(alloc, file)?,
-            left: MOST_BYTES,
+            left: ANSWER_BYTES,
             is_refused: false,
             words: AnswerWords::new(alloc),
         })

@@ -9,7 +9,7 @@ use std::alloc::{AllocError, Global};
 use std::fmt::Write;
 
 /// The most bytes of a source.
-const MOST_SOURCE: usize = 65_536;
+const SOURCE_BYTES: usize = 65_536;
 
 fn written(alloc: Global, source: &[u8]) -> Result<Vec<u8>, AllocError>
     ensures { IfOk result (λ text. text.items ≡ framed source.now) }
@@ -43,7 +43,7 @@ pub fn source_in(alloc: Global, answer: &[u8]) -> Result<Option<&[u8]>, AllocErr
     let Some((_, source)) = answer[end + 1..].split_last() else {
         return Ok(None);
     };
-    if source.len() > MOST_SOURCE {
+    if source.len() > SOURCE_BYTES {
         return Ok(None);
     }
     let whole = frame(alloc, source)?;

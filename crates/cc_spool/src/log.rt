@@ -17,7 +17,7 @@ use std::fs::File;
 const LOG: &str = "log";
 
 /// How many bytes a file may have, and how many old ones are kept.
-const MOST_BYTES: u64 = 16_777_216;
+const LOG_FILE_BYTES: u64 = 16_777_216;
 
 const MOST_OLD: u32 = 16;
 
@@ -136,7 +136,7 @@ impl Log {
     // Writes bytes after those that are there.
     fn append(&mut self, layout: &FolderLayout, text: &[u8]) -> Result<(), Refusal> {
         let after = self.bytes.saturating_add(text.len() as u64);
-        if self.file.is_none() || MOST_BYTES < after {
+        if self.file.is_none() || LOG_FILE_BYTES < after {
             self.file = None;
             self.file = Some(begin_anew(layout)?);
             self.bytes = 0;

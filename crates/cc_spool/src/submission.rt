@@ -28,7 +28,7 @@ use std::thread;
 use std::time::{Duration, Instant};
 
 /// The most bytes of a script that are sent: one more than a script may have, so that the server sees that it is too long.
-const MOST_BYTES: u64 = 16_777_217;
+const SENT_SCRIPT_BYTES: u64 = 16_777_217;
 
 /// The pauses between two looks for an answer, in microseconds: each is longer by a quarter than the one before.
 const LEAST_PAUSE: u64 = 200;
@@ -152,7 +152,7 @@ fn write_script<S: Read>(
     script: &mut S,
 ) -> Result<Option<Found>, Refusal> {
     write_some(file, begin)?;
-    match copy(script, file, MOST_BYTES) {
+    match copy(script, file, SENT_SCRIPT_BYTES) {
         Ok(_) => {}
         Err(Side::Reader(_)) => return Ok(None),
         Err(Side::Writer(refusal)) => return Err(refusal),

@@ -2,12 +2,13 @@
 use Rattle.std.proofs.Common.{zero, suc, map}
 use Rattle.cc_session.specs.Spooling.{ServingEnds, given_by}
 use Rattle.cc_session.proofs.Chains.{goes_on_by, serves_one_more, serves_still}
-use Rattle.cc_session.proofs.generations.serve_all.Goals as goal
+use Rattle.cc_session.proofs.generations.serve_on_in.Goals as goal
 
 pub returns-then-not-is_well : goal.returns-then-not-is_well
 returns-then-not-is_well g c = record {
   generations = (zero, c.serve_quietly-left.ensures.answers);
   over = λ finished. absurd (c.is_well.ensures.not c.if-not-is_well.true finished);
+  still = c.tell_end.ensures;
 }
 
 pub loop-init : goal.loop-init
@@ -44,4 +45,5 @@ returns-then-not-goes_on g c =
         serves_still Ends so_far.0 (map by c.args.spools.items) (map by left.spools.items) (map by now.spools.items) c.args.disk left.disk now.disk left.end now.end looked.spools looked.disk looked.end so_far.1,
       );
       over = looked.over c.if-not-goes_on.true;
+      still = c.tell_end-in-loop.ensures;
     }
