@@ -1,5 +1,5 @@
--- How the generations so far ended; one that was the first ended well.
-use Rattle.std.proofs.Common.{ℕ, map}
+-- How the generations so far ended; one that was the first ended well. Nothing is written.
+use Rattle.std.proofs.Common.{◌≡◌, ℕ, map}
 use Rattle.cc_session.specs.Generations.{ServesOn}
 use Rattle.cc_session.specs.Spooling.{ServingEnds, given_by}
 use Rattle.cc_session.proofs.Chains.{BeginsWell}
@@ -12,3 +12,4 @@ invariant-loop g l =
     (earlier : ℕ)
     × ServesOn (ServingEnds l.mode D) earlier (map by l.fn.spools.items) (map by l.left.spools.items) l.fn.disk l.left.disk l.left.end
     × BeginsWell earlier l.left.end
+    × (g.W.Write.contents l.writer ≡ g.W.Write.contents l.initial.writer)

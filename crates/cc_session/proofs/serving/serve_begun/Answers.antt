@@ -1,12 +1,12 @@
 -- Why no service was opened; an honest disk was read at most, and no spool was asked. Or it was opened, and each client did what its spool gave, in threads
 -- that share the service and the meter; at 30 none did anything.
 use denote.Param.Send.{sendable}
-use Rattle.std.proofs.Common.{◌≡◌, ◌∙◌, ℕ, ap, arith, inr, length, map, refl, rules, subst, sym}
+use Rattle.std.proofs.Common.{◌≡◌, ◌∙◌, ℕ, ap, arith, get_or, inr, length, map, refl, rules, subst, sym}
 use Rattle.std.proofs.Crossing.{crosses}
 use Rattle.cc_service.proofs.Sharing.{service_sync}
 use Rattle.cc_service.specs.Client.{members}
 use Rattle.cc_session.specs.Session.{HasEnded}
-use Rattle.cc_session.specs.Spooling.{HaveServed, given_by}
+use Rattle.cc_session.specs.Spooling.{HasDone, HaveServed, given_by}
 use Rattle.cc_session.specs.declared.end.SessionEnd.{SessionEnd}
 use Rattle.cc_session.proofs.Ends.{not_over, reads_back, recovers_base, unserved_by}
 use Rattle.cc_session.proofs.Sharing.{meter_sync}
@@ -21,8 +21,8 @@ for_each_mut-requires-sync-F g c κs within =
     let d = c.type_bounds.send-D in
     search (sendable, crosses, service_sync, meter_sync) depth 40 fits 40000
 
-pub returns-in-Ok-Ok : goal.returns-in-Ok-Ok
-returns-in-Ok-Ok g c =
+pub returns-in-Ok-staff : goal.returns-in-Ok-staff
+returns-in-Ok-staff g c =
     let D = g.D.Disk in
     let N = g.N.Based in
     let by = given_by g.S.Spool.taken g.S.Spool.ended in
@@ -32,7 +32,12 @@ returns-in-Ok-Ok g c =
     let before = map by c.args.spools.items in
     let olds = c.staff.new.room.posts in
     let news = c.for_each_mut.new.s in
-    let each : Each c.args.mode (λ p. by p.spool) (λ p. p.client.member) c.as_mut_slice.result.now news = search rules in
+    let were = c.as_mut_slice.result.now in
+    let each : Each c.args.mode (λ p. by p.spool) (λ p. p.client.member) were news = λ i d within.
+    let it = (c.for_each_mut.ensures i d within).1 in
+    let done : HasDone c.args.mode (by it.argument.now.spool) it.argument.now.client.member (by it.after_call.now.spool) it.after_call.now.client.member = search rules in
+    subst (λ p. HasDone c.args.mode (by (get_or were i d).spool) (get_or were i d).client.member (by p.spool) p.client.member) it.left
+    (subst (λ p. HasDone c.args.mode (by p.spool) p.client.member (by it.after_call.now.spool) it.after_call.now.client.member) it.argument_is done) in
     let all = have_done_by c.args.mode (λ p. p.spool) (λ p. p.client) by (λ c. c.member) olds.items news _ c.args.spools.items worked.spools.items worked.clients.items
     olds.len c.in-Ok-staff.ensures.paired (omega (arith, c.for_each_mut.auto.s, c.as_mut_slice.ensures.len))
     (sym (ap (λ l. length l) c.as_mut_slice.ensures.value) ∙ c.as_mut_slice.ensures.len) c.in-Ok-staff.ensures.fresh
@@ -44,22 +49,22 @@ returns-in-Ok-Ok g c =
     (subst (λ (n : ℕ). HasEnded D n (D.seen library.disk) N.from N.left (HaveServed c.args.mode before (map by left.spools.items)) left.end left.disk) c.requires.failures
     (members worked.clients.items, worked.end, these, c.end_service.ensures.ended (D.seen library.disk) (recovers_base D N.base library c.requires.recovered c.requires.named)))
 
-pub returns-in-Ok-Err : goal.returns-in-Ok-Err
-returns-in-Ok-Err g c =
+pub returns-in-Ok : goal.returns-in-Ok
+returns-in-Ok g c =
     let D = g.D.Disk in
     let N = g.N.Based in
     let by = given_by g.S.Spool.taken g.S.Spool.ended in
     let library = c.args.begun.library in
     let worked = c.unhired-worked.result in
-    let left = c.end_service-in-Err.result in
+    let left = c.end_service-in-Err-staff.result in
     let before = map by c.args.spools.items in
-    let back = ap (λ v. map by v.items) (c.end_service-in-Err.ensures.spools ∙ (c.unhired-worked.ensures.spools ∙ c.in-Err-staff.ensures.back)) in
+    let back = ap (λ v. map by v.items) (c.end_service-in-Err-staff.ensures.spools ∙ (c.unhired-worked.ensures.spools ∙ c.in-Err-staff.ensures.back)) in
     let none = none_of (λ c. c.member) c.staff.new.room.clients.items c.in-Err-staff.ensures.unused in
     let unused = subst (λ clients. HaveServed c.args.mode before (map by left.spools.items) (members clients.items) worked.end) (sym c.unhired-worked.ensures.clients)
     (subst (λ (e : SessionEnd). HaveServed c.args.mode before (map by left.spools.items) (members c.staff.new.room.clients.items) e) (sym c.unhired-worked.ensures.end) (refl, back, none)) in
     inr
     (subst (λ (n : ℕ). HasEnded D n (D.seen library.disk) N.from N.left (HaveServed c.args.mode before (map by left.spools.items)) left.end left.disk) c.requires.failures
-    (members worked.clients.items, worked.end, unused, c.end_service-in-Err.ensures.ended (D.seen library.disk) (recovers_base D N.base library c.requires.recovered c.requires.named)))
+    (members worked.clients.items, worked.end, unused, c.end_service-in-Err-staff.ensures.ended (D.seen library.disk) (recovers_base D N.base library c.requires.recovered c.requires.named)))
 
 pub returns : goal.returns
 returns g c =
