@@ -1,5 +1,5 @@
 #!/usr/bin/env python3
-"""The repository's own rules, to which .ci/run holds it before any proof.
+"""The repository's own rules, which .ci/run checks before any proof.
 
     tools/rules              every rule: says what breaks one, and ends with 1 if something does
     tools/rules RULE         this one
@@ -73,7 +73,7 @@ LONG = f"\nfn planted() -> u32\n    ensures {{ result ≡ {' + '.join(['1'] * 40
 # Words that docs/STYLE.md advises against, more often than any page has them.
 MANY = 400
 PRIVATE = "It stands behind.\n" * MANY
-# A word that no source has, this one among them.
+# A word that no source has, not even this one.
 NOWHERE = "planted" + "nowhere"
 
 

@@ -252,7 +252,7 @@ fn checked_images(rt: HostRuntime) -> Result<(), Fail> {
     each_passes(rt.alloc(), CHECKED.as_slice(), asks_for_checked)
 }
 
-// Refused with status 2, the text on standard error.
+// Whether a command line is refused with status 2, and the text goes to standard error.
 fn is_refused(alloc: Global, words: &'static [&'static str]) -> bool {
     match line(alloc, words) {
         Ok(task) => {
@@ -267,7 +267,7 @@ fn is_refused(alloc: Global, words: &'static [&'static str]) -> bool {
     }
 }
 
-/// Whether each of these command lines is.
+/// Whether each of these command lines is refused.
 pub fn are_refused(alloc: Global, lists: &[&'static [&'static str]]) -> bool {
     let mut right = true;
     for words in lists {
@@ -371,7 +371,7 @@ static PRINTED: [(&[&str], &str); 12] = [
     (&["cclib", "stages", "--help"], "cclib stages main <"),
 ];
 
-/// What a command line prints that asks for nothing to be done, with its exit status.
+/// What is printed for a command line that asks for nothing to be done, with the exit status.
 pub fn printed(alloc: Global, words: &'static [&'static str]) -> Option<(i32, String)> {
     match line(alloc, words) {
         Ok(task) => {
@@ -403,7 +403,7 @@ fn printed_texts(rt: HostRuntime) -> Result<(), Fail> {
     each_passes(rt.alloc(), PRINTED.as_slice(), prints)
 }
 
-// What is read if nothing is to be explained; a refusal would be printed.
+// Whether a quiet `check` is read; a refusal would be printed.
 fn reads_quiet_check(rt: &HostRuntime, words: &'static [&'static str]) -> bool {
     match read_or_tell(rt, rt.alloc(), words) {
         Ok(

@@ -1,4 +1,4 @@
--- The unit is one of the prepared text.
+-- The unit was compiled from the prepared text.
 use Rattle.std.proofs.Common.{ℕ, List, refl, subst}
 use Rattle.cc_history.specs.Calls.{Command}
 use Rattle.cc_service.specs.Serving.{Puts}
