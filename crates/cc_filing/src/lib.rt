@@ -1,4 +1,4 @@
-//! The library in a file: what the program does with one without a service.
+//! The library in a file: what the program does with a library without a service.
 //!
 //! `filing` opens the file or makes it, and tells why it is none; `device` says whether a block device in its place may be overwritten;
 //! `taking` prints a part of a unit that it keeps; `folder` takes a server's folder with it, and tells of that; `printing` has buffers for what a
