@@ -1,4 +1,5 @@
-// The command `call`: a unit of the library in a file is run. The file is open until the unit was read, and nothing is written to it.
+// The command `call`: a unit of the library in a file is run. The file is open until the unit has been read, and nothing is
+// written to it.
 
 ghost use Rattle.std.specs.Prelude.{◌≡◌, false, true};
 ghost use Rattle.std.specs.Io.KnownBytes.{Appends};
@@ -87,7 +88,7 @@ fn answer_lines<R: BufRead, W: Write, E: Write>(
     }
 }
 
-// The same. A person who sees standard error, and not the answers, is shown how many lines of them there are.
+// Runs a unit line by line. A person who sees standard error, but not the answers, is shown how many lines of them there are.
 fn answer_lines_seen<R: AllocGlobal + Clock + Copy + Drop, I: BufRead, W: Write + Drop, E: Write>(
     rt: &R,
     files: &HostRuntime,
@@ -111,7 +112,7 @@ fn answer_lines_seen<R: AllocGlobal + Clock + Copy + Drop, I: BufRead, W: Write 
 }
 
 /// Runs a unit of the library in a file on input words, or on the words of each line of standard input. The result is the status.
-/// The error is lack of memory before it began.
+/// The error is lack of memory before the command began.
 pub fn call_in_file<R: AllocGlobal + Clock + Input + Copy + Drop, A: Write + Drop, E: Write + Drop>(
     rt: &R,
     files: &HostRuntime,

@@ -54,7 +54,7 @@ fn explain<E: Write>(fault: DiffFault, left: &str, right: &str, told: &mut E) ->
     told.flush()
 }
 
-// Writes the lines: the status is 0 if there is none, else 1.
+// Writes the lines: the status is 0 if there are none, else 1.
 #[tactic(auto, using(crate::proofs::Settled::settled_text))]
 fn answer<W: Write, E: Write>(lines: &[DiffLine], writer: &mut W, told: &mut E) -> Done
     ensures written { result.is_written ≡ true → Appends (W.contents writer.old) (W.contents writer.new) (diff_text lines.now) }
@@ -68,7 +68,7 @@ fn answer<W: Write, E: Write>(lines: &[DiffLine], writer: &mut W, told: &mut E) 
 }
 
 /// Writes the differences between the libraries in two files. The result is the status: 0 if they hold the same. The error is
-/// lack of memory before it began.
+/// lack of memory before the command began.
 pub fn diff_files<R: AllocGlobal, A: Write + Drop, E: Write + Drop>(
     rt: &R,
     files: &HostRuntime,

@@ -27,7 +27,7 @@ fn commands_of(
     }
 }
 
-// The name that is asked for, if one is.
+// The name that is asked for, if any.
 fn name_of(name: Option<&str>) -> Result<Option<Name>, PartFault> {
     let Some(name) = name else {
         return Ok(None);
@@ -68,7 +68,7 @@ fn tell<W: Write, E: Write>(
 }
 
 /// Writes the commands of the library in a file since its last compaction, or those about one name. The result is the status. The
-/// error is lack of memory before it began.
+/// error is lack of memory before the command began.
 pub fn log_of_file<R: AllocGlobal, A: Write + Drop, E: Write + Drop>(
     rt: &R,
     files: &HostRuntime,

@@ -24,7 +24,7 @@ fn size_of<E: Write>(
     size
 }
 
-// Writes what an image takes, or what an audit says of the unit. The result is the status.
+// Writes what an image takes, or what an audit says about the unit. The result is the status.
 fn answer<W: Write, E: Write>(name: &[u8], size: &StoredSize, writer: &mut W, told: &mut E) -> u8 {
     match size {
         StoredSize::Confirmed(measure) => {
@@ -44,7 +44,7 @@ fn answer<W: Write, E: Write>(name: &[u8], size: &StoredSize, writer: &mut W, to
 }
 
 /// Writes what the image of a unit of the library in a file takes, or the line of an audit that does not confirm it. The result
-/// is the status: 0 if it is confirmed. The error is lack of memory before it began.
+/// is the status: 0 if it is confirmed. The error is lack of memory before the command began.
 pub fn size_in_file<R: AllocGlobal, A: Write + Drop, E: Write + Drop>(
     rt: &R,
     files: &HostRuntime,

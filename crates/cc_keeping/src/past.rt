@@ -35,8 +35,8 @@ fn bytes_of(
     found
 }
 
-/// Writes a part of what the command of this number stored in the library in a file to standard output. The result is the status.
-/// On a terminal control bytes of the source are shown as `?`. The error is lack of memory before it began.
+/// Writes to standard output a part of what the command with this number stored in the library in a file. The result is the
+/// status. On a terminal, control bytes of the source are shown as `?`. The error is lack of memory before the command began.
 pub fn take_out_of_past<R: AllocGlobal + Print, E: Write + Drop>(
     rt: &R,
     files: &HostRuntime,

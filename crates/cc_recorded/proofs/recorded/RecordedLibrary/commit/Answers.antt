@@ -1,5 +1,5 @@
--- Three exits put an entry in: those with a receipt. At each the types of book and client keep what they keep, and the call is recorded,
--- all by `entering`. After the device has failed, the book keeps the change that failed.
+-- Three exits put an entry in: those with a receipt. At each of them `entering` shows that what the types of the book and the
+-- client keep still holds, and that the call is recorded. After the device has failed, the book keeps the change that failed.
 use Rattle.std.proofs.Common.{◌≡◌, ◌+◌, ◌≤◌, false, IsTrue, List, [], ◌∷◌, ◌++◌, length, refl, sym, ap, ◌∙◌, subst}
 use Rattle.cc_disk.specs.Images.{LeavesOnly}
 use Rattle.cc_library.specs.Change.{LibraryCommand}
