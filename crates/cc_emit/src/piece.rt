@@ -27,7 +27,7 @@ pub struct Piece {
     items: Vec<PieceItem>,
 }
 
-// Written by hand, so that crates above call it and need not prove again how each part is dropped.
+// This is written by hand, so that crates above call it and need not prove again how each part is dropped.
 impl Drop for Piece {
     fn drop(self) {
         let Piece {
@@ -102,7 +102,7 @@ impl Piece {
         self.function
     }
 
-    /// The LTL from which its code was made: at most 4,096 blocks, whose run keeps up with the function.
+    /// The LTL from which the code was made. It has at most 4,096 blocks, and its run keeps up with the function.
     pub fn ltl(&self) -> &Ltl
         ensures ltl { result.now ≡ self.now.ltl }
         ensures is_ltl { IsLtl self.now.ltl }
@@ -112,7 +112,7 @@ impl Piece {
         &self.ltl
     }
 
-    /// The number of bytes of its frame: at most 2,032.
+    /// The number of bytes of the frame: at most 2,032.
     pub fn frame(&self) -> u32
         ensures answer { result ≡ self.now.frame }
         ensures small { self.now.frame ≤ largest_frame }
@@ -120,7 +120,7 @@ impl Piece {
         self.frame
     }
 
-    /// The items of its code, one for each word. Each call is of a function of the unit, and each jump goes to an item of the piece or to
+    /// The items of the code, one for each word. Each call is of a function of the unit, and each jump goes to an item of the piece or to
     /// its end. Wherever the items are, the machine does with them what the function does.
     pub fn items(&self) -> &[PieceItem]
         ensures items { result.now ≡ self.now.items }
@@ -129,7 +129,7 @@ impl Piece {
         self.items.as_slice()
     }
 
-    /// The unit's owner.
+    /// Drops the piece and gives back its unit.
     pub fn into_unit(self) -> Arc<TypedUnit>
         ensures answer { arc_value result ≡ self.unit }
     {

@@ -6,19 +6,19 @@ use Rattle.std.specs.Int.{w32, to_le_bytes}
 use Rattle.cc_disk.specs.Images.{IsWritten, DiffersWithin}
 use Rattle.cc_journal.specs.Format.{open_gate, records}
 
--- one commit: the bytes of its first write and the offset from which they go, the offset of the byte that decides, and that byte
+-- one commit: the bytes of its first write and their offset, the offset of the byte that decides, and that byte
 pub record Commit : Type 0 where
   pub offset : ℕ
   pub bytes : List ℕ
   pub deciding_offset : ℕ
   pub deciding_byte : ℕ
 
--- what is after the gate of a record with this body: the body's length as four bytes, the lowest first, the body, and the next
+-- what comes after the gate of a record with this body: the body's length as four bytes, the lowest first, the body, and the next
 -- gate, closed
 abbrev pub behind_gate : List ℕ → List ℕ
 behind_gate body = to_le_bytes w32 (length body) ++ (body ++ 0 ∷ [])
 
--- an append: what is after the gate at that offset, and then that gate, open
+-- an append: first what comes after the gate at that offset is written, and then that gate, open
 abbrev pub append_commit : (gate : ℕ) (body : List ℕ) → Commit
 append_commit gate body = record { offset = gate + 1; bytes = behind_gate body; deciding_offset = gate; deciding_byte = open_gate }
 
@@ -30,7 +30,8 @@ area_begin area_byte area = 16 + area_byte % 2 * area
 abbrev pub other_area : ℕ → ℕ
 other_area area_byte = (area_byte + 1) % 2
 
--- a rewrite: all records and the closed gate after them, at the beginning of the other area, and then the byte of that area
+-- a rewrite: first all records and the closed gate after them are written, at the beginning of the other area, and then the byte
+-- of that area
 abbrev pub rewrite_commit : (area_byte area : ℕ) (bodies : List (List ℕ)) → Commit
 rewrite_commit area_byte area bodies = record {
   offset = area_begin (other_area area_byte) area;
@@ -43,8 +44,8 @@ rewrite_commit area_byte area bodies = record {
 abbrev pub IsCommitted : Commit → (old new : List ℕ) → Type 0
 IsCommitted c old new = (staged : List ℕ) × IsWritten old c.offset c.bytes staged × IsWritten staged c.deciding_offset (c.deciding_byte ∷ []) new
 
--- What a commit that failed left: either all images differ from the old bytes only in the range of the first write, or, from the
--- old bytes with that write done, only in the byte that decides.
+-- What a failed commit left: either all images differ from the old bytes only in the range of the first write; or, after that
+-- write has changed the old bytes, all images differ from the result only in the byte that decides.
 abbrev pub FailsIn : Commit → (old : List ℕ) (images : List ℕ → Type 0) → Type 0
 FailsIn c old images =
     ((image : List ℕ) → images image → DiffersWithin c.offset (length c.bytes) old image)

@@ -54,19 +54,19 @@ pub record HoldsRecords (image : List ℕ) (area : ℕ) (bodies : List (List ℕ
   pub fits : room_of bodies ≤ area
   pub is_area : IsArea (length image) area
 
--- it holds these records in areas of that size, and no others
+-- the image holds these records in areas of that size, and no others
 pub record HoldsAlone (image : List ℕ) (area : ℕ) (bodies : List (List ℕ)) : Type 0 where
   pub holds : HoldsRecords image area bodies
   pub alone : (size : ℕ) (others : List (List ℕ)) → HoldsRecords image size others → (size ≡ area) × (others ≡ bodies)
 
--- every one of these images has these records alone, in an area of that size
+-- every one of these images has exactly these records, in an area of that size
 abbrev pub AllHold : (List ℕ → Type 0) → ℕ → List (List ℕ) → Type 0
 AllHold may_leave area bodies = (image : List ℕ) → may_leave image → HoldsAlone image area bodies
 
--- it holds the one records alone, or the others
+-- the image holds exactly the old records, or exactly the new ones
 abbrev pub HoldsOneOf : ℕ → (old new : List (List ℕ)) → List ℕ → Type 0
 HoldsOneOf area old new image = HoldsAlone image area old ⊎ HoldsAlone image area new
 
--- it holds these records alone, or these with one more alone
+-- the image holds exactly these records, or exactly these and one more
 abbrev pub HoldsOldOrNew : ℕ → List (List ℕ) → List ℕ → List ℕ → Type 0
 HoldsOldOrNew area bodies body image = HoldsAlone image area bodies ⊎ HoldsAlone image area (bodies ++ body ∷ [])

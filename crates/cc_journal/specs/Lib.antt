@@ -4,7 +4,7 @@ pub mod Fault
 pub mod Format
 -- one commit: the bytes, their offsets, and the order in which they are written
 pub mod Commit
--- which body the bytes that are kept of it are
+-- the body that is in the bytes kept for it
 pub mod Body
 -- what contracts see of a journal, and what its type keeps
 pub mod Journal

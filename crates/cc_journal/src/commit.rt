@@ -49,8 +49,8 @@ impl Commit {
         Ok(Commit::behind(gate, framed(alloc, body)?))
     }
 
-    // The same for a body that is handed over, and that can be taken out of it again. If the body has what is around it, it takes
-    // no memory.
+    // Makes the same commit for a body that is handed over; the body can be taken out of the commit again. If it already has what
+    // is around it in a record, this takes no memory.
     pub(crate) fn of_body(alloc: Global, gate: usize, body: Body) -> Result<Commit, AllocError>
         requires short { length body < 2 ^ 32 }
         requires fits { gate + 1 < 2 ^ 64 }
@@ -72,7 +72,7 @@ impl Commit {
         }
     }
 
-    // The body of the record that it puts, if it is an append.
+    // The body of the record that the commit puts, if it is an append.
     pub(crate) fn into_body(self) -> Body
         requires { (gate : ℕ) × (body : List ℕ) × (length body < 2 ^ 32) × (self ≡ append_commit gate body) }
         ensures { (gate : ℕ) (body : List ℕ) → self ≡ append_commit gate body → result ≡ body }
@@ -105,14 +105,14 @@ impl Commit {
         })
     }
 
-    /// The offset of its first write.
+    /// The offset of the first write.
     pub fn offset(&self) -> usize
         ensures { result ≡ self.now.offset }
     {
         self.offset
     }
 
-    /// The bytes of its first write.
+    /// The bytes of the first write.
     pub fn bytes(&self) -> &[u8]
         ensures { result.now ≡ self.now.bytes }
     {
@@ -142,16 +142,16 @@ pub fn make<D: Disk>(disk: &mut D, commit: &Commit) -> Result<(), DiskFault>
     ensures failures { D.failures disk.new ≡ (if is_ok result then D.failures disk.old else D.failures disk.old + 1) }
     ensures committed { OnOk result (IsTrue D.honest → IsCommitted commit.now (D.seen disk.old) (D.seen disk.new)) }
     ensures alone { OnOk result (IsTrue D.honest → LeavesAlone (D.seen disk.new) (D.may_leave disk.new)) }
-    // The step at which it failed, and how the disk is then.
+    // At which step the commit failed, and what that left on the disk.
     ensures failed { OnErr result (IsTrue D.honest → LeavesAlone (D.seen disk.old) (D.may_leave disk.old) → FailsIn commit.now (D.seen disk.old) (D.may_leave disk.new)) }
     ensures moments { IsTrue D.honest → LeavesAlone (D.seen disk.old) (D.may_leave disk.old)
         → LeavesOnly D.moment D.left_since disk.old disk.new (IsMidCommit commit.now (D.seen disk.old)) }
 {
     // The new bytes are after a closed gate, or in the area that is not in use: a torn write counts for nothing.
     disk.write_at(commit.offset(), commit.bytes())?;
-    // They are settled before the deciding byte is written, so that it never puts torn records in force.
+    // The new bytes are settled before the deciding byte is written, so that this byte never puts torn records in force.
     disk.sync()?;
-    // One byte decides, and torn or not it is the one or the other: the records count from here on, all of them, or none.
+    // One byte decides. Torn or not, it has its old value or its new one: from here on all of the records count, or none.
     disk.write_at(commit.deciding_offset(), &[commit.deciding_byte()])?;
     // The decision is synced before the caller learns of it.
     disk.sync()

@@ -15,12 +15,12 @@ use crate::window::Window;
 use cc_disk::{Disk, DiskFault};
 use std::alloc::Global;
 
-/// The least and the largest size of an area, in bytes.
+/// The smallest and the largest size of an area, in bytes.
 pub const LEAST_AREA: usize = 64;
 
 pub const LARGEST_AREA: usize = 1 << 30;
 
-/// The bytes of a header before the two areas.
+/// The number of bytes of the header, which comes before the two areas.
 pub const HEADER: usize = 16;
 
 /// The records that a disk holds, and their place.
@@ -70,7 +70,7 @@ fn read_header<D: Disk>(disk: &mut D) -> Result<Option<(usize, usize)>, DiskFaul
         return Ok(None);
     }
     let mut bytes = [0u8; 16];
-    // The header alone says where the records are.
+    // Only the header says where the records are.
     disk.read_at(0, &mut bytes)?;
     Ok(parse_header(&bytes, size))
 }
@@ -92,7 +92,7 @@ pub fn is_area(size: usize, area: usize) -> bool
     LEAST_AREA <= area && area <= LARGEST_AREA && HEADER + 2 * area <= size
 }
 
-// Does the same as `read_header` with the first 16 bytes of a disk of that size.
+// Reads the same out of the first 16 bytes of a disk of that size.
 fn parse_header(bytes: &[u8; 16], size: usize) -> Option<(usize, usize)>
     ensures right { IfSome result (λ at. IsArea size at.1 × (at.0 ≤ 16 + at.1) × BeginsWith bytes.now at.0 at.1) }
     ensures wrong { IsNone result → (area_byte area : ℕ) → bytes.now ≡ header area_byte area → IsArea size area → ⊥ }
@@ -152,7 +152,7 @@ fn length_of(bytes: &[u8; 4]) -> u32
     u32::from_le_bytes([bytes[0], bytes[1], bytes[2], bytes[3]])
 }
 
-// The record at that offset, if its gate is open and this many bytes of the area are left from there on.
+// The record at that offset, if its gate is open; `left` bytes of the area are left from there on.
 fn read_record<D: Disk>(
     alloc: Global,
     disk: &mut D,
@@ -186,7 +186,7 @@ fn read_record<D: Disk>(
     if left - 6 < length {
         return Err(JournalFault::Damaged);
     }
-    // The body, as long as it says, within the area.
+    // The body has as many bytes as its length says, all within the area.
     let bytes = window.read(alloc, disk, offset + 5, length)?;
     Ok(Some(Body::new(bytes)))
 }

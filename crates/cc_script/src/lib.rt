@@ -1,8 +1,8 @@
 //! The script of a session: which lines it has, what each asks for, and the sources between them.
 //!
 //! `command` is what a line asks for, in a session's script or in one that is left for a server; `commands` lists what lines may
-//! ask for, for a person; `script` reads lines and sources from a reader; `fault` is why a script or a line of it is refused. It
-//! knows nothing of libraries and services. It exports `command_of`, `ScriptCommand`, `Dialect`, `COMMANDS`, `Script`,
+//! ask for, for a person; `script` reads lines and sources from a reader; `fault` is why a script or a line of it is refused. The
+//! crate knows nothing about libraries and services. It exports `command_of`, `ScriptCommand`, `Dialect`, `COMMANDS`, `Script`,
 //! `NextLine`, `ScriptFault` and the limits.
 #![tactic(auto)]
 

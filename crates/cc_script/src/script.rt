@@ -12,10 +12,10 @@ use std::alloc::Global;
 use std::io::Read;
 use std::marker::Model;
 
-/// The most bytes that a script may have.
+/// A script may have at most this many bytes.
 pub const SCRIPT_BYTES: usize = 16_777_216;
 
-/// The most bytes that a line may have, without its newline.
+/// A line may have at most this many bytes, without its newline.
 pub const LINE_BYTES: usize = 128;
 
 /// How many bytes of a source are kept: one more than a source may have, so that a longer one can be recognized.
@@ -35,15 +35,15 @@ pub enum NextLine {
     End,
 }
 
-/// How far a script has been read. No more is asked of its reader than what is needed here. A clause sees what was read and not
-/// used yet, whether the reader was at its end, and how many bytes more the script may have.
+/// How far a script has been read. Its reader is asked for more only once all that was read has been used. A clause sees what was read
+/// but not used yet, whether the reader was at its end, and how many more bytes the script may have.
 #[derive(Drop)]
 pub struct Script {
     piece: [u8; PIECE_BYTES],
-    // What was read and not used yet lies between these two.
+    // What was read but not used yet lies between these two.
     next: usize,
     end: usize,
-    // How many bytes more the script may have.
+    // How many more bytes the script may have.
     left: usize,
     // Whether the reader was at its end.
     is_over: bool,
@@ -73,16 +73,16 @@ impl Script {
         }
     }
 
-    /// What was read and not used yet: the next bytes of the script, to be looked at before their turn. Nothing is read for it.
+    /// What was read but not used yet: the next bytes of the script, to be looked at before their turn. Nothing is read for this.
     pub fn held(&self) -> &[u8]
         ensures held { result.now ≡ self.now.held }
-        // Whatever the reader is still to give, what is ahead begins with them.
+        // Whatever the reader gives from now on, what is ahead begins with these bytes.
         ensures ahead { (remaining : Option (List ℕ)) → IfSome (ahead_of self.now remaining).rest (λ bytes. (rest : List ℕ) × (bytes ≡ result.now ++ rest)) }
     {
         &self.piece[self.next..self.end]
     }
 
-    /// How many bytes more the script may have: 16,777,216 less those that were used.
+    /// How many more bytes the script may have: 16,777,216 less those that were used.
     pub fn left(&self) -> usize
         ensures { result ≡ self.now.left }
     {
@@ -176,7 +176,7 @@ impl Script {
     /// The source of this many bytes that comes next; if it has more than 65,536, the first 65,537 of them. None if there is no
     /// room for it; it is read in that case too.
     ///
-    /// 51 if the script ends before it does, 52 and 53 as for a line.
+    /// 51 if the script ends before the source does, 52 and 53 as for a line.
     pub fn source<R: Read>(
         &mut self,
         alloc: Global,
@@ -202,7 +202,7 @@ impl Script {
         Ok(if is_kept { Some(source) } else { None })
     }
 
-    /// Whether a source ends here: by a newline, which is skipped, or by the end of the script.
+    /// Whether a source ends here: with a newline, which is skipped, or with the end of the script.
     ///
     /// 52 and 53 as for a line.
     pub fn is_at_line_end<R: Read>(&mut self, reader: &mut R) -> Result<bool, ScriptFault>

@@ -42,7 +42,7 @@ fn write_counts<W: Write>(
     writeln!(writer, " {expected} {source}")
 }
 
-// Writes a line, how many bytes follow it, and these.
+// Writes a line, how many bytes follow it, and these bytes.
 #[tactic(auto, using(cc_answers::proofs::Writing::written_on))]
 fn write_with<W: Write>(line: &str, bytes: &[u8], writer: &mut W) -> io::Result<()>
     ensures { OnOk result (Appends (W.contents writer.old) (W.contents writer.new) (text_with line.now bytes.now)) }
@@ -51,7 +51,7 @@ fn write_with<W: Write>(line: &str, bytes: &[u8], writer: &mut W) -> io::Result<
     write_piece(bytes, writer)
 }
 
-// Writes a line of an update with the two sources.
+// Writes the line of an update, and its two sources.
 #[tactic(auto, using(cc_answers::proofs::Writing::written_third))]
 fn write_update<W: Write>(
     line: &str,

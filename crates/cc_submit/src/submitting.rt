@@ -37,7 +37,7 @@ pub struct Ended {
     pub came: Option<Submission>,
     /// The status.
     pub status: u8,
-    /// Whether all that was to be printed is printed.
+    /// Whether all that was to be printed was printed.
     pub is_written: bool,
 }
 
@@ -48,13 +48,13 @@ enum Sent<'a> {
     Script,
     // A line that takes no source.
     Line(Vec<u8>),
-    // The same for a line whose answer is a source.
+    // A line that takes no source, and whose answer is a source.
     Fetch(Vec<u8>),
-    // A line with its source, how many bytes come before that, and where the source comes from.
+    // A script of a line and its source, the offset of the source in the script, and where the source comes from.
     Source(Vec<u8>, usize, Origin<'a>),
 }
 
-// Whether a line takes a source, or input words: it becomes a command with a length after it.
+// Whether a line takes a source, or input words: it does if it becomes a command with a length after it.
 fn takes_bytes(alloc: Global, line: &str) -> Result<bool, AllocError>
     ensures { IfOk result (λ takes. takes ≡ has_bytes (asked_of Served (line.now ++ 32 ∷ 48 ∷ []))) }
 {
@@ -69,7 +69,7 @@ fn takes_bytes(alloc: Global, line: &str) -> Result<bool, AllocError>
     })
 }
 
-// Whether a line takes two sources: it becomes a command with two lengths after it.
+// Whether a line takes two sources: it does if it becomes a command with two lengths after it.
 fn takes_two_sources(alloc: Global, line: &str) -> Result<bool, AllocError>
     ensures { IfOk result (λ takes. takes ≡ has_two_sources (asked_of Served (line.now ++ 32 ∷ 48 ∷ 32 ∷ 48 ∷ []))) }
 {
@@ -96,8 +96,8 @@ fn is_whole(line: &str) -> bool
     }
 }
 
-// Whether it is a script from standard input, or a line that is a command, with how many bytes of sources or of input words come after it if it
-// takes them.
+// Whether this is a command: a script from standard input, or a line that is a command once the lengths of the sources or input
+// words that it takes are written after it.
 fn is_command(alloc: Global, line: Option<&str>) -> Result<bool, AllocError>
     ensures { IfOk result (λ is. is ≡ is_command (option_map (λ l. l.now) line.entry)) }
 {
@@ -183,7 +183,7 @@ fn source_after<'a, R: Input>(
     Ok(Sent::Source(script, begin, origin))
 }
 
-// What is sent for a line with the source that is expected, if there is one, and a source.
+// What is sent for a line with the source that is expected and the new one; an error if no expected source is given.
 fn sources_after<'a, R: Input>(
     rt: &R,
     alloc: Global,
@@ -270,7 +270,7 @@ fn send<R: Input, W: Write, E: Write>(
     }
 }
 
-// Writes bytes. The result is whether they are written.
+// Writes bytes. The result is whether they were written.
 fn put<W: Write>(text: &[u8], writer: &mut W) -> bool
     ensures { Says result (W.contents writer.old) (W.contents writer.new) text.now }
 {
@@ -283,7 +283,8 @@ fn put<W: Write>(text: &[u8], writer: &mut W) -> bool
     }
 }
 
-// Explains to a person the fault that an answer reported last: for one with a place in the source, what `check` reports of that.
+// Explains to a person the fault that an answer reported last; if the fault has a place in the source, this is what `check`
+// reports about the source.
 fn explain<R: AllocGlobal, E: Write>(
     rt: &R,
     number: u32,
@@ -311,7 +312,7 @@ fn explain<R: AllocGlobal, E: Write>(
     Ok(())
 }
 
-// Explains to a person what `check` reports of a source.
+// Explains to a person what `check` reports about a source.
 fn explain_source<R: AllocGlobal, E: Write>(
     rt: &R,
     source: &[u8],
@@ -326,8 +327,8 @@ fn explain_source<R: AllocGlobal, E: Write>(
     };
 }
 
-// Writes the line of the fault by which the system refused a call in the folder: 40 if it was memory, else 56. The result is
-// whether it is written.
+// Writes the line for the fault with which the system refused a call in the folder: 40 if memory ran out, else 56. The result is
+// whether the line was written.
 fn refused<W: Write>(why: &io::Error, writer: &mut W) -> bool
     ensures { SaysRefused result (W.contents writer.old) (W.contents writer.new) [] }
 {
@@ -338,7 +339,8 @@ fn refused<W: Write>(why: &io::Error, writer: &mut W) -> bool
     }
 }
 
-// Writes the line of a fault of the folder, and explains why and where the script is. The result is whether the line is written.
+// Writes the line for a fault of the folder, and explains why it came and where the script is. The result is whether the line was
+// written.
 fn folder_fault<W: Write, E: Write>(
     folder: &str,
     why: &io::Error,
@@ -361,7 +363,7 @@ fn folder_fault<W: Write, E: Write>(
     is_written
 }
 
-// The same for an answer that was not read to its end: what was written of it may have ended within a line.
+// Does the same for an answer that was not read to its end: what was written of it may have ended within a line.
 fn cut_short<W: Write, E: Write>(
     folder: &str,
     why: &io::Error,
@@ -376,7 +378,7 @@ fn cut_short<W: Write, E: Write>(
     is_ended && is_written
 }
 
-// Reports that a script was taken back. The result is whether the line is written.
+// Reports that a script was taken back. The result is whether the line was written.
 fn not_taken<W: Write, E: Write>(asked: &Submitter, writer: &mut W, told: &mut E) -> bool
     ensures { Says result (W.contents writer.old) (W.contents writer.new) (codes "fault 58 NotTaken\n") }
 {
@@ -406,7 +408,7 @@ fn status_of(done: &io::Result<Submission>) -> u8
     }
 }
 
-// Writes what became of a script after its answer, and explains it to a person. The result is whether that is written.
+// Writes what became of a script after its answer, and explains it to a person. The result is whether that was written.
 fn tell<R: AllocGlobal, W: Write, E: Write>(
     rt: &R,
     done: &io::Result<Submission>,
@@ -504,7 +506,7 @@ fn finish_well<W: Write, E: Write>(
     }
 }
 
-// Writes the lines of the faults in an answer that was to be a source, and explains the last one to a person.
+// Writes the lines that report faults in an answer that was to be a source, and explains the last one to a person.
 fn finish_fault<R: AllocGlobal, W: Write, E: Write>(
     rt: &R,
     number: u32,
@@ -572,7 +574,7 @@ fn leave<R: AllocGlobal + Input, W: Write, E: Write + Drop>(
     ensures { Prints (is_fetch sent.now) result.came (W.contents writer.old) (W.contents writer.new) result.is_written result.status }
 {
     let wait = asked.wait;
-    // The note that it waits goes to a person who sees it, and not to a file.
+    // The note that the command is waiting goes to a person who sees it, and not to a file.
     told.is_quiet = persons.is_quiet || !persons.is_watched;
     if let Sent::Fetch(_) = sent {
         let mut answer = Vec::new(rt.alloc());
@@ -585,10 +587,11 @@ fn leave<R: AllocGlobal + Input, W: Write, E: Write + Drop>(
     finish(rt, done, asked, sent, writer, told)
 }
 
-/// Leaves a script for the server of a folder, and writes its answer. The result is what came of it and the status: 0 if an
-/// answer came, was written whole and reports no fault, 2 if the line is no command, else 1. If the answer is a source, its bytes
-/// alone are written. The source of a line that takes one is in the texts, or on standard input; the source that an update
-/// expects is given, or else is one that can't be read. The error is lack of memory before it began.
+/// Leaves a script for the server of a folder, and writes its answer. The result is what became of the script, and the status: 0 if an
+/// answer came, was written whole and reports no fault, 2 if the line is no command, else 1. If the answer is a source, only its bytes
+/// are written. The source of a line that takes one is in the texts, or on standard input; the source that an update expects is
+/// `expected`, and if none is given, the answer is as for a source that can't be read. The only error is that memory ran out before
+/// the command began.
 pub fn submit_to<R: AllocGlobal + Input, W: Write, E: Write + Drop>(
     rt: &R,
     layout: &FolderLayout,
@@ -638,7 +641,7 @@ pub fn submit_to<R: AllocGlobal + Input, W: Write, E: Write + Drop>(
 
 /// Leaves a script for the server of a folder, and prints its answer, as `submit_to` does. The result is the status. The source
 /// of a line that takes one is in the files of these names, or on standard input if there are none. If a person sees the answer,
-/// control bytes of it are shown as `?`. The error is lack of memory before it began.
+/// control bytes of it are shown as `?`. The only error is that memory ran out before the command began.
 pub fn submit_script<R: AllocGlobal + Input, A: Write + Drop, E: Write + Drop>(
     rt: &R,
     files: &HostRuntime,

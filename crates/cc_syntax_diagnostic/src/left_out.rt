@@ -1,6 +1,6 @@
 // What this C leaves out of C99, and words of other languages: what to say about each, and what to write instead.
 //
-// Each table is searched once, by spelling. Its words are written after a colon.
+// Each table is searched once, by spelling. What it says about a spelling is written after a colon.
 
 /// A spelling, and what to say about it.
 pub type Entry = (&'static str, &'static str);

@@ -1,4 +1,4 @@
-// A work whose answers and explanations are printed as JSON.
+// Work whose answers and explanations are printed as JSON.
 
 ghost use Rattle.cc_command_line.specs.Work.{IsAllowed};
 
@@ -24,7 +24,7 @@ fn named(alloc: Global, names: Vec<String>) -> Result<Vec<String>, AllocError> {
     Ok(names)
 }
 
-// Does a task; the error is lack of memory before it began.
+// Performs a task; the only error is that memory ran out before it began.
 fn start<R: AllocGlobal + Input + Print>(
     rt: &R,
     files: &HostRuntime,

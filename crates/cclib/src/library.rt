@@ -14,7 +14,7 @@ use std::rt::Clock;
 use std::sync::Wait;
 use std::thread::Threads;
 
-// Shows a person how far a long `add` is: the workers pass it before each function.
+// Shows a person how far a long `add` has come: the workers pass this gate before each function.
 #[derive(Drop)]
 struct Progress<R> {
     rt: R,
@@ -39,13 +39,13 @@ fn status(end: SessionEnd) -> u8 {
     }
 }
 
-// Whether answers go to a place where nobody sees how far they are.
+// Whether nobody sees how far the answers have come.
 fn is_out_of_sight(files: &HostRuntime) -> bool {
     !files.stdout().is_terminal()
 }
 
-/// Does the script on standard input over the library in a file. The result is the status. The error is lack of memory before it
-/// began.
+/// Runs the script on standard input over the library in a file. The result is the status. The only error is that memory ran out
+/// before this began.
 pub fn library_session<R, A: Write + Drop, E: Write + Drop>(
     rt: &R,
     files: &HostRuntime,

@@ -1,9 +1,9 @@
-//! The program `cclib`: reads a C program from standard input or from files, and checks, interprets, runs or lists it, or does a
-//! script over a library. `cc_command_line` reads the command line, `cc_tasks` does a task, `cc_session` a script. `cc_filing`
-//! has the file of a library and what is taken out of one, `cc_keeping` what looks into libraries, `cc_submit` a server's client,
-//! `cc_json` what is printed as JSON, `cc_cover` a run that is watched. `keeping` looks into libraries, `library` has a session
-//! over a file, `serving` a server, `stack` what the stack needs, `texts` a program that comes in files, `in_json` does a work in
-//! JSON, `watching` runs that are watched, `version` names the sources of the program.
+//! The program `cclib`: reads a C program from standard input or from files, and checks, interprets, runs or lists it, or runs a
+//! script over a library. `cc_command_line` reads the command line, `cc_tasks` performs a task, `cc_session` runs a script.
+//! `cc_filing` has the file of a library and what is taken out of one, `cc_keeping` what looks into libraries, `cc_submit` a
+//! server's client, `cc_json` what is printed as JSON, `cc_cover` a run that is watched. `keeping` looks into libraries,
+//! `library` has a session over a file, `serving` a server, `stack` what the stack needs, `texts` a program that comes in files,
+//! `in_json` does work in JSON, `watching` runs that are watched, `version` names the sources of the program.
 #![tactic(auto)]
 
 mod in_json;
@@ -43,9 +43,9 @@ use watching::{start_cover, start_trace};
 
 /// Does what the command line asks; the status is 0 for an answer, 1 for a fault, 2 for a refused command line.
 ///
-/// Standard input, output and error that are closed are taken before any file is opened, until the end. Otherwise the file of a
-/// library would get the descriptor of one, and what is printed would go into it. If they can't be taken nothing is done, and the
-/// status is 1.
+/// If standard input, output or error is closed, its descriptor is taken before any file is opened, and kept until the end.
+/// Otherwise the file of a library would get that descriptor, and what is printed would go into the file. If a descriptor can't
+/// be taken, nothing is done, and the status is 1.
 fn main(rt: HostRuntime) -> ExitCode {
     let Ok(stand_ins) = take_free(&mut System { rt }) else {
         return ExitCode::from(1);
@@ -119,7 +119,7 @@ fn read_request<R: AllocGlobal + Env + Eprint + Print>(
     }
 }
 
-// Does a task; the error is lack of memory before it began.
+// Performs a task; the only error is that memory ran out before it began.
 fn start<R: AllocGlobal + Input + Print, E: Write + Drop>(
     rt: &R,
     files: &HostRuntime,
@@ -144,7 +144,7 @@ fn start<R: AllocGlobal + Input + Print, E: Write + Drop>(
     Ok(done.status)
 }
 
-// Shows what the compiler makes of a text; the error is lack of memory before it began.
+// Shows what the compiler makes of a text; the only error is that memory ran out before this began.
 fn start_stages<R: AllocGlobal + Input + Print, E: Write + Drop>(
     rt: &R,
     files: &HostRuntime,
@@ -167,7 +167,7 @@ fn start_stages<R: AllocGlobal + Input + Print, E: Write + Drop>(
     status
 }
 
-// The same for the text on standard input.
+// Does the same for the text on standard input.
 fn start_stages_of_input<R: AllocGlobal + Input + Print, E: Write + Drop>(
     rt: &R,
     kind: Kind,
@@ -184,7 +184,7 @@ fn start_stages_of_input<R: AllocGlobal + Input + Print, E: Write + Drop>(
     })
 }
 
-// The status if there is no work; the error is lack of memory.
+// The status if there is no work; the only error is that memory ran out.
 fn status_of<R: Print>(rt: &R, files: &HostRuntime, nothing: NoRequest) -> Result<u8, AllocError> {
     match nothing {
         NoRequest::Told(status) => Ok(status),
@@ -193,13 +193,14 @@ fn status_of<R: Print>(rt: &R, files: &HostRuntime, nothing: NoRequest) -> Resul
     }
 }
 
-// Whether a work may need more of the stack than a process begins with: each but that of a client, which sends texts as they are.
+// Whether work may need more of the stack than a process begins with: all work may, except a client's, which sends texts as they
+// are.
 fn goes_deep(work: &Work) -> bool {
     !matches!(work, Work::Submit(_))
 }
 
-/// Does a work; if its program is in files, these are named. The answers of a work that can be printed as JSON, except a task, go
-/// to `answers`, which a person may see. The rest goes to standard output.
+/// Does work; if its program is in files, they are named. The answers of work that can be printed as JSON, except a task's, go to
+/// `answers`, which a person may see. The rest goes to standard output.
 pub(crate) fn do_work<R, A: Write + Drop, E: Write + Drop>(
     rt: &R,
     files: &HostRuntime,

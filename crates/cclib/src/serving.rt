@@ -1,4 +1,4 @@
-// The command `serve`: the scripts that others leave in a folder, by many clients at a time, over a library in a file.
+// The command `serve`: the scripts that others leave in a folder, from many clients at a time, over a library in a file.
 
 ghost use Rattle.std.specs.Fmt.{decimal};
 ghost use Rattle.std.specs.Io.KnownBytes.{Appends};
@@ -54,7 +54,7 @@ fn print_served<W: Write>(answered: u64, writer: &mut W) -> io::Result<()>
     writer.flush()
 }
 
-// The same. The result is whether it was printed.
+// Prints the same. The result is whether it was printed.
 fn is_served_printed<W: Write, E: Write>(answered: u64, writer: &mut W, told: &mut E) -> bool
     ensures { result ≡ true → Appends (W.contents writer.old) (W.contents writer.new) (codes "served " ++ decimal answered ++ 10 ∷ []) }
 {
@@ -68,7 +68,7 @@ fn is_served_printed<W: Write, E: Write>(answered: u64, writer: &mut W, told: &m
     }
 }
 
-// Writes how serving ended, if no line of a fault was written. The result is whether all that had to be printed was.
+// Writes how serving ended, if no line for a fault was written. The result is whether all that had to be printed was printed.
 fn write_end<W: Write, E: Write>(
     end: SessionEnd,
     counts: AnswerCounts,
@@ -90,7 +90,7 @@ fn write_end<W: Write, E: Write>(
     }
 }
 
-// The status of a server that ended so.
+// The status of a server that ended this way.
 fn status_of(end: SessionEnd, counts: AnswerCounts, is_printed: bool) -> u8
     ensures well { end ≡ Finished → counts.kept ≡ 0 → counts.has_failed ≡ false → is_printed ≡ true → result ≡ 0 }
     ensures fault { end ≢ Finished → result ≡ 1 }
@@ -130,7 +130,7 @@ fn finish<W: Write, E: Write>(
     let counts = count_all(spools.as_slice());
     drop(spools);
     if !counts.has_failed {
-        // If it can't be removed now, the next start removes it.
+        // If `stop` can't be removed now, the next start removes it.
         let _ = layout.unstop();
     }
     let is_printed = write_end(end, counts, asked.folder.as_str(), writer, told);

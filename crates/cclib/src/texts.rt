@@ -9,7 +9,8 @@ use cc_tasks::{
 use std::alloc::AllocError;
 use std::io::{self, Input, Print, Write};
 
-/// Does a task for the program in these files. The result is the status. The error is lack of memory before it began.
+/// Performs a task for the program in these files. The result is the status. The only error is that memory ran out before it
+/// began.
 pub fn start_texts<R: AllocGlobal + Input + Print, E: Write + Drop>(
     rt: &R,
     files: &HostRuntime,
@@ -42,8 +43,8 @@ pub fn start_texts<R: AllocGlobal + Input + Print, E: Write + Drop>(
     Ok(done.status)
 }
 
-/// Shows what the compiler makes of the program in these files. The result is the status. The error is lack of memory before it
-/// began.
+/// Shows what the compiler makes of the program in these files. The result is the status. The only error is that memory ran out
+/// before this began.
 pub fn start_stages_of_texts<R: AllocGlobal + Input + Print, E: Write + Drop>(
     rt: &R,
     files: &HostRuntime,

@@ -9,8 +9,8 @@ use std::alloc::AllocError;
 use std::io::{self, Input, Write};
 use std::rt::Clock;
 
-/// Does `trace` for the program in these files, or on standard input if no file is named. The result is the status. The error is
-/// lack of memory before it began.
+/// Runs `trace` for the program in these files, or on standard input if no file is named. The result is the status. The only
+/// error is that memory ran out before this began.
 pub fn start_trace<R: AllocGlobal + Input, A: Write + Drop, E: Write + Drop>(
     rt: &R,
     files: &HostRuntime,
@@ -29,7 +29,7 @@ pub fn start_trace<R: AllocGlobal + Input, A: Write + Drop, E: Write + Drop>(
     trace_files(rt, files, names, steps, words, last, &mut writer, &mut told)
 }
 
-// Does `cover` for each line of a file. A person who sees standard error is shown how many runs there were.
+// Runs `cover` for each line of a file. A person who sees standard error is shown how many runs there were.
 fn cover_each<R: AllocGlobal + Clock + Input + Copy + Drop, W: Write, E: Write + Drop>(
     rt: &R,
     files: &HostRuntime,
@@ -52,7 +52,7 @@ fn cover_each<R: AllocGlobal + Clock + Input + Copy + Drop, W: Write, E: Write +
     status
 }
 
-/// Does `cover`, in the same way.
+/// Runs `cover`, in the same way.
 pub fn start_cover<R: AllocGlobal + Clock + Input + Copy + Drop, A: Write + Drop, E: Write + Drop>(
     rt: &R,
     files: &HostRuntime,

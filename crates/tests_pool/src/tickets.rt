@@ -1,4 +1,4 @@
-// What comes back of jobs, collected in either order; and that the first refused function is reported.
+// What comes back from jobs, collected in either order; and that the first refused function is reported.
 
 use super::helpers::{ONE, TWO, are_of, repeat, unit};
 use super::trial::{Own, Trial, succeeds};
