@@ -1,8 +1,9 @@
 #!/usr/bin/env bash
-# What a commit costs apart from the device, within one run: commit_in_memory.sh [FOLDER] (this one). COUNT commits (500) of a unit of 16 KiB (8,192 bytes of
-# source and 2,048 words of code): `compact` of a library that has it alone, in a session of `cclib library`, on a file in memory (MEMORY,
-# /dev/shm), divided by as many on a file in FOLDER; ROUNDS times (10), the best of both without a start that does nothing. By the wall clock,
-# since both wait for the device. The first includes what the file in memory takes. The program has to be built (./cclib), or CCLIB names one that is.
+# What a commit costs apart from the device, within one run: commit_in_memory.sh [FOLDER] (this one). COUNT commits (500) of a unit of 16 KiB (8,192
+# bytes of source and 2,048 words of code) are made in a session of `cclib library`: each is a `compact` of a library that has only this unit. The
+# ratio is the time on a file in memory (MEMORY, /dev/shm) / the time on a file in FOLDER: both ROUNDS times (10), the best of each, not counting a
+# start that does nothing. Times are by the wall clock, since both wait for the device. The first includes what the file in memory takes. Build the
+# program first (./cclib), or set CCLIB to a built one.
 set -eu
 # shellcheck source=bench/words.sh
 . "$(dirname "$0")/words.sh"

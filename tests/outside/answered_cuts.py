@@ -1,13 +1,13 @@
 #!/usr/bin/env python3
-"""What a power cut leaves of a server's library: everything that was answered until then. It is checked on images.
+"""Checks on images that a power cut leaves everything in a server's library that was answered before the cut.
 
-answered_cuts.py [--program PROGRAM] [SCRIPTS] [SEED] [FOLDER]: a server with 16 submitters, each of which sends SCRIPTS scripts (12), one
-after the other, with changes of units of its own; answered_cuts.c records each call that changes or syncs the library's file, and each
-answer at the moment at which it is handed over, before a client can read it. Then the power is cut after each call and within each write.
-Of what was not synced, all is lost, all is kept, all is zeros, a piece of it is kept from either end, or each byte is one of these or any
-other (docs/DISK.md). Each image is read here, by docs/FORMATS.md alone. For each submitter it has to have the units that its scripts make
-up to some command, and this command is not before the last one that was answered `ok` until the cut. Every fiftieth image is also opened
-by the program, which has to list the same units. The status is 1 if that is not so."""
+answered_cuts.py [--program PROGRAM] [SCRIPTS] [SEED] [FOLDER]: a server has 16 submitters, each of which sends SCRIPTS scripts (12), one after the
+other, which change units of its own; answered_cuts.c records each call that changes or syncs the library's file, and each answer at the moment at
+which it is handed over, before a client can read it. Then the power is cut after each call and within each write. What was not synced is lost, or
+kept, or becomes zeros, all of it; or a piece of it is kept from either end; or each byte is one of these or any other (docs/DISK.md). Each image is
+read here, by a reader that follows only docs/FORMATS.md. For each submitter the image has to have the units that the submitter's scripts make up to
+some command, and this command must not come before the last one that was answered `ok` until the cut. Every fiftieth image is also opened by the
+program, which has to list the same units. The status is 1 if that is not so."""
 
 import collections
 import os
@@ -47,7 +47,7 @@ class Script:
         return "".join(f"{it[0]} {it[1]} {len(it[2])}\n{it[2]}\n" if len(it) == 3 else " ".join(it) + "\n" for it in self.commands)
 
     def states(self, units, lines):
-        """The units after each command that was done, by its answer."""
+        """The units after each command that was done, as its answer says."""
         if len(lines) != len(self.commands):
             raise serve.Wrong(f"{len(lines)} lines for {self.commands}: {lines}")
         for command, line in zip(self.commands, lines):
@@ -94,11 +94,11 @@ def record(place, count, seed):
         return first, [it.split(" ") for it in file.read().split("\n")[:-1]], told
 
 
-# ---- the library, by docs/FORMATS.md
+# ---- the library, as docs/FORMATS.md describes it
 
 
 class Damaged(serve.Wrong):
-    """Bytes that are no library."""
+    """Bytes that are not a library."""
 
 
 def number_at(data, at):
@@ -123,7 +123,7 @@ def records(image):
 
 
 def units_of(image):
-    """The units of a library: each name's source."""
+    """The units of a library: the source of each name."""
     units = {}
     for body in records(image):
         version, kind, length = body[0], body[1], body[2]
@@ -147,7 +147,7 @@ def units_of(image):
 
 
 def mixtures(old, new, chance):
-    """What the range of writes that were not synced may hold, by the bytes before and after them."""
+    """What the range of writes that were not synced may hold, given the bytes before and after them."""
     count = len(old)
     zeros, noise = bytes(count), chance.randbytes(count)
     some = {chance.randrange(count + 1) for _ in range(2)}
@@ -160,13 +160,13 @@ def mixtures(old, new, chance):
 
 
 def after(state, call):
-    """The file's bytes after a call, and the range that this unsettles."""
+    """The file's bytes after a call, and the range that the call unsettles."""
     at, data = int(call[1]), bytes.fromhex(call[2])
     return state[:at] + data + state[at + len(data) :], range(at, at + len(data))
 
 
 def images(settled, state, unsettled, chance):
-    """What a cut may leave, if the synced bytes were these and the last ones those."""
+    """What a cut may leave, given the synced bytes and the last ones."""
     if not unsettled:
         return {settled}
     begin, end = min(it.start for it in unsettled), max(it.stop for it in unsettled)
@@ -174,7 +174,7 @@ def images(settled, state, unsettled, chance):
 
 
 class Submitter:
-    """What a library has to have of one submitter: the states that its commands make, and how far they are answered."""
+    """What a library has to have for one submitter: the states that its commands make, and how far they were answered."""
 
     def __init__(self, scripts):
         self.states, self.ends, self.answered = [{}], [], 0
@@ -193,7 +193,7 @@ class Submitter:
 
 
 def look(place, image, submitters, is_opened):
-    """Whether an image has what was answered; checked by the program too if that is asked for."""
+    """Whether an image has what was answered; the program checks this too if it is asked to."""
     units = units_of(image)
     own = collections.defaultdict(dict)
     for name, text in units.items():
@@ -210,7 +210,7 @@ def look(place, image, submitters, is_opened):
 
 
 def cut(place, first, calls, submitters, chance):
-    """Cuts the power after each call. Returns how many images there were, by what came before."""
+    """Cuts the power after each call. Returns how many images there were, for each kind of call before the cut."""
     settled = state = first
     unsettled, tried, opened = [], collections.Counter(), 0
     for call in [["begin"], *calls]:

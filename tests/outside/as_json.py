@@ -2,11 +2,11 @@
 """Compares what `--json` prints with what is printed without it.
 
 as_json.py [COUNT] [SEED]: COUNT random texts (1,000), from a seed (1): the programs of tests/outside/compare.py. Three in four have a few bytes or
-tokens left out, doubled or changed, some in two files, some with bytes that are not UTF-8. `check`, `interpret`, `run`, `run --checked`
-and `size` are done for each text with `--json` and without, and for every tenth a script of `library` with it, and then `call`, `diff` and `log` of what that
-keeps. Each line of the first is read by Python's json, and what it says is turned into the lines of the second. Says how many were compared, how
-many objects of each kind there were, and each text whose answers differ; the status is 1 if one does. The program has to be built (./cclib), or
-CCLIB names one that is."""
+tokens left out, doubled or changed; some are in two files, some have bytes that are not UTF-8. `check`, `interpret`, `run`, `run --checked` and
+`size` are done for each text with `--json` and without; for every tenth text a script with it is also run by `library`, and then `call`, `diff` and
+`log` on the library that this leaves. Python's json reads each line of the JSON form, and what the line says is turned into the lines of the plain
+form. Prints how many were compared, how many objects of each kind there were, and each text whose answers differ; the status is 1 if one does. Build
+the program first (./cclib), or set CCLIB to a built one."""
 
 import collections
 import json
@@ -53,7 +53,7 @@ def message(it):
 
 
 def told(it, before=""):
-    """The lines that standard error has of an object."""
+    """The lines on standard error that an object means."""
     if "message" not in it:
         return []
     if "line" not in it:
@@ -126,7 +126,7 @@ def same(words, text, files, kinds):
     if files:
         wanted = [line.replace("A.c, B.c: ", "-: ") for line in wanted]
     if words[0] in ("call", "diff", "log"):
-        # These explain a file in words of their own; a fault has those of its number too.
+        # These explain a file in words of their own; a fault also has the words of its number.
         said = [f"cclib: {message(it)}" for it in objects if it["kind"] == "fault" and "message" in it]
         err = [line for line in err if line not in said or line in wanted]
     if not right or err != wanted:
@@ -144,7 +144,7 @@ def script(text, rng):
 
 
 def library(text, rng, kinds):
-    """How often the forms differ for a script, and for what looks into the library that it left."""
+    """How often the forms differ for a script, and for the commands that look into the library that it left."""
     for disk in ("one.disk", "two.disk"):
         if os.path.exists(disk):
             os.remove(disk)
@@ -156,7 +156,7 @@ def library(text, rng, kinds):
         kinds[it["kind"]] += 1
     out, err = plain(objects)
     wanted = [line for line in lines_of(want.stderr) if is_told(line)]
-    # If two follow one another, JSON has the words in each fault; so has the plain form.
+    # If two faults follow one another, JSON has the words in each; so has the plain form.
     if out != lines_of(want.stdout) or err != wanted or have.stderr or have.returncode != want.returncode:
         print(both, want.stdout, want.stderr.decode(errors="replace"), have.stdout.decode(), out, err, sep="\n")
         wrong += 1

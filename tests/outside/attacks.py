@@ -4,9 +4,9 @@
 attacks.py [NAME..]     tries these attacks, or all, and reports for each `held`, `BROKEN: what was seen`, or `not tried: why`
 attacks.py --list       each name, with what is tried
 
---program PROGRAM takes another program than crates/cclib/out/cclib. Its status is 1 if one is broken. It needs root, for users of its own:
-a server's, a victim, a stranger who has no group in common with them, and a friend in the server's group. All that it makes is in one folder
-below /tmp, which is removed with it."""
+--program PROGRAM takes a program other than crates/cclib/out/cclib. The status is 1 if an attack is `BROKEN`. Root is needed, for users of the
+script's own: a server's, a victim, a stranger who has no group in common with them, and a friend in the server's group. All that the script makes is
+in one folder below /tmp, which is removed at the end."""
 
 import collections
 import ctypes
@@ -44,7 +44,7 @@ class NotTried(Exception):
 
 
 class TooLong(Exception):
-    """An attack took longer than it may."""
+    """An attack took longer than allowed."""
 
 
 def attack(line, limit=120):
@@ -63,17 +63,17 @@ def must(is_right, what):
 
 
 def all_must(wrong):
-    """Nothing of this list may be there."""
+    """Fails if this list has anything in it."""
     must(not wrong, "; ".join(wrong[:6]) + (f"; and {len(wrong) - 6} more" if len(wrong) > 6 else ""))
 
 
 def counted(wrong):
-    """The same, each thing once with how often it was seen."""
+    """The same; each thing is listed once, with how often it was seen."""
     all_must([f"{count} times {what}" for what, count in collections.Counter(wrong).most_common()])
 
 
 def busy():
-    """How many processes wait for each processor, at least 1: what is measured by a clock may take this many times as long."""
+    """How many processes wait for each processor, at least 1: what is measured by the clock may take this many times as long."""
     return max(1.0, os.getloadavg()[0] / os.cpu_count())
 
 
@@ -88,7 +88,7 @@ def become(user):
 
 
 def refusal(user, act):
-    """What a user gets who does that: None if it is done, else the system's name of the refusal."""
+    """What a user gets who does this: None if it is done, otherwise the system's name for the refusal."""
     reader, writer = os.pipe()
     child = os.fork()
     if child == 0:
@@ -110,7 +110,7 @@ def refusal(user, act):
 
 
 def refused(user, acts):
-    """Which of these acts are done, or are refused to a user for another reason than their rights or a name that is taken."""
+    """Which of these acts are done, or are refused to a user for a reason other than their rights or a name that is taken."""
     said = {what: refusal(user, act) for what, act in acts.items()}
     return [f"{what} ({word or 'done'})" for what, word in said.items() if word not in ("EACCES", "EPERM", "EEXIST")]
 
@@ -147,7 +147,7 @@ CREATED, MOVED_TO = 0x100, 0x80
 
 
 class Watch:
-    """The names that appear in a folder, each as soon as it does: by inotify, or by looking again and again if there is none."""
+    """The names that appear in a folder, each as soon as it appears: found with inotify, or by looking again and again if there is no inotify."""
 
     def __init__(self, folder):
         self.folder = folder
@@ -202,7 +202,7 @@ def processes_of(folder):
 
 
 class Place(serve.Place):
-    """A folder with a library and a spool of the server's user. What was started in it ends with it."""
+    """A folder with a library and a spool of the server's user. What was started in it ends when the place does."""
 
     def __init__(self):
         super().__init__(SERVER)
@@ -225,7 +225,7 @@ class Place(serve.Place):
         shutil.rmtree(self.work, ignore_errors=True)
 
     def launch(self, words, user=None, **more):
-        """A process of a user, which is ended with this place."""
+        """Starts a process of a user, which ends when this place does."""
         who = {} if user is None else {"user": user, "group": user, "extra_groups": [TEAM] if user == FRIEND else []}
         process = subprocess.Popen(words, **{"stdout": subprocess.PIPE, "stderr": subprocess.PIPE, "text": True, **who, **more})
         self.started.append(process)
@@ -242,7 +242,7 @@ class Place(serve.Place):
         return other
 
     def serve(self, *options):
-        """A server that takes scripts."""
+        """Starts a server that takes scripts."""
         server = self.start("--format", AREA, *options)
         self.wait_for_server(server)
         return server
@@ -257,7 +257,7 @@ class Place(serve.Place):
         raise Broken("the server does not begin")
 
     def make(self):
-        """Makes library and spool, without a server."""
+        """Makes the library and the spool, without a server."""
         self.stop(self.serve())
 
     def units(self):
@@ -270,7 +270,7 @@ class Place(serve.Place):
         return names
 
     def sending(self, *words, user=VICTIM, **more):
-        """A `submit` that goes on."""
+        """Starts a `submit` that goes on."""
         return self.launch([self.program, "submit", self.spool, *words], user, **{"stdin": subprocess.PIPE, **more})
 
     def wait_for(self, part, count=1, seconds=20):
@@ -284,7 +284,7 @@ class Place(serve.Place):
 
 
 def put_own(place, name, text="list\n"):
-    """A script of one's own, in `tmp`."""
+    """Puts a script of the user's own into `tmp`."""
     path = place.file("tmp", name)
     with open(path, "w") as file:
         file.write(text)
@@ -292,7 +292,7 @@ def put_own(place, name, text="list\n"):
 
 
 def judged(status, text, name, units):
-    """What is wrong with the answer to an `add` of that name."""
+    """What is wrong with the answer to an `add` under that name."""
     is_ok = status == 0 and re.fullmatch(r"ok \d+\n", text)
     lines = text.split("\n")[:-1]
     if is_ok and name in units:
@@ -302,12 +302,12 @@ def judged(status, text, name, units):
     return [f"`{'|'.join(lines)}`, status {status}, and {'it is' if name in units else 'nothing is'} stored"]
 
 
-# ---- 1: answers that somebody else has a hand in
+# ---- 1: answers that somebody else might tamper with
 
 
 @attack("a script is put at new/ID while the victim still writes tmp/ID")
 def forged_slow(place):
-    """A stranger lists `tmp` and has three seconds, since the victim's script is slow, to put a script of theirs at each name that they see.
+    """A stranger lists `tmp` and has three seconds, since the victim's script is slow, to put a script of their own at each name that they see.
     The victim's answer has to be that of its own script, and its unit has to be stored."""
     server = place.serve()
     victim = place.sending()
@@ -328,7 +328,7 @@ def forged_slow(place):
 
 
 def answer_names(place, part, act):
-    """A stranger who does something at each name that appears in a part."""
+    """Lets a stranger do something at each name that appears in a part."""
 
     def watch(say):
         seen = Watch(place.file(part))
@@ -351,7 +351,7 @@ def allowed(act, *words):
 
 
 def add_many(place, count):
-    """What is wrong with this many `submit add`, one after the other."""
+    """What is wrong with this many `submit add`s, one after the other."""
     server = place.serve()
     yield
     done = [(f"race{it}", place.submit("add", f"race{it}", script=UNIT, user=VICTIM)) for it in range(count)]
@@ -361,7 +361,7 @@ def add_many(place, count):
 
 
 def race(place, part, act, count):
-    """The victim adds this many units, while a stranger does something at each name that appears in a part: nothing may come of that."""
+    """The victim adds this many units, while a stranger does something at each name that appears in a part: this must have no effect."""
     adding = add_many(place, count)
     next(adding)
     answer_names(place, part, act)
@@ -370,7 +370,7 @@ def race(place, part, act, count):
 
 @attack("60 plain `submit add`: by inotify a script is put at new/ID as soon as tmp/ID appears")
 def forged_quick(place):
-    """The stranger links a script to `new/ID` for each ID that `tmp` shows. Each victim gets the answer of its own script, and is stored."""
+    """The stranger links a script to `new/ID` for each ID that `tmp` shows. Each victim gets the answer to its own script, and its unit is stored."""
     race(place, "tmp", lambda name, own: allowed(os.link, own.pop(), place.file("new", name)), 60)
 
 
@@ -382,7 +382,7 @@ def withheld(place):
 
 @attack("12 plain `submit add`: a directory is put at new/ID, a file at done/ID, another at cur/ID as soon as tmp/ID appears")
 def withheld_elsewhere(place):
-    """The same with a directory in `new`, and with files in the parts that the server alone may write to."""
+    """The same with a directory in `new`, and with files in the parts to which only the server may write."""
 
     def put(name, own):
         allowed(os.mkdir, place.file("new", name))
@@ -395,8 +395,8 @@ def withheld_elsewhere(place):
 
 @attack("the name that a script has in `new` was never seen in `tmp`, and is not one that can be guessed")
 def names(place):
-    """Whoever sees `tmp` must not know a name in `new` before it is taken: 12 scripts are left without a server, and the names of both
-    parts have none in common. The random part of a name differs each time, and from that of the name in `tmp`."""
+    """Whoever sees `tmp` must not know a name in `new` before it is taken: 12 scripts are left without a server, and no name may be in both parts.
+    The random part of a name differs each time, and differs from that of the name in `tmp`."""
     place.make()
     seen = Watch(place.file("tmp"))
     victims = [place.sending("--wait", "60", "list") for _ in range(12)]
@@ -413,7 +413,7 @@ def names(place):
 
 
 def acts_on(place, part, name, own):
-    """What a stranger could do to a file of another's in `tmp` or `new`."""
+    """What a stranger could do to another user's file in `tmp` or `new`."""
     path, other = place.file(part, name), place.file(part, "other")
     return {
         f"remove {part}/ID": lambda: os.remove(path),
@@ -434,15 +434,15 @@ def acts_on(place, part, name, own):
 
 
 def may_link():
-    """Whether a user may link another's file."""
+    """Whether a user may link to another user's file."""
     with open("/proc/sys/fs/protected_hardlinks") as file:
         return file.read().strip() == "0"
 
 
 @attack("a script that waits in `new`, and one that is being written in `tmp`: the stranger tries each call on it")
 def waiting(place):
-    """Without a server the stranger has any amount of time. Each call is refused, and when a server comes both scripts are done as they
-    were sent."""
+    """Without a server the stranger has any amount of time. Each call is refused, and when a server comes, both scripts are done as they were
+    sent."""
     place.make()
     quick = place.sending("--wait", "90", "add", "quick")
     quick.stdin.write(UNIT)
@@ -471,8 +471,8 @@ def waiting(place):
 
 @attack("40 `submit add`: at each name that appears in `new` the stranger tries to take its place, until it may")
 def claimed(place):
-    """A name is known when it is in `new`. As soon as the server has claimed the script its place is free, and the stranger puts a script
-    there. The victim gets the answer to its own script all the same."""
+    """A name is known when it is in `new`. As soon as the server has claimed the script, its place is free, and the stranger puts a script there. The
+    victim gets the answer to its own script all the same."""
 
     def put(name, own):
         path = place.file("new", name)
@@ -489,7 +489,7 @@ def claimed(place):
 
 @attack("while a script is being done the stranger has a script of its name in `new`; the server is killed, and starts again")
 def claimed_and_killed(place):
-    """The stranger's file under the name of a script that was begun is not that script: the victim's answer is its own lines and 55, and
+    """The stranger's file under the name of a script that was begun is not taken for that script: the victim's answer has its own lines and 55, and
     the stranger's script is not done while the victim's answer is there."""
     server = place.serve()
     slow = serve.SLOW
@@ -517,8 +517,8 @@ def claimed_and_killed(place):
 
 @attack("40 `submit --wait 1 add` while the server is paused for a second; a stranger takes each place in `new` that is free again")
 def taken_back(place):
-    """Whoever gets 58 has nothing stored, then or later, and whoever gets `ok` has its unit. That holds also if the server comes to the
-    script in the moment in which it is taken back, and though the stranger puts a script under its name as soon as that is free."""
+    """Whoever gets 58 has nothing stored, then or later, and whoever gets `ok` has its unit. This holds even if the server comes to the script at the
+    moment at which it is taken back, and even if the stranger puts a script under its name as soon as the name is free."""
     server = place.serve()
     os.kill(server.pid, signal.SIGSTOP)
 
@@ -551,7 +551,7 @@ def taken_back(place):
 
 @attack("what a stranger may do in FOLDER and its parts: leave scripts in `tmp` and `new`, and nothing else")
 def parts(place):
-    """The stranger can reach no part, no `lock`, no `stop`, no `.making-PART`, no `.try-ID` of cur and done, and no answer."""
+    """The stranger has no access to the parts, `lock`, `stop`, `.making-PART`, `.try-ID` of cur and done, or any answer."""
     server = place.serve()
     place.submit("list", user=VICTIM)
     answer = place.file("done", os.listdir(place.file("done"))[0])
@@ -593,8 +593,8 @@ def wrong_server(place, user):
 
 @attack("a stranger starts a server of their own on FOLDER, and a friend on a group's: while the right one works and while none does")
 def other_server(place):
-    """Whoever does not own FOLDER is no server in it: the answer is 56, or 57, nothing in FOLDER has changed, and the right server goes
-    on. That holds for a member of a group's folder too, who may lock its `lock`."""
+    """Whoever does not own FOLDER can't be a server in it: the answer is 56 or 57, nothing in FOLDER has changed, and the right server goes on. This
+    also holds for a member of the group of a group's folder, who may lock its `lock`."""
     wrong = []
     with Place() as group:
         os.mkdir(group.spool)
@@ -613,7 +613,7 @@ def other_server(place):
 
 
 def tree(folder):
-    """What is in a folder: each path with kind, rights, owner and bytes."""
+    """What is in a folder: each path with its kind, rights, owner and bytes."""
     found = {}
     for at, folders, files in os.walk(folder):
         for name in folders + files:
@@ -629,7 +629,7 @@ def tree(folder):
 
 @attack("ten starts of a server, while a stranger takes each name that appears in `new` (.try-ID) and in FOLDER (.making-PART)")
 def start_names(place):
-    """A server tries its folder by a file that passes through `new`, and makes its parts under names that are known before. The stranger
+    """A server tries its folder with a file that passes through `new`, and makes its parts under names that are known beforehand. The stranger
     tries to take, replace and fill each as soon as it appears: the start succeeds, and the parts are the server's with their rights."""
     os.mkdir(place.spool)
     os.chown(place.spool, SERVER, SERVER)
@@ -697,8 +697,8 @@ def made_before(place, kind):
 
 @attack("the stranger has made DISK.new before `serve --format` does, as a file, a link, a FIFO, in a folder like /tmp")
 def disk_new(place):
-    """DISK.new is a name that is known before it is taken. The resulting library belongs to the server's user, and nothing else is
-    overwritten; a refusal (35) is as good."""
+    """The name DISK.new is known before it is taken. The resulting library has to belong to the server's user, and nothing else may be overwritten; a
+    refusal (35) is all right too."""
     wrong = made_before(place, "file")
     for kind in ("link", "pipe"):
         with Place() as other:
@@ -708,7 +708,7 @@ def disk_new(place):
 
 @attack("FOLDER was made by a stranger before the server starts, in a folder like /tmp")
 def folder_before(place):
-    """A folder that is not the server's own is refused (56): nothing is written along a link that the stranger put at a part's name."""
+    """A folder that is not the server's own is refused (56): nothing is written through a link that the stranger put at a part's name."""
     os.chmod(place.work, 0o1777)
     precious = f"{place.work}/precious"
 
@@ -752,9 +752,9 @@ SUM = "int main(void){int i;int s=0;for(i=1;i<=10;i++)s+=i;write_word(s);return 
 # If the library's file is read as a script, this source withdraws units.
 TALKING = "/*\nwithdraw sum\nwithdraw talking\n*/int main(void){return 0;}"
 MADE = "".join(f"add {name} {len(text)}\n{text}\n" for name, text in [("sum", SUM), ("talking", TALKING)])
-# Each command line (DISK and FOLDER are the place's, NEW is a file that is not there), its standard input, and its status with the
-# descriptors of CLOSED closed, in that order. If it has to read from a closed 0 that is 53, and if it has to print to a closed 1 that is
-# 54: status 1. READS and PRINTS: it does both; PRINTS: it only prints; READS: it reads, and prints nothing.
+# Each command line (DISK and FOLDER are the place's, NEW is a file that is not there), its standard input, and its status with the descriptors of
+# CLOSED closed, in that order. If a command has to read from a closed 0 that is 53, and if it has to print to a closed 1 that is 54: status 1. READS
+# and PRINTS: it does both; PRINTS: it only prints; READS: it reads, and prints nothing.
 READS_AND_PRINTS, PRINTS, READS, FAULT, USAGE = "1101111", "0101011", "1001101", "1111111", "2222222"
 TASKS = [
     ("check", SUM, READS_AND_PRINTS),
@@ -818,7 +818,7 @@ def shut(numbers, *more):
 
 
 def run_closed(place, line, numbers, script, user=None, **more):
-    """A command with these descriptors closed."""
+    """Runs a command with these descriptors closed."""
     known = {"DISK": place.disk, "FOLDER": place.spool, "NEW": f"{place.work}/none"}
     words = [place.program, *[known.get(it, it) for it in line.split()]]
     who = {} if user is None else {"user": user, "group": user, "extra_groups": []}
@@ -826,7 +826,7 @@ def run_closed(place, line, numbers, script, user=None, **more):
 
 
 def plain(text):
-    """A text without the numbers of calls."""
+    """The text without the numbers of calls."""
     return re.sub(rb"(?m)^ok \d+$", b"ok N", text)
 
 
@@ -835,7 +835,7 @@ def wrong_end(what, expected, usual, done, numbers):
     wrong = []
     if done.returncode != expected:
         wrong.append(f"{what}: status {done.returncode}, and not {expected}")
-    # A command that is refused anyhow may be so before it reads.
+    # A command that is refused anyway may be refused before it reads.
     reads = "0" in numbers and expected == 1
     texts = [b"fault 53 ReadFault\n"] * reads + [plain(usual.stdout)] * (not reads or usual.returncode != 0)
     if "1" not in numbers and expected != 2 and plain(done.stdout) not in texts:
@@ -844,7 +844,7 @@ def wrong_end(what, expected, usual, done, numbers):
 
 
 def try_closed(make, rows, look, user=None):
-    """Each command with each set of descriptors closed, in a place of its own each time. Returns what is wrong with its end, or
+    """Runs each command with each set of descriptors closed, each time in a place of its own. Returns what is wrong with how it ends, or
     afterwards."""
     wrong = []
     for line, script, statuses in rows:
@@ -876,7 +876,7 @@ class Shelf(Place):
 
 
 def look_at_disk(place, before, after, line):
-    """What is wrong with the files of a place: only the file of a library that the command changes may be another one."""
+    """What is wrong with the files of a place: only the file of a library that the command changes may have changed."""
     may_change = {"units.disk"} if line == "library DISK" else set()
     wrong = [f"{it} has changed" for it in before if before[it] != after.get(it) and it not in may_change]
     wrong += [f"{it} was made" for it in after if it not in before and "NEW --format" not in line]
@@ -893,19 +893,19 @@ def look_at_disk(place, before, after, line):
 
 @attack("check, interpret, run, asm, image, stages, --help, --version, wrong words with 0, 1, 2 closed", 300)
 def closed_tasks(place):
-    """What has to be read from a closed standard input is fault 53, what has to be printed to a closed output 54: status 1."""
+    """To read from a closed standard input is fault 53, and to print to a closed output is 54: status 1."""
     all_must(try_closed(Place, TASKS, lambda place, before, after, line: [f"{it} was made" for it in after if it not in before]))
 
 
 @attack("library, image, source over a library in a file with 0, 1, 2 closed", 300)
 def closed_library(place):
-    """The library's file gets none of the three numbers: all its units are there afterwards, and a command that only reads it leaves each
-    byte as it was. Nor is it read as a script."""
+    """The library's file gets none of the three descriptors: all its units are there afterwards, and a command that only reads it leaves each byte as
+    it was. The file is not read as a script either."""
     all_must(try_closed(Shelf, LIBRARY, look_at_disk))
 
 
 def look_at_spool(place, before, after, line):
-    """What is wrong with a spool after a `submit`: `lock` is empty, nothing waits, and an answer has only lines of one."""
+    """What is wrong with a spool after a `submit`: `lock` has to be empty, nothing may wait, and an answer may have only lines of an answer."""
     wrong = ["lock has bytes"] * (after["spool/lock"][3] != b"")
     wrong += [f"left: {it}" for it in place.left() if not it.startswith("done/")]
     for name in set(after) - set(before):
@@ -936,8 +936,8 @@ def closed_submit(place):
     all_must(try_closed(Served, SUBMIT, look_at_spool, VICTIM))
 
 
-# `serve` reads nothing, and prints one line when it ends: `served N`. If that can't be printed, all that it was started for is done all
-# the same, and the status is 1.
+# `serve` reads nothing, and prints one line when it ends: `served N`. If that can't be printed, all that the server was started for is done all the
+# same, and the status is 1.
 SERVE = {"0": (0,), "1": (1,), "2": (0,), "01": (1,), "02": (0,), "12": (1,), "012": (1,)}
 
 
@@ -955,7 +955,7 @@ def numbers_of(process):
 
 
 def serve_closed(place, numbers, options):
-    """A server with these descriptors closed, from its start to its stop. Returns what is wrong afterwards."""
+    """Runs a server with these descriptors closed, from its start to its stop. Returns what is wrong afterwards."""
     words = [place.program, "serve", place.disk, place.spool, *options]
     server = place.launch(words, SERVER, preexec_fn=shut(numbers), stdin=subprocess.PIPE)
     what = f"`serve {' '.join(options)}` without {','.join(numbers)}"
@@ -989,7 +989,8 @@ def serve_closed(place, numbers, options):
 
 @attack("serve with and without --format, over an old library and a new one, with 0, 1, 2 closed", 600)
 def closed_serve(place):
-    """A server whose outputs are closed writes into no file: `lock` is empty, the library is whole, each answer is one."""
+    """A server whose outputs are closed does not write into a file instead: `lock` is empty, the library is whole, and each answer is a proper
+    one."""
     wrong = []
     for numbers in CLOSED:
         for options in ([], ["--format", AREA]):
@@ -1003,8 +1004,8 @@ def closed_serve(place):
 
 @attack("the same where /dev/null can't be opened, and where hardly any file can be: the library is as it was", 120)
 def closed_for_good(place):
-    """In a folder that is the whole world to the program there is no /dev/null, and under `ulimit -n` no number is left. Whatever the
-    answer, no file gets one of the three numbers and is written to."""
+    """In a folder that is the program's root directory there is no /dev/null, and under `ulimit -n` no descriptor is left. Whatever the answer, no
+    file may get one of the three descriptors and be written to."""
     wrong = []
     for numbers in CLOSED:
         for what, line, narrow in [
@@ -1024,7 +1025,7 @@ def closed_for_good(place):
 
 
 def bring_libraries(place):
-    """Puts what the program is linked with into the place, where the program has that as the whole world."""
+    """Puts the libraries with which the program is linked into the place, for when that is the program's root directory."""
     for path in re.findall(r"(/\S+) \(0x", subprocess.run(["ldd", place.program], capture_output=True, text=True, check=False).stdout):
         os.makedirs(os.path.dirname(f"{place.work}{path}"), exist_ok=True)
         shutil.copy(path, f"{place.work}{path}")
@@ -1039,7 +1040,7 @@ def limit_files(count):
 
 @attack("DISK is made by library and by serve, under umask 022 and umask 0: who else can read it, write it")
 def disk_rights(place):
-    """A new DISK is 0600 whatever the umask: a stranger may neither read the group's sources in it nor write to it."""
+    """A new DISK has the rights 0600 whatever the umask is: a stranger may neither read the group's sources in it nor write to it."""
     wrong = []
     for umask in (0o022, 0):
         for command in ("library", "serve"):
@@ -1060,7 +1061,7 @@ def disk_rights(place):
 
 @attack("an old DISK of 0644, and one of 0666: serve and library say so")
 def disk_reported(place):
-    """What was made before keeps its rights: `serve` and `library` report them, for a person, and `--quiet` turns that off."""
+    """A DISK that was there before keeps its rights: `serve` and `library` report them, for a person, and `--quiet` turns that off."""
     place.make()
     wrong = []
     for rights in (0o644, 0o666, 0o640, 0o600):
@@ -1114,7 +1115,7 @@ def seconds_of(process):
 
 
 def asks(place, server, count):
-    """The median of what a script of another user takes: seconds by the clock, and processor seconds of the server."""
+    """The median time that a script of another user takes: wall-clock seconds, and processor seconds of the server."""
     clock, processor = [], []
     for _ in range(count):
         begin, before = time.time(), seconds_of(server)
@@ -1128,7 +1129,7 @@ def asks(place, server, count):
 
 
 def idles(server, seconds):
-    """The part of a processor that an idle server takes."""
+    """The share of a processor that an idle server takes."""
     before, begin = seconds_of(server), time.time()
     time.sleep(seconds)
     return (seconds_of(server) - before) / (time.time() - begin)
@@ -1162,7 +1163,8 @@ def crowded(place):
 
 @attack("1,000 scripts, and 1,000 more of the same IDs: files made in `cur`, and what an idle server takes", 300)
 def repeated(place):
-    """A second script of an ID waits until the first one's answer is removed. The server sees that before it makes an answer's file."""
+    """A second script with the same ID waits until the answer to the first one is removed. The server sees this before it makes a file for the
+    answer."""
     server = place.serve()
     names = [f"again{it:04d}" for it in range(1000)]
 
@@ -1197,7 +1199,7 @@ BIG = "int a[65536];int main(void){return 0;}"
 
 @attack("a script of 2,000 refused `replace`s of 256 KiB each: 108 KB that take half a GB of a server's memory", 300)
 def history(place):
-    """A script whose own history passes 256 MiB ends by 52 after the line that passed it; the server goes on."""
+    """A script whose own history exceeds 256 MiB ends with 52 after the line that exceeded it; the server goes on."""
     server = place.serve()
     script = f"replace big {len(BIG)}\n{BIG}\n" * 2000
     lines = place.submit("--wait", "200", script=script, user=STRANGER).stdout.split("\n")[:-1]
@@ -1214,8 +1216,8 @@ def history(place):
 
 @attack("eight answers of 16 MiB that nobody fetches, if `done` may have 64 MiB", 400)
 def done_full(place):
-    """With `--done`, nothing more is claimed while answers younger than 600 s alone exceed it, and that is reported once. When they are
-    older, the oldest are removed, and the scripts that wait are done."""
+    """With `--done`, no further script is claimed while the answers younger than 600 s exceed that size by themselves, and this is reported once.
+    When they are older, the oldest are removed, and the scripts that wait are done."""
     server = place.start("--format", AREA, "--done", str(64 << 20), "--clients", "2")
     time.sleep(1)
     must(server.poll() is None, "`serve` knows no option `--done`")
@@ -1257,8 +1259,8 @@ def long_script(name):
 
 @attack("two scripts that run for days on two clients: a third one's wait, and that of `stop`, with --patience 5", 300)
 def patience(place):
-    """While a client is free no script is ended. While a script waits and all clients are busy, one that has been at work for longer than
-    `--patience` ends by 61; so does one while the server is to end."""
+    """While a client is free, no script is ended. While a script waits and all clients are busy, a script that has been at work for longer than
+    `--patience` ends with 61; so does one when the server is to end."""
     server = place.start("--format", AREA, "--patience", "5", "--clients", "2")
     time.sleep(1)
     must(server.poll() is None, "`serve` knows no option `--patience`")
@@ -1294,7 +1296,7 @@ def patience(place):
 
 @attack("a stranger holds `lock` while no server works: `submit --wait 2`")
 def lock_held(place):
-    """Whoever can read `lock` can lock it, and a `submit` that has no `--wait` waits as long. One with it ends after its time."""
+    """Whoever can read `lock` can lock it, and a `submit` without `--wait` waits for as long as that lasts. One with `--wait` ends after its time."""
     place.make()
 
     def hold(say):
@@ -1316,7 +1318,7 @@ def lock_held(place):
 
 @attack("directories in `cur`, as an exchange of a file and a directory in `new` leaves them: a start removes them")
 def directories(place):
-    """A stranger exchanges a file and a directory at `new/ID` again and again, until some were moved into `cur`. One more is put there by
+    """A stranger exchanges a file and a directory at `new/ID` again and again, until some were moved into `cur`. One more directory is put there by
     hand, and one with a file in it, which can't be removed. All are reported, and after the next start the empty ones are gone."""
     server = place.serve()
 
@@ -1390,7 +1392,7 @@ def on_terminal(words, user):
 
 @attack("a unit whose source has escape sequences: `submit source` to a terminal, and to a file")
 def terminal(place):
-    """To a terminal a control byte is shown as `?`; to a file the source is printed to the byte."""
+    """On a terminal a control byte is shown as `?`; to a file the source is printed byte for byte."""
     server = place.serve()
     must(place.submit("add", "odd", script=ODD, user=STRANGER).returncode == 0, "the unit can't be added")
     plain_text = place.submit("source", "odd", user=VICTIM).stdout
@@ -1419,8 +1421,8 @@ def prepared(place, script):
 
 @attack("an operator has prepared a larger library as DISK.new; `serve --format` starts before it is moved")
 def disk_prepared(place):
-    """A DISK.new with a library's name and a record is nobody's left-over: 35, and it keeps its bytes. One without a record, as a killed
-    server leaves it, is a left-over, and the server starts."""
+    """A DISK.new that is a library with a record is not taken for a left-over: the answer is 35, and it keeps its bytes. One without a record, as a
+    killed server leaves it, is a left-over, and the server starts."""
     whole = prepared(place, f"add kept {len(SUM)}\n{SUM}\n")
     server = place.launch([place.program, "serve", place.disk, place.spool, "--format", AREA], SERVER)
     try:
@@ -1442,8 +1444,8 @@ def disk_prepared(place):
 
 
 def limit(process, most=None):
-    """Limits the memory and the threads of a process of the server's that goes on; without a bound, up to what it may have. Only the same
-    user may do it everywhere."""
+    """Limits the memory and the threads of a running process of the server's user; without a bound, sets them to the most that it may have. Only the
+    same user may do this on every system."""
 
     def act():
         for kind in (resource.RLIMIT_AS, resource.RLIMIT_NPROC):
@@ -1457,9 +1459,9 @@ def limit(process, most=None):
 
 @attack("memory and threads are refused to a server between two generations, for two seconds", 200)
 def passing_refusal(place):
-    """A 40 or 41 between two generations that passes is no end: the server tries again, and goes on when there is memory.
+    """A 40 or 41 between two generations that passes does not end the server: it tries again, and goes on when there is memory.
 
-    Its standard error is a pipe that is full, so that it waits as it reports the end of a generation: then its memory is limited."""
+    Its standard error is a full pipe, so that it waits while it reports the end of a generation: then its memory is limited."""
     reader, writer = os.pipe()
     fcntl.fcntl(writer, fcntl.F_SETPIPE_SZ, 4096)
     words = [place.program, "serve", place.disk, place.spool, "--format", AREA]
@@ -1500,7 +1502,7 @@ def passing_refusal(place):
 
 
 def under(place, limits, words, script, user=None):
-    """What a command answers under each of these limits of its memory, in KiB: status and output, once each."""
+    """What a command answers under each of these limits on its memory, in KiB: the status and the output, each pair once."""
     who = {} if user is None else {"user": user, "group": user, "extra_groups": []}
     seen = collections.Counter()
     for most in limits:
@@ -1511,7 +1513,7 @@ def under(place, limits, words, script, user=None):
 
 
 def least(place, words, script, is_well):
-    """The least memory, in KiB to a step of 64, with which a command succeeds."""
+    """The least memory, in KiB and in steps of 64, with which a command succeeds."""
     low, high = 0, 1 << 20
     while high - low > 64:
         most = (low + high) // 2
@@ -1522,7 +1524,7 @@ def least(place, words, script, is_well):
 
 @attack("`submit` under each limit of its memory from none to enough: 40, and not 53 or 56", 400)
 def submit_memory(place):
-    """Memory that is refused to `submit` is 40, whatever it was requested for: nothing of the folder or of the script has failed."""
+    """If memory is refused to `submit`, the answer is 40, whatever the memory was requested for: neither the folder nor the script is to blame."""
     server = place.serve()
     wrong = collections.Counter()
     long = b"/*" + b"x" * 65_000 + b"*/int main(void){return 0;}"
@@ -1538,7 +1540,7 @@ def submit_memory(place):
 
 @attack("`stages` under each limit of its memory from none to enough: the whole text, or 40", 400)
 def stages_memory(place):
-    """If memory is refused, what `stages` prints is no statement on the program: 40, and not "the program has no image"."""
+    """If memory is refused, `stages` must not print a statement about the program: 40, and not "the program has no image"."""
     text = "".join(f"int f{it}(int x){{int y=x*{it};while(y>3)y=y-x;return y;}}" for it in range(60)) + "int main(void){return f3(7);}"
     line = [place.program, "stages", "--quiet", "main"]
     whole = subprocess.run(line, input=text.encode(), capture_output=True, timeout=60)
@@ -1557,7 +1559,7 @@ def stages_memory(place):
 
 
 def by_server(path, text):
-    """A file of the server's, as the server makes them."""
+    """A file of the server's user, made as the server makes them."""
     with open(path, "w") as file:
         file.write(text)
     os.chown(path, SERVER, SERVER)
@@ -1566,8 +1568,8 @@ def by_server(path, text):
 
 @attack("a whole answer in `done`, beside it an empty one in `cur`: what a start makes of the two")
 def answer_replaced(place):
-    """A kill can leave a second client's empty `cur/ID.answer` beside `done/ID`, which was handed over. The answer in `done` stays as it is;
-    both files in `cur` go. Without `done/ID` the script was begun: 55 alone. Another user's file at `done/ID` is no answer."""
+    """A kill can leave a second client's empty `cur/ID.answer` in addition to `done/ID`, which was handed over. The answer in `done` stays as it is;
+    both files in `cur` are removed. Without `done/ID` the script was begun: the answer is only 55. Another user's file at `done/ID` is no answer."""
     place.make()
     whole = "ok 1\n55\nexited 0\n"
     for name in ("both", "alone"):
@@ -1589,7 +1591,7 @@ def answer_replaced(place):
 
 
 def traced(calls, *more):
-    """The words before a command that make strace see these calls of it."""
+    """The words to put before a command so that strace sees these calls of it."""
     if not shutil.which("strace"):
         raise NotTried("there is no strace")
     return ["strace", "-f", "-y", "-qq", "-e", f"trace={calls}", *more]
@@ -1634,15 +1636,14 @@ def killed_late(place):
 
 
 def children(process):
-    """The processes that a process has begun."""
+    """The processes that a process has started."""
     with open(f"/proc/{process.pid}/task/{process.pid}/children") as file:
         return [int(it) for it in file.read().split()]
 
 
 @attack("15 kills of a server under 16 submitters, while a stranger puts scripts and FIFOs at each name that appears", 400)
 def killed(place):
-    """Nothing that was acknowledged is lost, no script is done twice, and the folder has nothing left except what the stranger put
-    there."""
+    """Nothing that was acknowledged is lost, no script is done twice, and nothing is left in the folder except what the stranger put there."""
     place.library("", "--format", str(1 << 26))
     os.chown(place.disk, SERVER, SERVER)
     place.make()
@@ -1669,8 +1670,8 @@ def killed(place):
 
 @attack("`submit` takes its script back, and leaves one: the calls that sync `new`; those of a server's first start", 120)
 def synced(place):
-    """What is given up (58) must not be done after a power cut, and what waits must not be lost: `new` is synced after the link and after
-    the removal. The server syncs FOLDER and its parts when they are made."""
+    """A script that is given up (58) must not be done after a power cut, and a script that waits must not be lost: `new` is synced after the link and
+    after the removal. The server syncs FOLDER and its parts when they are made."""
     calls = "link,linkat,unlink,unlinkat,rename,renameat,renameat2,mkdir,mkdirat,fsync,fdatasync"
     log = f"{place.work}/calls"
 
@@ -1701,7 +1702,7 @@ def synced(place):
 
 @attack("`stop`: one that is older than a start, and one that is made while the server starts")
 def stop_at_start(place):
-    """An old `stop` does not hold up a start. One that is made after the start has made a file counts: the server ends by itself."""
+    """An old `stop` does not hold up a start. One that is made after the start has made a file counts: the server then ends by itself."""
     place.make()
     with open(f"{place.spool}/stop", "w"):
         pass
@@ -1728,7 +1729,7 @@ def stop_at_start(place):
 
 
 def many_names(place, part, count, form, make):
-    """A stranger's process that gives many names of a part to few files, 60,000 each, and stays."""
+    """Starts a process of a stranger that gives a few files many names in a part, 60,000 each, and stays."""
 
     def fill(say):
         for it in range(count):
@@ -1744,7 +1745,7 @@ def many_names(place, part, count, form, make):
 
 
 def waits(place, seconds):
-    """How long a `submit list` of the victim takes, and its answer; it takes its script back after this many seconds."""
+    """How long a `submit list` of the victim takes, and its answer; the victim takes its script back after this many seconds."""
     begin = time.time()
     done = place.submit("--wait", str(seconds), "list", user=VICTIM)
     return time.time() - begin, done.stdout
@@ -1752,8 +1753,8 @@ def waits(place, seconds):
 
 @attack("300,000 FIFOs in `new` and a flow of small scripts whose names come first: a script of another user", 400)
 def starved(place):
-    """Names that can't be claimed hide no script, also if the server claims others meanwhile: each look for the names after those that
-    were kept has to come, and not begin with the first ones again."""
+    """Names that can't be claimed hide no script, even if the server claims others meanwhile: the look at the names after those that were kept has to
+    come, and must not begin with the first ones again."""
     server = place.serve()
     many_names(place, "new", 300_000, "0%07d", os.mkfifo)
 
@@ -1779,12 +1780,12 @@ def starved(place):
 
 
 def fetched(place):
-    """How many KiB the answers in `done` have."""
+    """How many KiB the answers in `done` take."""
     return sum(os.path.getsize(place.file("done", it)) for it in os.listdir(place.file("done"))) >> 10
 
 
 def large_answers(place, count, name, lines=20):
-    """This many scripts of a stranger's, whose answers have 60 KB a line."""
+    """Sends this many scripts of a stranger, whose answers have 60 KB a line."""
 
     def put_all():
         for it in range(count):
@@ -1794,7 +1795,7 @@ def large_answers(place, count, name, lines=20):
 
 
 def serve_little(place, *options):
-    """A server whose `done` may have 1 MiB, and a unit with a large source."""
+    """Starts a server whose `done` may have 1 MiB, and adds a unit with a large source."""
     is_first = not os.path.exists(place.disk)
     server = place.start("--format", AREA, "--done", str(1 << 20), *options)
     if is_first:
@@ -1806,7 +1807,7 @@ def serve_little(place, *options):
 
 @attack("`done` is full, and that was reported; then 300 scripts come, and 64 clients look: how many are taken all the same", 200)
 def done_passed(place):
-    """While the answers that may not be removed yet take more than `--done`, no script is taken, whichever clients look at once."""
+    """While the answers that may not be removed yet take more than `--done` allows, no script is taken, however many clients look at once."""
     server = serve_little(place, "--clients", "64")
     large_answers(place, 2, "a")
     for _ in range(100):
@@ -1836,8 +1837,8 @@ def done_after_start(place):
 
 @attack("FOLDER is a link that a stranger has made, in a folder like /tmp, to a folder of the server's user", 60)
 def folder_link(place):
-    """The server makes no spool along a link of somebody else's: the owner of the link may let it lead to another place, to a folder of
-    theirs."""
+    """The server makes no spool through somebody else's link: the owner of the link could make it lead to another place, such as a folder of their
+    own."""
     os.chmod(place.work, 0o1777)
     home = f"{place.work}/home"
     os.mkdir(home, 0o700)
@@ -1855,8 +1856,8 @@ def folder_link(place):
 
 @attack("FOLDER has 0777: a stranger puts a link at `done`, and a script of the name of a file that the server's user has elsewhere", 60)
 def folder_wide(place):
-    """A folder in which others can replace a part is not served: otherwise the server would write a file with a stranger's name and text
-    in another place."""
+    """A folder in which others can replace a part is not served: otherwise the server would write a file with a stranger's name and text in another
+    place."""
     home = f"{place.work}/home"
     for path in (place.spool, home):
         os.mkdir(path)
@@ -1882,8 +1883,8 @@ def folder_wide(place):
 
 @attack("`done` has 3777 from before: `serve` reports it", 60)
 def done_reported(place):
-    """With that right a stranger puts a directory at an answer's name, and the answer never comes: so a folder with it is wider than
-    0755."""
+    """If others may write to `done`, a stranger can put a directory at an answer's name, and the answer never comes: so `done` with such rights is
+    reported."""
     place.make()
     os.chmod(place.file("done"), 0o3777)
     with open(f"{place.work}/told", "w"):
@@ -1917,7 +1918,7 @@ GONE = [
 
 @attack("the documents beside this script: what an operator has to know, and three sentences that said more than holds")
 def documents(place):
-    """What no program can prevent has its sentence."""
+    """Checks that what no program can prevent has a sentence in the documents."""
     wrong = []
     for name, pattern, what in SENTENCES:
         with open(f"{serve.HERE}/../../{name}") as file:
@@ -1930,17 +1931,17 @@ def documents(place):
     must(not wrong, "; ".join(wrong))
 
 
-# ---- 10: install, ./cclib, ./prove-below, examples/team/team.sh, over a program that takes the place of the proved one
+# ---- 10: install, ./cclib, ./prove-below, examples/team/team.sh, with a program that stands in for the proved one
 
 STAND_IN = "#!/bin/sh\n[ \"$1\" = check ] && cat >/dev/null\necho ok {0}\n"
-# A `mv` that sends a signal to its caller, at its COUNT-th call, when it has moved.
+# A `mv` that sends a signal to its caller after the move, at its COUNT-th call.
 MOVER = """#!/bin/sh
 /bin/mv "$@"; status=$?
 echo x >>"$0.count"
 [ "$(wc -l <"$0.count")" -ne COUNT ] || kill -SIGNAL $PPID
 exit $status
 """
-# What ./cclib sees of the texts and the program, kept as it keeps it.
+# What ./cclib records about the texts and the program, in the form in which it keeps that.
 SEEN = """here=$1 program=$1/crates/cclib/out/cclib
 eval "$(grep '^seen()' "$1/cclib")"
 seen >"$1/crates/cclib/out/rlib/cclib.seen"
@@ -1972,7 +1973,7 @@ class Tree:
         os.makedirs(self.tools)
 
     def build(self, text):
-        """Makes another program, which counts as the one of these texts."""
+        """Makes another program, which counts as the one built from these texts."""
         write(f"{self.top}/crates/cclib/out/cclib", STAND_IN.format(text), 0o755)
         os.makedirs(f"{self.top}/crates/cclib/out/rlib", exist_ok=True)
         subprocess.run(["bash", "-c", SEEN, "bash", os.path.realpath(self.top)], check=True)
@@ -1992,7 +1993,7 @@ class Tree:
 
 @attack("install is interrupted by INT, TERM and HUP at the first, third and last `mv` of it")
 def install_cut(place):
-    """PREFIX is as it was, to the byte, or the new version whole. No file is left over, and the status says which of the two it is."""
+    """PREFIX is as it was, byte for byte, or has the whole new version. No file is left over, and the status says which of the two it is."""
     wrong, seen = [], {}
     here = Tree(place)
     for version in ("one", "two", "one"):
@@ -2035,7 +2036,7 @@ def remove_unreadable(place):
 
 @attack("install --remove after bin/cclib was replaced by another program; install over a bin/cclib that is not ours")
 def install_foreign(place):
-    """What install did not put there is left, and reported; it is not overwritten without a word."""
+    """What install did not put there is left as it is and reported; it is not overwritten silently."""
     here = Tree(place)
     here.install()
     write(f"{here.prefix}/bin/cclib", "#!/bin/sh\necho another program\n", 0o755)
@@ -2063,7 +2064,7 @@ def install_foreign(place):
 
 @attack("install into a PREFIX/bin that others may write to: a link at each cclib.new.PID that may come")
 def install_link(place):
-    """What install writes beside its place is a new file: it overwrites nothing along a link of somebody else's."""
+    """What install writes next to its target is a new file: nothing is overwritten through somebody else's link."""
     here = Tree(place)
     precious = f"{place.work}/precious"
     write(precious, "precious\n")
@@ -2086,7 +2087,7 @@ def install_link(place):
 
 @attack("./cclib and ./install by a symlink, by a link to a link, and by a relative path under CDPATH")
 def links(place):
-    """Both find the tree that they belong to, and start no proof."""
+    """Through links, both find the tree to which they belong, and start no proof."""
     here = Tree(place)
     write(f"{here.tools}/rt", "#!/bin/sh\n", 0o755)
     aside = f"{place.work}/aside"
@@ -2122,7 +2123,7 @@ def links(place):
     all_must(wrong)
 
 
-# A compiler that proves nothing, and makes products that have bytes; and one that links.
+# A compiler that proves nothing, and makes products that are not empty; and a linker.
 PROVER = """#!/usr/bin/env python3
 import os, sys
 crate, made, kit = sys.argv[sys.argv.index("--crate-name") + 1], sys.argv[-1], os.path.dirname(os.path.dirname(os.path.realpath(__file__)))
@@ -2155,7 +2156,7 @@ class Kit:
         write(f"{self.kit}/WHAT", "a kit that proves nothing\n")
 
     def start(self, user=0):
-        """Starts ./prove-below. Returns its end, and which crates it proved."""
+        """Runs ./prove-below. Returns how it ended, and which crates it proved."""
         write(f"{self.kit}/log", "", 0o666)
         environment = {**os.environ, "PATH": f"{self.kit}/bin:{os.environ['PATH']}"}
         who = {} if user == 0 else {"user": user, "group": user, "extra_groups": []}
@@ -2167,7 +2168,7 @@ class Kit:
 
 @attack("./prove-below: each product cut to 0 bytes beside its checksum, as a power cut leaves it")
 def product_cut(place):
-    """A product without a byte does not count: its crate is proved again."""
+    """An empty product does not count: its crate is proved again."""
     kit = Kit(place)
     done, proved = kit.start()
     must(done.returncode == 0 and sorted(proved) == ["cc_tokens", "cc_words", "cclib"], f"the first start: {proved}, {done.stderr[-200:]!r}")
@@ -2185,7 +2186,7 @@ def product_cut(place):
 
 @attack("./prove-below in a folder that its user can't write to")
 def proof_unwritable(place):
-    """It says so in a line, with a status that is not 0, and no traceback."""
+    """./prove-below says in a line that it can't write, with a status that is not 0 and without a traceback."""
     kit = Kit(place)
     done, _ = kit.start(user=STRANGER)
     must("Traceback" not in done.stderr, f"a traceback of {len(done.stderr)} bytes: {done.stderr.strip().splitlines()[-1:]}")
@@ -2195,7 +2196,7 @@ def proof_unwritable(place):
 
 @attack("team.sh FOLDER twice: a unit that somebody has added since; and a FOLDER with a library of somebody's", 200)
 def team(place):
-    """It formats no library that it did not make, and none that has other units: these are there afterwards."""
+    """team.sh formats no library that it did not make, and none that has other units: these are still there afterwards."""
     script = os.path.join(serve.HERE, "../../examples/team/team.sh")
     with_program = {**os.environ, "CCLIB": place.program}
     run = lambda folder: subprocess.run([script, folder], env=with_program, stdin=subprocess.DEVNULL, capture_output=True, text=True, timeout=100)
@@ -2246,7 +2247,7 @@ def try_one(name):
 
 
 def run(chosen):
-    """Tries these. Returns whether all held."""
+    """Tries these attacks. Returns whether all of them held."""
     if os.geteuid() != 0:
         sys.exit("attacks.py: this needs root")
     for user in (SERVER, FRIEND, STRANGER, VICTIM):

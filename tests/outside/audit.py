@@ -1,11 +1,11 @@
 #!/usr/bin/env python3
 """Audits units of random programs from a file: as they were stored, with one byte changed, and as earlier versions wrote them.
 
-audit.py [COUNT] [SEED] [FOLDER]: COUNT of compare.py's programs (500), from a seed (1), twenty in a library, whose file lies in FOLDER (this
-one). Each is compiled and stored, the file is opened again, and every unit has to be confirmed. Then one random byte of each image is
-changed: none may be confirmed. Then one random byte of each certificate: the number of units that are still confirmed is counted, and such a unit has to run
-as before. Last, the records are written as before there were certificates: the file has to have the same units, none with a
-certificate, and each has to run as before. The program has to be built (./cclib), or CCLIB names one that is."""
+audit.py [COUNT] [SEED] [FOLDER]: COUNT of compare.py's programs (500), from a seed (1), twenty in each library, whose file lies in FOLDER (this one).
+Each is compiled and stored, the file is opened again, and every unit has to be confirmed. Then one random byte of each image is changed: no unit may
+be confirmed. Then one random byte of each certificate is changed: the units that are still confirmed are counted, and each of them has to run as
+before. Last, the records are written as they were before there were certificates: the file has to have the same units, none with a certificate, and
+each has to run as before. Build the program first (./cclib), or set CCLIB to a built one."""
 
 import os
 import random
@@ -31,7 +31,7 @@ def session(path, script, *options):
 
 
 def audits(path):
-    """What the audit of a file's units says, by name."""
+    """What the audit of a file's units says about each name."""
     *lines, last = session(path, "audit\n")
     if last != "ok":
         sys.exit(f"audit.py: the audit ended with {last}")
@@ -40,7 +40,7 @@ def audits(path):
 
 
 def runs(path, names):
-    """What the runs of a file's units print, by name."""
+    """What the runs of a file's units print, for each name."""
     found = {}
     for name in names:
         found[name] = session(path, f"run {name} {STEPS}\n")

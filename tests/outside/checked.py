@@ -1,12 +1,11 @@
 #!/usr/bin/env python3
-"""Compares what the interpreter and checked images write, for random programs, many of which go wrong by an index, a division or a shift.
+"""Compares what the interpreter and checked images write, for random programs, many of which go wrong at an index, a division or a shift.
 
-checked.py [COUNT] [SEED] [GCC]: COUNT programs (100), from a seed (1): compare.py's, in which some operations are left without what keeps
-them right. If the source ends, `run --checked` has to write the same words and end alike. If it goes wrong, but not for depth, `run
---checked` has to write those words and go on for 1,000,000,000 instructions. If a function is too large (22) or the source is too deep,
-the program is passed over. For the first GCC (0) of them gcc's program, compiled with its own tests, has to write the same words and end
-alike or by a signal; a program that gcc refuses is passed over there. The program has to be built (./cclib --help), or CCLIB names one
-that is."""
+checked.py [COUNT] [SEED] [GCC]: COUNT programs (100), from a seed (1): those of compare.py, in which some operations lack what guards them. If the
+source ends, `run --checked` has to write the same words and end in the same way. If it goes wrong, but not because of its depth, `run --checked` has
+to write the same words and go on for 1,000,000,000 instructions. If a function is too large (22) or the source is too deep, the program is passed
+over. For the first GCC (0) of them gcc's program, compiled with its own tests, has to write the same words and end in the same way or with a signal;
+a program that gcc refuses is passed over there. Build the program first (./cclib --help), or set CCLIB to a built one."""
 
 import subprocess
 import sys
@@ -49,7 +48,7 @@ class Writer(compare.Writer):
 
 
 def tested_by_gcc(text, words, end, room):
-    """None, or how gcc's program with its own tests differs."""
+    """How gcc's program, compiled with its own tests, differs; None if it does not."""
     with open(f"{room}/program.c", "w", encoding="utf-8") as it:
         it.write(SERVICES + text)
     made = subprocess.run(["gcc", "-std=c99", "-w", "-fwrapv", "-O0", *TESTS, "-o", f"{room}/program", f"{room}/program.c"], check=False, capture_output=True)
@@ -63,7 +62,7 @@ def tested_by_gcc(text, words, end, room):
 
 
 def judged(text, room):
-    """How the source ends: `ended` or why it goes wrong; None if it is passed over; or who differs. With a folder gcc is asked too."""
+    """How the source ends: `ended`, or why it goes wrong; None if it is passed over; or which one differs. If a folder is given, gcc is asked too."""
     lines, _ = compare.lines_of([compare.PROGRAM, "--quiet", "interpret", MOST, *compare.WORDS], text)
     *words, end = lines
     if end in ("wrong Depth", "going"):

@@ -2,11 +2,11 @@
 """Compares what the interpreter, the compiled program and gcc's program write, for random programs whose meaning the standard fixes.
 
 compare.py [COUNT] [SEED]: COUNT programs (100), from a seed (1). The programs have both types, casts, all operators, arrays of words and of bytes, locals,
-functions of up to eight parameters (some may return at once), elements near by, words of the input and all statements but goto; shifts and divisions are
-guarded, and sums wrap (-fwrapv). Every second program has more objects between its own, so that some of these lie beyond the first 4 KiB of
-the globals, or across their end. The words have to be the same, and the word that main returns; gcc gives only the last eight bits of
-that. A program in which an operation goes wrong is passed over, after a check that it is compiled. The program has to be built
-(./cclib --help), or CCLIB names one that is. The text of a program with other words is printed. gcc compiles 25 of them as one text, in which each
+functions of up to eight parameters (some may return at once), elements next to one another, words of the input and all statements except goto; shifts
+and divisions are guarded, and sums wrap (-fwrapv). Every second program has further objects between its own, so that some of these lie beyond the
+first 4 KiB of the globals, or across their end. The words that are written have to be the same, and also the word that main returns; of that, gcc
+gives only the last eight bits. A program in which an operation goes wrong is passed over, after a check that it is compiled. Build the program first
+(./cclib --help), or set CCLIB to a built one. The text of a program whose words differ is printed. gcc compiles 25 of them as one text, in which each
 name at file scope has the program's number."""
 
 import os
@@ -18,7 +18,7 @@ import sys
 import tempfile
 
 PROGRAM = os.environ.get("CCLIB") or os.path.join(os.path.dirname(os.path.abspath(__file__)), "../../crates/cclib/out/cclib")
-# gcc 12 folds -(-2147483648 / (x + 1)) into -2147483648 / ~x, in spite of -fwrapv, and so ends by a signal if x is 0: then clang is asked.
+# gcc 12 folds -(-2147483648 / (x + 1)) into -2147483648 / ~x, in spite of -fwrapv, and so ends with a signal if x is 0: then clang is asked.
 PEERS = ["gcc", *filter(shutil.which, ["clang"])]
 MOST = "1000000000"
 # gcc compiles this many programs at once.
@@ -54,7 +54,7 @@ VARIABLES = "a b c u v w l m n s t o".split()
 
 
 def near(more):
-    """A loop over elements beside one another."""
+    """A loop over elements next to one another."""
     element = lambda by: f"{more.choice('pqre')}[i{more.choice(['', '', by])}]"
     up = more.random() < 0.5
     by = "+1" if up else "-1"
@@ -68,7 +68,7 @@ def called(more):
 
 
 def returning(number, more):
-    """A function that begins with a test, mostly so that one branch of it returns at once."""
+    """A function that begins with a test; in most cases one branch of the test returns at once."""
     test = more.choice(["x", "!x", "x<y", "x>=7", "y==x", "(x&3)==0", "x*2<y", "(int)y<0", "x+5>(int)y"])
     soon = more.choice(["x", "y", "x+1", "3", "y-x", "x^y", "-x", "p[1]", "x*y+1"])
     later = more.choice(["f(x,y)-y", "g(y,x)+x*y", "f(x,y)+g(x,y)+x", "d(x&7,y)+y", "x-y+(x>>3)"])
@@ -151,7 +151,8 @@ class Writer:
         return f"{{int {n}={turns};do{{{s()}{n}--;}}while({n}>0);}}"
 
     def begin(self, seed, more):
-        """The objects and the helpers; of an odd seed with up to 5,000 words between two objects, mostly so few that the 4 KiB end among them."""
+        """The objects and the helpers. For an odd seed there are up to 5,000 words between two objects, mostly so few that the 4 KiB end among the
+        objects."""
         pads = random.Random(-seed)
         lines = BEGIN.splitlines(keepends=True)
         lines[-2:-2] = [returning(it, more) for it in range(3)]
@@ -162,7 +163,7 @@ class Writer:
         return "".join(lines)
 
     def program(self, seed):
-        """Forty statements, between them some with elements near by, and calls of functions that may return at once."""
+        """Forty statements; between them are some with elements next to one another, and calls of functions that may return at once."""
         more = random.Random(f"more of {seed}")
         statements = [self.statement(3) for _ in range(40)]
         for at in range(35, 0, -5):
@@ -222,7 +223,7 @@ def judged(text):
 
 
 def judged_all(texts, room):
-    """For each program how many words all three write, or None if an operation goes wrong, or a text that says who differs."""
+    """For each program how many words all three write, or None if an operation goes wrong, or a text that says which of them differs."""
     found = [judged(it) for it in texts]
     ended = [at for at, it in enumerate(found) if isinstance(it, tuple)]
     theirs = gcc_lines([texts[it] for it in ended], room) if ended else []

@@ -4,12 +4,13 @@
 cuts.py [COUNT [SEED]]    16 submitters leave scripts in a server's folder, and some take theirs back because no server is there. strace records the
                           calls of all. Then COUNT (1,000) states are made that a power cut at a random moment may leave: of each folder's calls those
                           that were synced and some of the next ones in their order, both sides of a rename together; of each file what was
-                          synced and a part of what was written after it; of the library's file any part of what was not synced. In each a
+                          synced and a part of what was written after it; of the library's file any part of what was not synced. In each state a
                           real server starts, does what waits and is stopped.
 
-Then no unit is missing whose script had `ok` printed; none is there whose script was taken back (58); no script was done twice (each adds a unit of its own,
-so a second time would be 31); what waits has an answer or was done; an answer that was in `done` is what it was. It needs strace. It is run by root
-or anybody; CCLIB names another program than this repository's. DROP=new leaves the syncs of that folder out, so that one sees what they are for."""
+Then no unit is missing whose script had `ok` printed; no unit is there whose script was taken back (58); no script was done twice (each adds a unit
+of its own, so the second time would be refused with 31); each script that waited has an answer or was done; an answer that was in `done` is what it
+was. strace is needed. Anybody can run this, root or not; CCLIB names a program other than this repository's. DROP=new leaves out the syncs of that
+folder, to show what they are for."""
 
 import collections
 import os
@@ -31,7 +32,7 @@ BEGUN = re.compile(r"^(\d+) +(\w+)\((.*) <unfinished \.\.\.>$")
 ENDED = re.compile(r"^(\d+) +<\.\.\. (\w+) resumed>(.*)\) += (-?\d+|\?)(.*)$")
 TOKEN = re.compile(r'(\w+)?<((?:\\x[0-9a-f]{2})*)>|"((?:\\x[0-9a-f]{2})*)"')
 
-# What is recorded, by bash under strace.
+# The commands that are recorded; bash runs them under strace.
 DRIVER = """
 give_up() { for i in "$@"; do "$P" submit "$F" --wait 1 add "$i" < "$W/text" > "$W/out/$i" & done; wait; }
 give_up a1 a2 a3
@@ -60,7 +61,7 @@ def plain(text):
 
 
 class Call:
-    """A call: when it began and ended, by lines of the log; its process; its name, the paths of its descriptors, the strings among its
+    """A call: when it began and ended, as line numbers of the log; its process; its name, the paths of its descriptors, the strings among its
     words, and its result."""
 
     def __init__(self, begin, end, process, name, words, result, behind):
@@ -69,7 +70,7 @@ class Call:
         self.behind = TOKEN.findall(behind)
 
     def paths(self):
-        """The paths that it names, in full."""
+        """The full paths that the call names."""
         found, at = [], "/"
         for head, text in self.told:
             if head == "AT_FDCWD":
@@ -99,7 +100,7 @@ def read_log(path):
 
 
 class File:
-    """A file: its rights; what was written, with the end of each write, its offset and its bytes; and its syncs."""
+    """A file: its rights; what was written, with the moment at which each write ended, its offset and its bytes; and its syncs."""
 
     def __init__(self, mode):
         self.mode, self.writes, self.syncs, self.size = mode, [], [], 0
@@ -174,7 +175,7 @@ class Record:
             self.steps[part].append(step)
 
     def cut(self, t, draw):
-        """How many steps of each folder are there after a cut at this moment."""
+        """How many steps of each folder survive a cut at this moment."""
         counts = {part: sum(end <= t for _, end, *_ in self.steps[part]) for part in (*PARTS, ".")}
         low = {part: max((sum(end < begin for _, end, *_ in self.steps[part]) for begin, synced in self.syncs[part] if synced <= t), default=0) for part in counts}
         # Both sides of a rename are there together.
@@ -268,7 +269,7 @@ def record(work):
 
 
 def serve(disk, spool, parts):
-    """A server that does what waits, and is stopped. Returns its status."""
+    """Runs a server that does what waits, and stops it. Returns its status."""
     server = subprocess.Popen([PROGRAM, "serve", disk, spool, "--clients", "4", "--quiet"], stdin=subprocess.DEVNULL, stdout=subprocess.PIPE, stderr=subprocess.STDOUT)
     until = time.monotonic() + 8
     while time.monotonic() < until and server.poll() is None:
@@ -278,7 +279,7 @@ def serve(disk, spool, parts):
     time.sleep(0.05 if parts else 0.5)
     until = time.monotonic() + 20
     while server.poll() is None and time.monotonic() < until:
-        # One that is made while the server starts may be taken for an old one.
+        # A `stop` that is made while the server starts may be taken for an old one.
         with open(f"{spool}/stop", "wb"):
             pass
         time.sleep(0.05)
@@ -287,7 +288,7 @@ def serve(disk, spool, parts):
 
 
 def look(seen, t, work, draw):
-    """Makes one state, starts a server in it, and returns what is wrong, and what was looked at."""
+    """Makes one state and starts a server in it. Returns what is wrong, and what was looked at."""
     state = f"{work}/state"
     shutil.rmtree(state, ignore_errors=True)
     os.mkdir(state)

@@ -1,11 +1,10 @@
 #!/usr/bin/env python3
-"""A library on a block device: what --format refuses, and 100 kills. It takes root and losetup.
+"""A library on a block device: what --format refuses, and 100 kills. Root and losetup are needed.
 
-device.py [KILLS] [FOLDER] [SEED]: a loop device over a file in that folder (this one). It checks each refusal of --format: of a
-device with something else on it, with a file system, mounted, swapped on, too small, open in another process; each time the device is
-looked at afterwards, and has to be as before. Then the library is made, filled by 1,000 adds, the process that adds is killed KILLS
-(100) times, as kills.py does, the library is compacted, and opened again. The program is `cclib library`; CCLIB names one that is built
-elsewhere."""
+device.py [KILLS] [FOLDER] [SEED]: uses a loop device over a file in FOLDER (this one). It checks each refusal of --format: of a device that has
+something else on it, has a file system, is mounted, is used for swapping, is too small, or is open in another process; each time the device is looked
+at afterwards, and has to be as before. Then the library is made and filled by 1,000 adds; the process that adds is killed KILLS (100) times, as in
+kills.py; and the library is compacted and opened again. The program is `cclib library`; CCLIB names one that is built elsewhere."""
 
 import hashlib
 import os

@@ -1,15 +1,14 @@
 #!/usr/bin/env python3
 """Refuses once each system call that a server and `submit` make in the folder, and each allocation of a server.
 
-fails.py [--program PROGRAM] server|submit|memory [FIRST [LAST [STEP]]]: fail.c refuses the call with that number (from FIRST, 1, to LAST,
-or until a run made fewer calls), each with EIO, ENOSPC and EINTR, and with EIO though it was done, as over a network whose answer is
-lost. In the run of a server it takes a folder that a killed one left, with a script that was begun, one that was answered and one that
-waits, does scripts of two `submit`s, and is stopped; in that of `submit` the server is left alone. Then another server does what is left.
-Nothing may hang: a server ends within twenty seconds of `stop`, a `submit` within a minute. No unit that was answered `ok` may be lost,
-and no unit may be there whose script was not done (56 without a name, 58). Each status and each fault has to be one that docs/SERVICE.md
-has; in the end nothing may be left in `new` and `cur`. The status is 1 if that is not so. With `memory` the run is that of a server, and
-refuse.c refuses the allocation with that number, in whichever thread it comes; 40 and 41 are answers then, and nothing of their calls is
-done."""
+fails.py [--program PROGRAM] server|submit|memory [FIRST [LAST [STEP]]]: fail.c refuses one call in each run (the numbers go from FIRST, 1, to LAST,
+or until a run makes fewer calls), with EIO, ENOSPC and EINTR, and with EIO although it was done, as over a network whose answer is lost. In a run of
+`server`, a server takes a folder that a killed one left, with a script that was begun, one that was answered and one that waits; it does scripts of
+two `submit`s, and is stopped. In a run of `submit`, no call of the server is refused. Then another server does what is left. Nothing may hang: a
+server ends within twenty seconds of `stop`, a `submit` within a minute. No unit that was answered `ok` may be lost, and no unit may be there whose
+script was not done (56 without a name, 58). Each status and each fault has to be one that docs/SERVICE.md has; in the end nothing may be left in
+`new` and `cur`. The status is 1 if that is not so. With `memory` the run is that of a server, and refuse.c refuses the allocation with that number,
+in whichever thread it comes; 40 and 41 are possible answers then, and nothing of their calls is done."""
 
 import collections
 import concurrent.futures
@@ -70,7 +69,7 @@ class Want:
         self.place.program = self.program
 
     def met(self):
-        """What was refused; the library reports a run that ended before."""
+        """What was refused; the shim reports a run that ended before that allocation."""
         return "allocation" if os.path.exists(self.told) and not os.path.getsize(self.told) else None
 
 
@@ -89,7 +88,7 @@ def look_at_submit(done, name, units):
     last = lines[-1] if lines else ""
     is_named = "was left as" in done.stderr
     if re.fullmatch(r"ok \d+", last):
-        # With a fault after it, if the answer could not be removed or be read on: then its line comes last.
+        # A fault may follow, if the answer could not be removed or could not be read further: then its line comes last.
         serve.must(done.returncode == 0 and is_there, f"{name}: {done}, {sorted(units)}")
         return "ok"
     serve.must(done.returncode == 1 and re.fullmatch(r"fault (4[01]|5[3-8]) \w+|fault 35 DiskFault", last), f"{name}: {done}")
@@ -137,7 +136,7 @@ def clean_up(place):
 
 
 def try_server(place, way):
-    """A server with a call that is refused, and the result."""
+    """Runs a server with one call that is refused, and returns the result."""
     with way:
         server = place.start("--quiet")
     with concurrent.futures.ThreadPoolExecutor() as pool:
@@ -148,7 +147,7 @@ def try_server(place, way):
 
 
 def try_submit(place, way):
-    """A submit with a call that is refused, and the result."""
+    """Runs a submit with one call that is refused, and returns the result."""
     server = place.start("--quiet")
     place.wait_ready()
     with way:

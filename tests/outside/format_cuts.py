@@ -1,15 +1,15 @@
 #!/usr/bin/env python3
-"""Cuts the power in the middle of a --format over a full library, by images, and opens what is left.
+"""Simulates power cuts in the middle of a --format over a full library, with images, and opens what is left.
 
-format_cuts.py [--device] [FOLDER] [SEED]: in that folder (this one), with random images from a seed (1). A library of AREA bytes is
-filled, and formatted anew while calls.c records each call that changes or syncs the file. For each cut between two calls the images are
-made that the cut may leave: of what was not synced, each sector is as before, as a call made it, or all zeros, and the length is one that
-the file had since the sync. Most are not tried: only all of one kind from and up to each sector, one sector of another kind, and random
-mixtures; and for a call that changes a few bytes each mixture of these. Then the program opens each. It prints how often an image is no
-library (38), damaged (37), empty, the old library in each byte, or has a unit otherwise, which must never be: the status is 1 then.
+format_cuts.py [--device] [FOLDER] [SEED]: works in FOLDER (this one), with random images from SEED (1). A library with areas of AREA bytes is filled,
+and formatted again while calls.c records each call that changes or syncs the file. For each cut between two calls, images are made that the cut may
+leave: of what was not synced, each sector is as before, as a call made it, or all zeros, and the length is one that the file had since the sync. Most
+of these are not tried: only images that are all of one kind from each sector on or up to it, those with one sector of another kind, and random
+mixtures; and for a call that changes a few bytes every mixture of these. Then the program opens each. It prints how often an image is no library
+(38), is damaged (37), is empty, is the old library in every byte, or has a unit otherwise, which must never happen: the status is 1 then.
 
-The program is `cclib library`, which has to be built (./cclib), or CCLIB names one that is. With --device the library is on a loop device
-over the file, which takes root."""
+The program is `cclib library`, which has to be built (./cclib), or CCLIB names one that is. With --device the library is on a loop device over the
+file, which requires root."""
 
 import collections
 import os
@@ -61,7 +61,7 @@ class Device:
 
 
 def recorded(store, path, work):
-    """The calls of a --format over that file."""
+    """The recorded calls of a --format over that file."""
     library, told = os.path.join(work, "calls.so"), os.path.join(work, "calls")
     subprocess.run(["gcc", "-O1", "-shared", "-fPIC", "-o", library, os.path.join(HERE, "shims/calls.c"), "-ldl"], check=True)
     done = store.make(path, env={**os.environ, "LD_PRELOAD": library, "CALLS_OF": path, "CALLS_TO": told})

@@ -1,10 +1,10 @@
 #!/usr/bin/env python3
 """Kills a process that adds units to a file, again and again, and checks whether the file has every unit that was acknowledged.
 
-kills.py [COUNT] [FOLDER] [SEED]: COUNT kills (1000), on a file in that folder (this one), from a seed (1). The process is `cclib library`
-with a script of adds, and reports for each unit that its add has answered Ok. It is killed (SIGKILL) at a random moment of its first 50
-milliseconds; then the library has to open, and a script of one `list` has to find all units that were reported and at most one unit more. The file is made
-anew once it is full. The program has to be built (./cclib), or CCLIB names one that is."""
+kills.py [COUNT] [FOLDER] [SEED]: makes COUNT kills (1000), on a file in FOLDER (this one), at random moments from SEED (1). The process is `cclib
+library` with a script of adds, and reports each unit whose add was answered Ok. It is killed (SIGKILL) at a random moment of its first 50
+milliseconds; then the library has to open, and a script of one `list` has to find all units that were reported and at most one unit more. Once the
+file is full, a new one is made. Build the program first (./cclib), or set CCLIB to a built one."""
 
 import os
 import random
@@ -18,7 +18,7 @@ AREA = 1 << 20
 
 
 class Session:
-    """A session of the program over the running service, by a script on standard input."""
+    """A session of the program, with a script on standard input."""
 
     PROGRAM = os.environ.get("CCLIB") or os.path.join(HERE, "../../crates/cclib/out/cclib")
     UNIT = "int f(int x){return x*3;}int main(void){int i;int s=0;for(i=0;i<9;i++)s+=f(i);write_word(s);return s;}"

@@ -1,16 +1,16 @@
 #!/usr/bin/env python3
-"""Compares what `diff`, `copy`, `log`, `source --at` and `restore` say of random libraries with a reader of this script's own.
+"""Compares what `diff`, `copy`, `log`, `source --at` and `restore` say about random libraries with what this script's own reader finds.
 
-libraries.py [--program PROGRAM] random [COUNT [SEED]]: COUNT pairs of libraries (1,000) from a seed (1), written without the program: some of
-either area, with units of both versions, without a certificate and with a wrong one, replaced and withdrawn, empty and full. For each pair: the
-lines of `diff`; of the first one a copy, whole and of some names, into a random area or the least that `copy` names; its `log`, whole and of one
-name; what each command stored; and what `restore` leaves.
-libraries.py cuts [SEED]: a copy that is killed at each of its calls, refused each of them (EIO, and EIO though it was done), and
-killed at 200 moments. Nothing may have the new name, or all of the library; what else is there is a file NEW.N.copy. And what was written is
-synced before the new file gets its name.
-libraries.py calls [COUNT [SEED]]: COUNT random programs (1,000) in a library: what `call` answers for each on random words within a random bound, as
-`run` does and as the simulator of image.py, by which `executed M` is counted too; one after the other, and by `--lines`.
-The status is 1 if something differs. The program has to be built (./cclib)."""
+libraries.py [--program PROGRAM] random [COUNT [SEED]]: COUNT pairs of libraries (1,000) from a seed (1), written without the program: some in each of
+the two areas, with units of both versions, without a certificate and with a wrong one, replaced and withdrawn, empty and full. For each pair the
+script looks at the lines of `diff`; for the first library also at a copy, whole and of some names, into areas of a random size or of the least that
+`copy` names; at its `log`, whole and of one name; at what each command stored; and at what `restore` leaves.
+libraries.py cuts [SEED]: a copy is killed at each of its calls, is refused each of them (EIO, and EIO although it was done), and is killed at 200
+moments. Under the new name there may be nothing or the whole library; anything else that is there is a file NEW.N.copy. What was written is synced
+before the new file gets its name.
+libraries.py calls [COUNT [SEED]]: COUNT random programs (1,000) in a library: what `call` answers for each on random words within a random bound is
+compared with `run` and with the simulator of image.py, which also counts `executed M`; one call after the other, and with `--lines`. The status is 1
+if something differs. The program has to be built (./cclib)."""
 
 import os
 import random
@@ -187,7 +187,7 @@ def try_confirmed(old, new, names, wanted):
 
 
 def try_refusals(old, new, names, room):
-    """33 comes before 32, that before 34, and that before 35; nothing is made, and what is there stays."""
+    """33 comes before 32, 32 before 34, and 34 before 35; nothing is made, and what is there stays."""
     with open(new, "wb") as file:
         file.write(b"here")
     there = [("35", room, names)] + [("34", room - 1, names)] * (room > 64) + [("32", 64, [*names, "absent"]), ("33", 64, ["absent", "Bad", *names])]
@@ -243,7 +243,7 @@ def try_random(count, seed):
 
 
 def state(work, new, units):
-    """What is left of a copy: nothing by its name, or all of it."""
+    """What is left of a copy: nothing under its name, or all of it."""
     if not os.path.exists(new):
         return "nothing"
     differs("cut: units", read(new)[0], parts(units))
@@ -308,7 +308,7 @@ def try_cuts(seed):
 
 
 def counted(code, data, words, steps):
-    """What a simulator that counts says of a run."""
+    """What a simulator that counts says about a run."""
     machine, done, how = image.Machine(code, data, words), 0, None
     while done < steps and not how:
         how, done = machine.step(), done + 1

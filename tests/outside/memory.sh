@@ -1,21 +1,22 @@
 #!/usr/bin/env bash
-# Refuses each allocation in turn, and checks the result: memory.sh TASK. A `malloc` put before the C library's (refuse.c) refuses allocation
-# number N, for every N until a run ends before it.
+# Refuses each allocation in turn, and checks the result: memory.sh TASK. A `malloc` put in front of the C library's (refuse.c) refuses allocation
+# number N, for every N until a run ends before that allocation.
 #   program   `check` and `interpret` of tests/outside/memory.c, of the programs of examples/ and of texts at the limits, `run` and `asm` of a text with two
 #             functions and 24 locals: each answer is the usual one, or `fault 40 OutOfMemory` with status 1
 #   compile, list, store, service   a test: a compilation (40, and the next one is as always); an addition to the instruction list (it hands its item back,
 #             leaves the list as it was, and goes through when it is made again); a change of the library (40, the map as before, no device call);
-#             a service's `add`, its text handed in first or not (40, or 41 if it was the worker's, all as before, and the same call then as
-#             always). A refusal in what the test makes for itself ends it before. None may hang
+#             a service's `add`, with its text handed in first or not (40, or 41 if the allocation was the worker's; all is as before, and the same
+#             call then goes as always). A refusal in what the test makes for itself ends the test earlier. No run may hang
 #   session, server   session.py refuse: a session of `cclib library`; fails.py memory: a server and its workers under two `submit`s
-# The program has to be built (./cclib), or CCLIB names one that is, and the tests (rt test in the crate); gcc makes the `malloc`.
+# Build the program first (./cclib), or set CCLIB to a built one, and build the tests (rt test in the crate); gcc makes the `malloc`.
 set -eu
 # shellcheck source=bench/words.sh
 . "$(dirname "$0")/../../bench/words.sh"
 room
 total=0 refused=0
 
-# refusing NUMBER COMMAND..: runs it so, for a minute at most; $work/told has a word if it ended before that allocation
+# refusing NUMBER COMMAND..: runs the command with that allocation refused, for at most a minute; $work/told has a word if it ended before that
+# allocation
 refusing() {
     local number=$1
     shift
@@ -23,7 +24,7 @@ refusing() {
     timeout 60 env REFUSED=$number LD_PRELOAD="$work/refuse.so" "$@" > "$work/found" 2> "$work/error" 3> "$work/told"
 }
 
-# sweep FILE WORD..: each allocation of the program in turn
+# sweep FILE WORD..: refuses each allocation of the program in turn
 sweep() {
     local file=$1 status=0 number=0 found
     shift
@@ -66,7 +67,7 @@ program() {
     echo "$total allocations refused, $refused times fault 40, else the usual answer"
 }
 
-# a_test CRATE NAME REASONS: each allocation of a test in turn, which passes, or ends for a reason that it does not test
+# a_test CRATE NAME REASONS: refuses each allocation of a test in turn; the test has to pass, or to end for a reason that it does not test
 a_test() {
     local tests=$top/crates/$1/out/$1_tests number=0 status
     [ -x "$tests" ] || fail "build the tests first: (cd crates/$1 && rt test)"

@@ -1,9 +1,9 @@
 #!/usr/bin/env python3
-"""Whether --checked reaches each command that compiles: what is stored and printed with it is the checked image, and without it the plain one.
+"""Checks that --checked reaches each command that compiles: with it the checked image is stored and printed, and without it the plain one.
 
-modes.py: a program with a wrong index is compiled by `image`, `asm`, `run`, `library` and a server, with and without --checked. The image that
-a library or a server stores has to be the one that `image` prints of the same kind, the session's `audit` has to confirm that one and not the
-other, and only a plain run ends. The program has to be built (./cclib --help), or CCLIB names one that is. The status is 1 if something differs."""
+modes.py: a program with a wrong index is compiled by `image`, `asm`, `run`, `library` and a server, with and without --checked. The image that a
+library or a server stores has to be the one of the same kind that `image` prints, the session's `audit` has to confirm that one and not the other,
+and only a plain run ends. Build the program first (./cclib --help), or set CCLIB to a built one. The status is 1 if something differs."""
 
 import subprocess
 import sys
@@ -23,7 +23,7 @@ def add(name):
 
 
 def stored_by_library(place, kind, other):
-    """The image that a session of a kind stores; the session's audit confirms it, one of the other kind does not."""
+    """The image that a session of one kind stores; that session's audit confirms it, and a session of the other kind does not."""
     lines = place.library(add("wild") + "audit\n", "--format", "1048576", *KINDS[kind])
     serve.must(lines[:2] == ["ok 1", "audit wild confirmed"], f"library, {kind}: {lines}")
     lines = place.library("audit\n", *KINDS[other])

@@ -1,12 +1,12 @@
 #!/usr/bin/env python3
-"""Whether two builds of the program print the same bytes, and end with the same status.
+"""Checks whether two builds of the program print the same bytes, and end with the same status.
 
 printed.py OLD NEW [TEXTS [SCRIPTS [SEED]]]: OLD and NEW are two programs. Each of TEXTS texts (5,000) is checked, interpreted, compiled and run,
-listed, made an image and shown stage by stage; SCRIPTS scripts (2,000) are done over a library in a file, each second one over the file that
-the one before left, and a tenth as many are sent to a server (`submit`), whole or by single lines. Half of the texts are random programs
-whose meaning the standard fixes (compare.py), a quarter are these with some bytes changed, left out or put in, the rest are rows of tokens.
-Scripts have all commands, wrong lines, and sources that are cut. What differs on standard output or in the status is printed, and the status
-is 1 then; how many explanations on standard error differ is only counted. TEXTS or SCRIPTS of 0 leave these out."""
+listed, made an image and shown stage by stage; SCRIPTS scripts (2,000) are run over a library in a file, every second one over the file that the one
+before left, and a tenth as many are sent to a server (`submit`), whole or line by line. Half of the texts are random programs whose meaning the
+standard fixes (compare.py), a quarter are these with some bytes changed, left out or put in, the rest are rows of tokens. Scripts have all commands,
+wrong lines, and sources that are cut. Differences on standard output or in the status are printed, and the script's status is 1 then; differences
+between explanations on standard error are only counted. With 0 for TEXTS or SCRIPTS, these are left out."""
 
 import os
 import random

@@ -1,10 +1,10 @@
 #!/usr/bin/env python3
 """Counts the random functions whose registers the validator refuses, so that they would get a slot for each value.
 
-refused.py [COUNT] [SEED]: COUNT programs (400), from a seed (1), each with ten functions beside those of tests/outside/compare.py's programs. A
-function has up to eight parameters, up to 40 locals that may all be alive at once, loops, and calls of the functions before it. The text of a
-program with a refusal is printed. `cclib stages` says for each function whether its colouring is refused. The program has to be built
-(./cclib), or CCLIB names one that is."""
+refused.py [COUNT] [SEED]: COUNT programs (400), from a seed (1), each with ten functions in addition to those of a program of
+tests/outside/compare.py. A function has up to eight parameters, up to 40 locals that may all be live at once, loops, and calls of the functions
+before it. If a function is refused, the text of its program is printed. `cclib stages` says for each function whether its colouring is refused. Build
+the program first (./cclib), or set CCLIB to a built one."""
 
 import os
 import subprocess
@@ -57,7 +57,7 @@ class Writer(compare.Writer):
 
 
 def refusals(text):
-    """In how many functions of a text the registers are refused; all of them if it isn't compiled."""
+    """The number of functions of a text whose registers are refused; all of them if the text isn't compiled."""
     lines = subprocess.run([PROGRAM, "stages"], input=text, capture_output=True, text=True, check=False).stdout.split("\n")
     how = [line for head, line in zip(lines, lines[1:]) if head.endswith(": LTL")]
     return sum(it != "coloured" for it in how) if how else FUNCTIONS

@@ -1,12 +1,12 @@
 #!/usr/bin/env python3
-"""A server and its clients, as processes: killed again and again, among hostile things, and with no room.
+"""Tests a server and its clients, as processes: killed again and again, among hostile things, and without room.
 
 serve.py kills [COUNT] [SEED]     COUNT kills (200) of a server with 16 submitters, each followed by a restart: each answer is compared with
-                                  the library, which has all that was acknowledged, and at most one unit more for each script
+                                  the library, which must have all that was acknowledged, and at most one more unit for each script
 serve.py hostile                  things in FOLDER that are no scripts, users and groups (root: the server runs as another user)
 serve.py small                    FOLDER on a file system of 64 KiB that is full (root)
 
---program PROGRAM takes another program than crates/cclib/out/cclib. Its status is 1 if something is not as it should be."""
+--program PROGRAM takes a program other than crates/cclib/out/cclib. The status is 1 if something is not as it should be."""
 
 import grp
 import os
@@ -23,9 +23,9 @@ PROGRAM = os.environ.get("CCLIB") or os.path.join(HERE, "../../crates/cclib/out/
 SUBMITTERS = 16
 UNITS = 3
 UNIT = "int main(void){int i;int s=0;for(i=1;i<=10;i++)s+=i;write_word(s);return 0;}"
-# A run of it writes 18 MB.
+# A run of this program writes 18 MB.
 LOUD = "int main(void){int i;for(i=0;i<1500000;i++)write_word(-2000000000);return 0;}"
-# A run of it takes some seconds.
+# A run of this program takes some seconds.
 SLOW = "int main(void){int i;for(i=0;i<50000000;i++);return 0;}"
 # Users and a group that nobody else has.
 SERVER, FRIEND, STRANGER, TEAM = 61001, 61002, 61003, 61004
@@ -63,7 +63,7 @@ class Place:
     def start(self, *options):
         """A server that takes scripts."""
         words = [self.program, "serve", self.disk, self.spool, *options]
-        # Standard error to a file: nobody reads a pipe of a server that is killed.
+        # Standard error goes to a file, since nobody reads the pipe of a server that is killed.
         with open(f"{self.work}/told", "a") as told:
             server = subprocess.Popen(words, stdout=subprocess.PIPE, stderr=told, text=True, **self.user)
         return server
@@ -88,8 +88,8 @@ class Place:
         return subprocess.run(words, input=script, capture_output=True, text=True, timeout=300, **other)
 
     def left(self):
-        """What is left in the folder: nothing, if all was answered and removed, except what a server that was killed in its start tried
-        it with."""
+        """What is left in the folder: nothing, if all was answered and removed, except the files with which a server that was killed during its start
+        tried the folder."""
         names = [f"{part}/{name}" for part in ("tmp", "new", "cur", "done") for name in sorted(os.listdir(self.file(part)))]
         return [it for it in names if "/.try-" not in it]
 
@@ -115,7 +115,7 @@ class Script:
         self.is_whole = self.lines[-1:] != ["fault 55 Interrupted"]
 
     def check(self, units):
-        """Compares the answer with the library's units: how many adds it acknowledged, and how many units there are more."""
+        """Compares the answer with the library's units: how many adds it acknowledged, and how many more units there are."""
         lines = self.lines if self.is_whole else self.lines[:-1]
         asked = ["ok", "55", "exited 0"] * UNITS
         found = [re.sub(r"^ok \d+$", "ok", it) for it in lines]
@@ -177,7 +177,7 @@ def kills(count=200, seed=1):
 
 
 def answer(place, name):
-    """The last lines of an answer, when it is there."""
+    """The last lines of an answer, once it is there."""
     path = place.file("done", name)
     for _ in range(9000):
         if os.path.lexists(path):
@@ -188,7 +188,7 @@ def answer(place, name):
 
 
 def put(place, name, text="", size=None, mode=0o644):
-    """A script that is written and moved as somebody without `cclib` does it."""
+    """Writes and moves a script as somebody without `cclib` does it."""
     with open(place.file("tmp", name), "w") as file:
         file.write(text)
         if size:
@@ -211,7 +211,7 @@ SCRIPTS = [
 
 
 def look_at_things(place):
-    """Which things in `new` are scripts, and how each is answered."""
+    """Checks which things in `new` are scripts, and how each is answered."""
     new = place.file("new").encode()
     os.symlink("/etc/passwd", new + b"link")
     os.mkdir(new + b"directory")
@@ -232,7 +232,7 @@ def look_at_things(place):
 
 
 def may(user, act):
-    """Whether a user may do that."""
+    """Whether a user is allowed to do that."""
     child = os.fork()
     if child == 0:
         os.setgroups([])
@@ -247,7 +247,7 @@ def may(user, act):
 
 
 def look_at_users(place):
-    """What other users may do: leave scripts and read answers, and nothing else."""
+    """Checks that other users may leave scripts and read answers, and nothing else."""
     done = place.submit("list", user=STRANGER)
     must(done.returncode == 0 and done.stdout.startswith("unit loud"), f"another user's script: {done}")
     must(len(os.listdir(place.file("done"))) > 0, "the answer of another user stays in done")
@@ -264,7 +264,7 @@ def look_at_users(place):
 
 
 def look_at_ends(place, server):
-    """A second server, an answer whose place is taken, a kill in a long script, and what the next start makes of these."""
+    """Tries a second server, an answer whose place is taken, a kill in a long script, and what the next start makes of these."""
     other = Place(SERVER)
     second = subprocess.run([place.program, "serve", other.disk, place.spool, "--format", "65536"], capture_output=True, text=True, **place.user)
     must(second.stdout == "fault 57 FolderInUse\n" and second.returncode == 1, f"a second server on the folder: {second}")

@@ -1,16 +1,16 @@
 #!/usr/bin/env python3
-"""Sessions of the program over a file: what they do if memory is refused, and how much faster more workers compile.
+"""Tests sessions of the program over a file: what they do if memory is refused, and how much faster they compile with more workers.
 
 session.py refuse [FOLDER]             each allocation of a session, from its first to its last, is refused once: the session has to end within a
                                        minute, each command has its usual answer or 40 or 41, and a session that opens the file again has to
                                        find the units that were acknowledged, and no others
-session.py workers [FOLDER [COUNT]]    the time of COUNT (20) `add`s of a unit of 64 functions with 1 worker divided by that with 2, 3 and 4, in turn, ten
-                                       rounds; the best of each counts, without the best of a session of no command
-session.py commits [FOLDER [COUNT]]    commits a second of one client, COUNT (960) calls that each compile a text and put its unit under one name, divided by
-                                       those of sqlite (sqlite.c: WAL, synchronous FULL, one connection) that puts the same number of bytes, in turn, five
-                                       rounds; the best of each counts, ours without the best of a session of no command. Needs libsqlite3-dev
+session.py workers [FOLDER [COUNT]]    the time of COUNT (20) `add`s of a unit of 64 functions with 1 worker, divided by that with 2, 3 and 4, in
+                                       turn, ten rounds; the best of each counts, minus the best of a session without a command
+session.py commits [FOLDER [COUNT]]    commits a second of one client, with COUNT (960) calls that each compile a text and put its unit under one
+                                       name, divided by those of sqlite (sqlite.c: WAL, synchronous FULL, one connection) that puts the same number of bytes, in turn, five
+                                       rounds; the best of each counts, ours minus the best of a session without a command. Needs libsqlite3-dev
 
-The file lies in FOLDER (this one). The program has to be built (./cclib), or CCLIB names one that is; refuse needs gcc."""
+The file is put into FOLDER (this one). Build the program first (./cclib), or set CCLIB to a built one; refuse needs gcc."""
 
 import os
 import subprocess
@@ -91,7 +91,7 @@ class Answers:
 
     def counted(self, line):
         self.number += 1
-        # A run that had no memory may have its look in the history.
+        # If a `run` had no memory, its look may still be in the history.
         if self.may_skip and line == f"ok {self.number + 1}":
             self.number += 1
         self.may_skip = False
@@ -142,7 +142,7 @@ class Answers:
             self.want(line, "ok")
 
     def take(self, status):
-        # Refused before the service was there: one line, and no unit.
+        # If memory was refused before the service was there: one line, and no unit.
         if status == 1 and self.lines == ["fault 40 OutOfMemory"] or self.lines == ["fault 41 WorkersGone"]:
             self.refused = 1
             return
@@ -156,7 +156,7 @@ class Answers:
             else:
                 self.compact()
         if status == 1:
-            # From the service's end.
+            # A fault of the service's end.
             if not self.is_refused(self.next()):
                 raise Wrong("status 1")
         elif status:
@@ -173,7 +173,7 @@ def refuse(work):
         number += 1
         fresh(path, 4096)
         open(told, "w").close()
-        # The shell's own memory is not refused.
+        # Memory for the shell itself is not refused.
         put = f'exec env REFUSED={number} LD_PRELOAD={library_path} "$0" "$@" 3> {told}'
         words = ["bash", "-c", put, PROGRAM, "library", path, "--quiet"]
         try:
@@ -197,7 +197,7 @@ def refuse(work):
 
 
 def large():
-    """A unit of 64 functions, each with loops and expressions enough to take some time."""
+    """A unit of 64 functions, each with enough loops and expressions to take some time."""
     text = "int g[64];"
     for number in range(63):
         body = "".join(f"for(i=0;i<{9 + k};i++){{s=s*{k + 3}+(t^i);t=(t<<1)+s%{k + 7};g[i]=s-t;}}" for k in range(6))

@@ -1,14 +1,14 @@
 #!/usr/bin/env bash
-# A write to a file that the system cuts short: `add` answers 35 then, and `ok` if the write was whole.
+# Tests a write to a file that the system cuts short: `add` then answers 35, and `ok` if the write was whole.
 # The shell's limit on the size of a file (ulimit -f) cuts the write that crosses it, as a full file system does.
-# The program has to be built (./cclib), or CCLIB names one that is.
+# Build the program first (./cclib), or set CCLIB to a built one.
 set -eu
 # shellcheck source=bench/words.sh
 . "$(dirname "$0")/../../bench/words.sh"
 cclib
 room
 
-# answer LENGTH: the answer to an `add` of a text of this many bytes over a new library of 40,016 bytes if files may have 10,240
+# answer LENGTH: the answer to an `add` of a text of LENGTH bytes over a new library of 40,016 bytes, if files may have 10,240 bytes
 answer() {
     printf 'int main(void){}%*s' $(($1 - 16)) '' > "$work/text"
     "$cclib" library "$work/disk" --quiet --format 20000 < /dev/null
@@ -19,7 +19,7 @@ answer() {
 for length in 10240 12000 19000; do
     [ "$(answer $length)" = 'fault 35 DiskFault' ] || fail "a short write of $length bytes is not told: $(answer $length)"
 done
-# If its room can not be taken no library is made.
+# If the room for a library cannot be taken, no library is made.
 said=$(ulimit -f 10 && "$cclib" library "$work/new" --quiet --format 8192 < /dev/null || true)
 [ "$said" = 'fault 35 DiskFault' ] || fail "a library is made without its room: $said"
 echo "short writes are told"

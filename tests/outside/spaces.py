@@ -1,11 +1,11 @@
 #!/usr/bin/env python3
-"""What `space` of a server's script says, beside a reader of the library's file.
+"""Compares what `space` in a server's script says with what a reader of the library's file finds.
 
-spaces.py [SCRIPTS] [SEED]     SCRIPTS (200) random scripts over libraries of random areas, on a server each ten: adds, replaces, withdrawals
-                               and compactions, until the area is full and after it. After each command `space` is compared with the records
-                               that the file has then, and after each `compact` with what `space` said before that it would leave.
+spaces.py [SCRIPTS] [SEED]     SCRIPTS (200) random scripts over libraries with areas of random size, ten to a server: adds, replaces, withdrawals
+                               and compactions, until the area is full and after that. After each command `space` is compared with the records
+                               that the file has then, and after each `compact` with what `space` had said that it would leave.
 
---program PROGRAM takes another program than crates/cclib/out/cclib. Its status is 1 if something differs."""
+--program PROGRAM takes a program other than crates/cclib/out/cclib. The status is 1 if something differs."""
 
 import os
 import random
@@ -25,7 +25,7 @@ EACH = 10
 
 
 def measured(path):
-    """The size of an area, the bytes of the records, those of one for each unit that is there, and how many units there are."""
+    """The size of an area, the bytes of its records, the bytes of one record for each unit that is there, and how many units there are."""
     with open(path, "rb") as file:
         data = file.read()
     units, used = {}, 0
@@ -71,7 +71,7 @@ def line(chance):
 
 
 def play(server, chance, found):
-    """Does a script's lines one by one; each is counted by its answer."""
+    """Runs a script's lines one by one; counts what each of them answers."""
     for _ in range(chance.randrange(1, 12)):
         asked = line(chance)
         before = server.submit("space\n")

@@ -1,14 +1,14 @@
 #!/usr/bin/env python3
-"""Checks what `size` says of programs: those of examples/ and bench/programs, and random ones.
+"""Checks what `size` says about programs: those of examples/ and bench/programs, and random ones.
 
 stack.py [COUNT] [SEED] [STEPS]: COUNT random programs (100) of tests/outside/compare.py, from a seed (1). For each program that has an image:
 - the functions, their places and their words are those of the listing after its start of three words, `code` is its length and `globals` the
   bytes of `image` from 0x00200000 on;
-- frames, chains of calls and the stack are what this script computes from the listing alone: a function's frame is the largest N of its
+- frames, chains of calls and the stack are what this script computes from nothing but the listing: a function's frame is the largest N of its
   `addi x2, x2, -N`, and its calls are its `jal x1`;
 - a plain simulator (tests/outside/image.py) runs the image for STEPS instructions (200,000), and no load or store below x2's first value is deeper
   than the reported stack.
-The same for plain and checked images. The program has to be built (./cclib --help), or CCLIB names one that is. The status is 1 if one differs."""
+The same for plain and checked images. Build the program first (./cclib --help), or set CCLIB to a built one. The status is 1 if one differs."""
 import pathlib
 import subprocess
 import sys
@@ -37,7 +37,7 @@ def ask(text, *words):
 
 
 def said(lines):
-    """The functions as (name, address, words, frame, calls), the figures by their names, and the calls of cycles."""
+    """The functions as (name, address, words, frame, calls), the figures with their names, and the calls that form cycles."""
     functions, figures, cycles = [], {}, []
     for line in lines:
         words = line.split()
@@ -53,7 +53,7 @@ def said(lines):
 
 
 def needs(own, calls):
-    """The largest sum along calls, by functions, as deep as calls may go."""
+    """For each function, the largest sum of frames over a chain of calls, as deep as calls may go."""
     need = [0] * len(own)
     for _ in range(MOST_OPEN):
         need = [own[f] + max((need[g] for g in calls[f]), default=0) for f in range(len(own))]
@@ -61,7 +61,7 @@ def needs(own, calls):
 
 
 def leads(calls, f):
-    """The functions that calls of a function lead to."""
+    """The functions to which calls in a function lead."""
     found, left = set(), list(calls[f])
     while left:
         g = left.pop()
@@ -72,7 +72,7 @@ def leads(calls, f):
 
 
 def computed(functions, listing):
-    """The frames and the calls of the functions, by the listing."""
+    """The frames and the calls of the functions, according to the listing."""
     at_place = {address: f for f, (_, address, *_) in enumerate(functions)}
     frames, calls = [], []
     for _, address, words, *_ in functions:

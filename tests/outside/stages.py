@@ -1,12 +1,12 @@
 #!/usr/bin/env python3
 """Checks what `stages` answers for the programs of examples/ and bench/programs and for random ones.
 
-stages.py [COUNT] [SEED]: COUNT random programs (100) of tests/outside/compare.py, from a seed (1). For each program that `asm` lists, `stages`
-has to end with status 0; all its code has to be that listing after its start of three words; each function alone has to be answered by
-its part of the whole; and each stage's text has to be one of its language, in which every label that is named is there. Then each stage
-except the code is run, by tests/outside/languages.py, on eight words, and has to write what `interpret` says: if one of them is cut off, as many
-words as both reach, and if an operation goes wrong, only what comes before. The program has to be built (./cclib --help), or CCLIB names
-one that is. First values of objects are gcc's."""
+stages.py [COUNT] [SEED]: COUNT random programs (100) of tests/outside/compare.py, from a seed (1). For each program that `asm` lists, `stages` has to
+end with status 0; all its code has to be that listing after its start of three words; if a single function is asked for, the answer has to be its
+part of the whole; and each stage's text has to belong to its language, and every label that it names has to exist. Then tests/outside/languages.py
+runs each stage except the code on eight words, and the stage has to write what `interpret` says: if one of the two is cut off, the words that both
+reach have to agree, and if an operation goes wrong, only those before it. Build the program first (./cclib --help), or set CCLIB to a built one.
+The first values of objects are taken from gcc."""
 
 import glob
 import os
@@ -87,7 +87,7 @@ def agrees(said, found):
 
 
 def judge(text, room):
-    """How many functions there are, how many of them are spilled, or what is wrong."""
+    """How many functions there are, and how many of them are spilled; or what is wrong."""
     listing, status = answer(["asm"], text)
     if status:
         return 0, 0
@@ -128,7 +128,7 @@ def main():
 
 
 if __name__ == "__main__":
-    # Up to 1,024 calls may be within one another, which takes a deep stack here.
+    # Up to 1,024 calls may be nested, which takes a deep stack here.
     sys.setrecursionlimit(100_000)
     threading.stack_size(512 << 20)
     STATUS = []

@@ -1,10 +1,10 @@
 #!/usr/bin/env python3
-"""Many clients that update one counter: no update is lost.
+"""Lets many clients update one counter: no update may be lost.
 
-updates.py [CLIENTS] [TIMES]     CLIENTS (200) fetch the source of `counter` and update it by a source with the next number, TIMES (100) each.
-                                 Each `ok` is of another number, and the last number is how many were answered `ok`
+updates.py [CLIENTS] [TIMES]     CLIENTS (200) fetch the source of `counter` and replace it with a source with the next number, TIMES (100) each.
+                                 Each `ok` has to be for another number, and the last number is how many were answered `ok`
 
---program PROGRAM takes another program than crates/cclib/out/cclib. Its status is 1 if something is not as it should be."""
+--program PROGRAM takes a program other than crates/cclib/out/cclib. The status is 1 if something is not as it should be."""
 
 import os
 import subprocess

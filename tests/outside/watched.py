@@ -2,8 +2,9 @@
 """Compares how runs end under `trace` and `cover` with what `interpret` answers.
 
 watched.py [COUNT] [SEED]: the programs of examples/ and bench/programs, and COUNT random ones (1,000) of tests/outside/compare.py from a seed (1), each
-within 100,000 steps on four words. The last line that says how the run ended is compared. Then a loop of 100,000,000 steps is traced, and the most memory of it and of a short run is
-printed, with the time of all three. The status is 1 if something differs. The program has to be built (./cclib), or CCLIB names one that is."""
+within 100,000 steps on four words. The last line, which says how the run ended, is compared. Then a loop of 100,000,000 steps is traced, and the
+largest amount of memory of this and of a short run is printed, with the times of all three. The status is 1 if something differs. Build the program
+first (./cclib), or set CCLIB to a built one."""
 
 import glob
 import os
@@ -45,7 +46,7 @@ def differs(name, text, steps="100000"):
 
 
 def peak(words):
-    """The most memory of a run, in KiB, and its seconds."""
+    """The largest amount of memory of a run, in KiB, and its seconds."""
     begun = time.monotonic()
     child = subprocess.Popen([PROGRAM, *words, "--quiet"], stdin=subprocess.PIPE, stdout=subprocess.DEVNULL)
     child.stdin.write(LOOP)

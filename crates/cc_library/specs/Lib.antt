@@ -20,7 +20,7 @@ pub mod Answers
 pub mod Runs
 -- for proofs and private contracts only
 pub mod internal
--- Pages of lower crates that clauses here cite, passed on.
+-- Pages of lower crates that clauses here cite, re-exported.
 pub use Rattle.cc_journal.specs.Format
 pub use Rattle.cc_rv32.specs.contracts.image as image_contract
 pub use Rattle.cc_unit.specs.contracts.unit as unit_contract

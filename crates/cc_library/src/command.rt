@@ -28,8 +28,8 @@ impl Kind {
     }
 }
 
-/// A change of a library: Add sets the unit of an absent name, Replace that of a present one, Withdraw removes a present name. What it
-/// carries for the unit depends on who makes it: the unit, a compiled one, or its source.
+/// A change of a library: Add sets the unit of an absent name, Replace that of a present one, Withdraw removes a present name.
+/// What a change carries for the unit depends on who makes it: the unit itself, a compiled unit, or the unit's source.
 #[derive(Drop)]
 pub enum Change<U> {
     Add(Name, U),
@@ -48,7 +48,7 @@ pub enum Edit {
 }
 
 impl LibraryCommand {
-    /// A copy of the command; the unit is shared. Err: memory ran out, or the unit has the most owners already.
+    /// A copy of the command; the unit is shared. Err: memory ran out, or the unit already has as many owners as it can have.
     pub fn again(&self) -> Result<LibraryCommand, AllocError>
         ensures { IfOk result (λ command. command ≡ self.now) }
     {

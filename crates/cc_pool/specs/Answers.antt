@@ -1,4 +1,4 @@
--- A worker's refusal as contracts see it.
+-- A worker's refusal, as contracts see it.
 use Rattle.std.specs.Prelude.{ℕ, List}
 use Rattle.cc_c_semantics.specs.declared.mode.Mode.{Mode}
 use Rattle.cc_link.specs.declared.piece_fault.PieceFault.{PieceFault}

@@ -22,7 +22,8 @@ pub enum Answer {
     Refused(Refusal),
 }
 
-/// A function that a worker refused, for another reason than lack of memory. Contracts see the mode, its text, its number and the reason.
+/// A function that a worker refused, for a reason other than lack of memory. Contracts see the mode, its text, its number and the
+/// reason.
 #[derive(Drop)]
 pub struct Refusal {
     mode: Mode,

@@ -34,7 +34,7 @@ sent_as Does bytes sent same count b a old new has it = record {
   called = inl (has.4, subst (λ (k : List ℕ). Does k old new ⊎ Writes no_memory_text old new) (same ∙ has.5) it);
 }
 
--- bytes that something was done with
+-- a step that does something with the bytes that were sent
 pub sent_step : {T : Type 0} (answer : Result T ScriptFault) (Does : List ℕ → Talk → Talk → Type 0) (bytes : Vec ℕ Global) (sent : List ℕ) → sent ≡ bytes.items
     → (count : ℕ) (x y : Ahead) (old new : Talk) → Between x y (λ b a. HasSent b count (Source bytes) a) → DoesAndTells (DoesOr (Does sent)) old new answer
     → IsDone (λ b a o n. IsSentTo Does count b a o n) (IsShortOf count) (IsUnended count) x y old new answer
@@ -45,7 +45,7 @@ sent_step (Err fault) Does bytes sent same count x y old new read it =
     (known_by x y (λ b a. HasSent b count (Source bytes) a) (λ b. (new.client ≡ old.client) ⊎ ((a : List ℕ) × (w : Option (List ℕ)) × IsSentTo Does count b a old (talk new.client w))) read
     (λ b a has. inr (a, it.1, sent_as Does bytes sent same count b a old (talk new.client it.1) has it.2)))
 
--- those followed by another byte than a newline
+-- a step whose bytes are followed by something other than a newline
 pub skip_step : {T : Type 0} (answer : Result T ScriptFault) (Does : List ℕ → Talk → Talk → Type 0) (count : ℕ) (x y z : Ahead) (left : ℕ) (old new : Talk)
     → new.client ≡ old.client → Between x y (λ b a. HasSent b count Unended a) → OnOk answer (Between y z (λ b a. (rest : List ℕ) × IsLine b rest a))
     → OnOk answer (Appends old.written new.written (script_fault_text BadLine))
@@ -66,7 +66,7 @@ skip_step answer Does count x y z left old new same read skips wrote why =
       );
     })
 
--- those for which there was no room
+-- a step whose bytes had no room
 pub unsent_step : {T : Type 0} (answer : Result T ScriptFault) (Does : List ℕ → Talk → Talk → Type 0) (count : ℕ) (x y : Ahead) (old new : Talk)
     → new.client ≡ old.client → Between x y (λ b a. HasSent b count NoRoom a) → Tells old.written new.written no_memory_text answer
     → IsDone (λ b a o n. IsSentTo Does count b a o n) (IsShortOf count) (IsUnended count) x y old new answer
@@ -80,7 +80,7 @@ unsent_step answer Does count x y old new same read told =
       called = inl (it.4, inr (same, wrote));
     }))
 
--- those that were read, and another source had no room
+-- a step whose bytes were read, but another source had no room
 pub unasked_step : {T : Type 0} (answer : Result T ScriptFault) (Does : List ℕ → Talk → Talk → Type 0) (bytes : Vec ℕ Global) (count : ℕ) (x y : Ahead) (old new : Talk)
     → new.client ≡ old.client → Between x y (λ b a. HasSent b count (Source bytes) a) → Tells old.written new.written no_memory_text answer
     → IsDone (λ b a o n. IsSentTo Does count b a o n) (IsShortOf count) (IsUnended count) x y old new answer
@@ -131,7 +131,7 @@ updates_as : (mode : Mode) (name expected : List ℕ) (given : Option (List ℕ)
 updates_as mode name expected (Some e) source old new is it = subst (λ (k : List ℕ). CallsAndWrites (UpdateAnswers mode name k source) (SaysChange source) old new) is it
 updates_as mode name expected None source old new is it = absurd it
 
--- the update of an expected source, if there was room for it
+-- the update with an expected source, if there was room for that source
 sent_twice : (mode : Mode) (name expected rest between : List ℕ) (many count : ℕ) (given : Option (List ℕ)) (b a : List ℕ) (old new : Talk) → b ≡ expected ++ rest → length expected ≡ many
     → IsLine rest [] between → IfSome given (λ e. e ≡ take 65537 expected) → IsSentTo (λ source o n. UpdatesIf mode name given source o n) count between a old new
     → IsSentTwice mode name many count b a old new
@@ -158,7 +158,7 @@ twice_step mode answer name bytes sent same many count x y z old new read it =
     (λ b m a n one two. sent_twice mode name one.0 one.1 m many count (Some sent) b a old n one.2 one.3 one.4 (same ∙ one.5) two)
     (λ b m one two. inr (one.0, one.1, m, one.2, one.3, one.4, two)) (λ b m one two. inr (one.0, one.1, m, one.2, one.3, one.4, two))
 
--- the first one had no room
+-- an update whose first source had no room
 pub twice_unasked : (mode : Mode) → {T : Type 0} (answer : Result T ScriptFault) (name : List ℕ) (many count : ℕ) (x y z : Ahead) (old new : Talk) → Between x y (λ b a. HasSent b many NoRoom a)
     → IsDone (λ b a o n. IsSentTo (λ source p q. UpdatesIf mode name None source p q) count b a o n) (IsShortOf count) (IsUnended count) y z old new answer
     → IsDone (λ b a o n. IsSentTwice mode name many count b a o n) (IsShortOfTwo many count) (IsUnendedOfTwo many count) x z old new answer
@@ -168,7 +168,7 @@ twice_unasked mode answer name many count x y z old new read it =
     (λ b m a n one two. sent_twice mode name one.0 one.1 m many count None b a old n one.2 one.3 one.4 tt two)
     (λ b m one two. inr (one.0, one.1, m, one.2, one.3, one.4, two)) (λ b m one two. inr (one.0, one.1, m, one.2, one.3, one.4, two))
 
--- the first one is followed by another byte
+-- an update whose first source is followed by something other than a newline
 pub twice_skip : (mode : Mode) → {T : Type 0} (answer : Result T ScriptFault) (name : List ℕ) (many count : ℕ) (x y z : Ahead) (left : ℕ) (old new : Talk)
     → new.client ≡ old.client → Between x y (λ b a. HasSent b many Unended a) → OnOk answer (Between y z (λ b a. (rest : List ℕ) × IsLine b rest a))
     → OnOk answer (Appends old.written new.written (script_fault_text BadLine))
@@ -189,7 +189,7 @@ twice_skip mode answer name many count x y z left old new same read skips wrote 
       );
     })
 
--- the first one could not be read
+-- an update whose first source could not be read
 pub twice_unread : (mode : Mode) → (name : List ℕ) (many count : ℕ) (x : Ahead) (left : ℕ) (h : Talk) (fault : ScriptFault) → IsNoSource x many left fault
     → IsNotDone (λ b a o n. IsSentTwice mode name many count b a o n) (IsShortOfTwo many count) (IsUnendedOfTwo many count) x h h fault
 twice_unread mode name many count x left h BadLine why = absurd why

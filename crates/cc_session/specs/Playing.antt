@@ -1,5 +1,5 @@
--- What a script is to the client that does it: line by line a call of the service, what its answer makes of the client, and what
--- is written of it.
+-- What a script means for the client that runs it. Line by line: the call of the service, what its answer makes of the client,
+-- and what is written of it.
 use Rattle.std.specs.Prelude.{◌≡◌, ◌≢◌, ◌⊎◌, ◌+◌, ◌<◌, ◌≤◌, ℕ, Bool, true, false, List, [], ◌∷◌, ◌++◌, All, drop, length, take, nat_le, if◌then◌else◌, Option, Some, None, IfSome, Result, Ok, Err, IfErr, codes}
 use Rattle.std.specs.Io.KnownBytes.{Appends}
 use Rattle.cc_script.specs.Line.{ScriptRequest, Add, Replace, Withdraw, Names, Run, Compact, Audit, Image, Source, AuditOne, Update, Call, Space, asked_of}
@@ -44,7 +44,7 @@ CallsAndWrites Answers Says old new =
 abbrev pub Writes : (text : List ℕ) → (old new : Talk) → Type 0
 Writes text old new = (new.client ≡ old.client) × Appends old.written new.written text
 
--- The bytes after a line: this many, then a newline or the end. What is to be done with them is done; if they are more than
+-- The bytes that come after a line: `count` of them, then a newline or the end. `Does` is applied to them; if they are more than
 -- 65,536, it gets the first 65,537, which are too many. If there is no room for them, or if another byte follows, nothing is
 -- called; in the second case the rest of that line is skipped.
 pub record IsSentTo (Does : (bytes : List ℕ) → Talk → Talk → Type 0) (count : ℕ) (before after : List ℕ) (old new : Talk) : Type 0 where
@@ -56,12 +56,13 @@ pub record IsSentTo (Does : (bytes : List ℕ) → Talk → Talk → Type 0) (co
       (IsLine rest [] after × (Does (take 65537 source) old new ⊎ Writes no_memory_text old new))
       ⊎ ((behind : List ℕ) × (0 < length behind) × IsLine rest behind after × Writes (script_fault_text BadLine) old new)
 
--- The source after a line: the call takes it, to compile it in the mode.
+-- The source that comes after a line: the call takes it, to compile it in the mode.
 abbrev pub IsSent : (mode : Mode) (Asks : Mode → (name source : List ℕ) → Command → Type 0) (name : List ℕ) (count : ℕ) (before after : List ℕ) (old new : Talk) → Type 0
 IsSent mode Asks name count before after old new =
     IsSentTo (λ source o n. CallsAndWrites (PutAnswers mode (Asks mode name source) name source) (SaysChange source) o n) count before after old new
 
--- Two sources after a line, each followed so: the name's unit is to have the first one, and is replaced by one of the second.
+-- Two sources that come after a line, each followed by a newline or the end: the unit under the name has to have the first one as
+-- its source, and is replaced with a unit of the second.
 pub record IsSentTwice (mode : Mode) (name : List ℕ) (expected_count count : ℕ) (before after : List ℕ) (old new : Talk) : Type 0 where
   pub expected : List ℕ
   pub rest : List ℕ
@@ -76,13 +77,14 @@ pub record IsSentTwice (mode : Mode) (name : List ℕ) (expected_count count : �
 abbrev pub words_of : (bytes : List ℕ) → Option (List ℕ)
 words_of bytes = if nat_le (length bytes) 65536 then input_in bytes else None
 
--- the name's unit is run on the words; 50 if there are none
+-- the unit under the name is run on the words; the answer is 50 if there are none
 abbrev pub CallsOn : (name : List ℕ) (steps : ℕ) → (words : Option (List ℕ)) → (old new : Talk) → Type 0
 CallsOn name steps (Some words) old new = CallsAndWrites (GetAnswers name) (SaysRunOn words steps) old new
 CallsOn name steps None old new = Writes (script_fault_text BadLine) old new
 
--- The units of these names are fetched and audited in the mode, one call and one line for each, in their order. Either all are found and audited; or the last
--- is the first that is refused, or that is found but whose audit had no memory.
+-- The units under these names are fetched and audited in the mode, with one call and one line for each, in their order. Either
+-- all are found and audited; or the last one is the first that is refused, or the first that is found but whose audit had no
+-- memory.
 abbrev pub AuditsEach : Mode → (names : List (List ℕ)) (all : Bool) (old new : Talk) → Type 0
 AuditsEach mode [] true old new = new ≡ old
 AuditsEach mode [] false old new = ⊥
@@ -90,12 +92,12 @@ AuditsEach mode (name ∷ names) all old new =
     ((all ≡ false) × CallsAndWrites (GetAnswers name) (SaysAudit mode name false) old new)
     ⊎ ((between : Talk) × CallsAndWrites (GetAnswers name) (SaysAudit mode name true) old between × AuditsEach mode names all between new)
 
--- an audit ends by `ok` if all are audited, else without a line
+-- an audit ends with `ok` if all units are audited, otherwise without a line
 abbrev pub EndsAudit : (all : Bool) (old new : Talk) → Type 0
 EndsAudit true old new = Writes (line (codes "ok")) old new
 EndsAudit false old new = new ≡ old
 
--- the names are listed, without a line for that, and the units of the names in the answer are audited
+-- the names are listed, which writes no line, and the units of the names in the answer are audited
 pub record ListsAndAudits (mode : Mode) (old new : Talk) : Type 0 where
   pub receipt : Receipt
   pub names : List (List ℕ)
@@ -111,11 +113,11 @@ pub record ListsAndAudits (mode : Mode) (old new : Talk) : Type 0 where
 abbrev pub Audits : Mode → (old new : Talk) → Type 0
 Audits mode old new = CallsAndWrites ListAnswers SaysRefusal old new ⊎ ListsAndAudits mode old new
 
--- the unit of a name is audited
+-- the unit under a name is audited
 abbrev pub AuditsOne : Mode → (name : List ℕ) (old new : Talk) → Type 0
 AuditsOne mode name old new = (all : Bool) × (last : Talk) × AuditsEach mode (name ∷ []) all old last × EndsAudit all last new
 
--- a compaction is refused by 34, 35, 36 or 40 alone
+-- a compaction is refused only with 34, 35, 36 or 40
 abbrev pub IsCompacted : Result (Unit {0}) ServiceFault → Type 0
 IsCompacted answer = IfErr answer (λ fault. (why : BookFault) × (fault ≡ Book why) × IsNotCompacted why)
 
@@ -127,7 +129,7 @@ Compacts old new = (answer : Result (Unit {0}) ServiceFault) × IsCompacted answ
 abbrev pub Measures : (old new : Talk) → Type 0
 Measures old new = (answer : Result SpaceUse ServiceFault) × SpaceAnswers answer × Writes (room_text answer) old new
 
--- what a line asks for is done in the mode; 50 if it asks for nothing
+-- what a line asks for is done in the mode; the answer is 50 if it asks for nothing
 -- ORDER ScriptCommand
 abbrev pub Obeys : Mode → Option ScriptRequest → (before after : List ℕ) (old new : Talk) → Type 0
 Obeys mode (Some (Add name count)) before after old new = IsSent mode Adds name count before after old new
@@ -149,7 +151,8 @@ Obeys mode None before after old new = (after ≡ before) × Writes (script_faul
 abbrev pub asked_by_line : Dialect → List ℕ → Option ScriptRequest
 asked_by_line dialect line = if nat_le (length line) 128 then asked_of dialect line else None
 
--- One line of a script of this dialect is done in the mode, with the source after it if it has one. There is a line only if a byte is left.
+-- One line of a script of this dialect is done in the mode, with the source after it if it has one. There is a line only if a
+-- byte is left.
 pub record IsStep (mode : Mode) (dialect : Dialect) (before after : List ℕ) (old new : Talk) : Type 0 where
   pub some : before ≢ []
   pub line : List ℕ
@@ -157,29 +160,29 @@ pub record IsStep (mode : Mode) (dialect : Dialect) (before after : List ℕ) (o
   pub is_line : IsLine before line rest
   pub obeyed : Obeys mode (asked_by_line dialect line) rest after old new
 
--- what is left of the script after a step, and the client and its answers then
+-- what is left of the script after a step, with the client and its answers at that point
 pub record Turn : Type 0 where
   pub rest : List ℕ
   pub talk : Talk
 
--- Line by line, from what is left and from the client before. Each of these clients may begin a line. So the writer holds the
--- lines of the turns in their order, and no other byte.
+-- The script is done line by line, from what is left and from the client at the beginning. Each client before a line may begin
+-- it. So the writer holds the lines of the turns in their order, and no other byte.
 abbrev pub Plays : Mode → Dialect → (MayBegin : MemberView → Type 0) → (before : List ℕ) (old : Talk) → List Turn → (after : List ℕ) (new : Talk) → Type 0
 Plays mode dialect MayBegin before old [] after new = (after ≡ before) × (new ≡ old)
 Plays mode dialect MayBegin before old (turn ∷ turns) after new =
     MayBegin old.client × IsStep mode dialect before turn.rest old turn.talk × Plays mode dialect MayBegin turn.rest turn.talk turns after new
 
--- no more lines than the bound, if there is one
+-- there are at most as many lines as the bound allows, if there is one
 abbrev pub IsWithin : (most : Option ℕ) (lines : ℕ) → Type 0
 IsWithin None lines = Unit {0}
 IsWithin (Some most) lines = lines ≤ most
 
--- the bytes that a client's receipts since then are counted to hold
+-- the number of bytes that the receipts of a client since `first` are counted to hold
 abbrev pub held_since : (first now : MemberView) → ℕ
 held_since first now = receipts_bytes (drop (length first.receipts) now.receipts)
 
 -- If there is a bound on the lines, there is also a bound on these bytes since the script's beginning: 256 MiB. A line may be
--- begun while they are not more.
+-- begun as long as they do not exceed it.
 abbrev pub IsLight : (most : Option ℕ) (first now : MemberView) → Type 0
 IsLight None first now = Unit {0}
 IsLight (Some most) first now = held_since first now ≤ 268435456
@@ -190,8 +193,8 @@ pub record IsPlayed (mode : Mode) (dialect : Dialect) (most : Option ℕ) (scrip
   pub few : IsWithin most (length turns)
   pub plays : Plays mode dialect (IsLight most first.client) script first turns [] last
 
--- A prefix of it is done. The client at the end is as these steps left it, or as the next step would leave it, whose answer could
--- not be written (for an audit: as an audit that had no memory at that point). What the writer holds is not known.
+-- A prefix of it is done. The client at the end is as these steps left it, or as it would be after one more step, whose answer
+-- could not be written (for an audit: as an audit that had no memory at that point). What the writer holds is not known.
 pub record IsPlayedInPart (mode : Mode) (dialect : Dialect) (most : Option ℕ) (script : List ℕ) (first last : Talk) : Type 0 where
   pub turns : List Turn
   pub few : IsWithin most (length turns)

@@ -24,17 +24,17 @@ use Rattle.cc_session.specs.Showing.{IsShownOf}
 
 -- ---- refusals
 
--- the place of a fault in the source that was sent, or its function
+-- the place of a fault in the source that was sent, or the function that has it
 abbrev pub where_text : (source : List ℕ) → ServiceFault → List ℕ
 where_text source (service.Text f) = place_text (text_fault_place f)
 where_text source (service.Piece function f) = function_text source f
 where_text source fault = []
 
--- the line of a refusal of the service
+-- the line for a refusal of the service
 abbrev pub refusal_text : (source : List ℕ) → ServiceFault → List ℕ
 refusal_text source fault = fault_line (fault_number fault) (where_text source fault)
 
--- the line of 40: the service answered, but there was no memory for the rest
+-- the line for 40: the service answered, but there was no memory for the rest
 abbrev pub no_memory_text : List ℕ
 no_memory_text = fault_line 40 []
 
@@ -71,7 +71,7 @@ pub record IsRunText (words : List ℕ) (steps : ℕ) (reply : Reply) (text : Li
   pub ran : IsRunOf unit.image steps words run
   pub text_is : text ≡ run_text run
 
--- after some of the steps, and fewer than all, an image is not at its end
+-- after some of the steps, fewer than `steps`, the image is not at its end
 abbrev pub IsCutOff : Image → (steps : ℕ) → Type 0
 IsCutOff image steps = (done : ℕ) × (done < steps) × ((machine_behavior image [] done).outcome ≡ Going)
 

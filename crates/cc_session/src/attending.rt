@@ -20,20 +20,20 @@ use std::alloc::Global;
 use std::io::{self, Read, Write};
 use std::sync::Wait;
 
-// The most lines of a script from a spool that are done. So a script that asks only for errors holds its client for a bounded
+// At most this many lines of a script from a spool are done. So a script that asks only for errors holds its client for a bounded
 // time.
 const MOST_LINES: usize = 65_536;
 
-/// Does what a script asks for, in a mode, by a client of a service, up to its end or a fault that ends it, 51 to 54. The line of
-/// that fault is then written. If that line can't be written the fault is 54, which has no line. Clients on other threads may
-/// play theirs on the same service.
+/// Does what a script asks for, in a mode, with a client of a service, up to the script's end or a fault that ends it, 51 to 54.
+/// The line of that fault is then written. If that line can't be written the fault is 54, which has no line. Clients on other
+/// threads may play theirs on the same service.
 ///
 /// The script comes from `reader`; each answer goes to `writer`, which is flushed after it: at the end it holds the lines of the
 /// script's turns in their order, and no other byte. What helps a person with a fault goes to `explanations`; if such a write
 /// fails the script goes on. `dialect` says which lines it may have. If there is a bound on its lines, `most`, at most that many
-/// are done, and 52 ends a script that has more: at 0 every script that has a byte. A line counts with the source after it,
-/// whatever is answered. 52 also ends such a script, if it has more, after the line with which the receipts that the client got
-/// for it hold more than 256 MiB (`held_since` of `Client`).
+/// are done, and 52 ends a script that has more: at 0 every script that has a byte. A line and the source after it count as one
+/// line, whatever is answered. 52 also ends such a script after the line that brings the client's receipts for it above 256 MiB
+/// (`held_since` of `Client`), if the script goes on after that.
 pub fn play_in<N, H, R: Read, W: Write, E: Write, D>(
     rt: &H,
     alloc: Global,
@@ -71,7 +71,7 @@ where
     tell_halt(halted, writer, explanations)
 }
 
-/// Does so in the plain mode: `play_in`.
+/// The same in the plain mode: `play_in`.
 pub fn play<N, H, R: Read, W: Write, E: Write, D>(
     rt: &H,
     alloc: Global,
@@ -122,16 +122,16 @@ fn is_closing<S: Spool>(spool: &mut S, meter: &Meter) -> bool
     spool.is_over() || meter.is_full()
 }
 
-/// Does the scripts of a spool in a mode one after another, by one client of a service, until the spool says that no more is to
+/// Does the scripts of a spool in a mode one after another, with one client of a service, until the spool says that no more is to
 /// be taken, or the meter that all clients of the service share is full. At most 65,536 lines of each script are done, and none
-/// after those whose receipts hold more than 256 MiB; if a script has more, its answer ends in the line of 52.
+/// after those whose receipts hold more than 256 MiB; if a script has more, its answer ends with the line for 52.
 ///
-/// A script that has been at work for long ends by 61 after the line at work, or within a `run`, if others wait (`is_long`,
-/// `is_awaited`) or the meter is full, and if it has more.
+/// A script that has been at work for long ends with 61 after the line at work, or within a `run`, if it has more, and if others
+/// wait (`is_long`, `is_awaited`) or the meter is full.
 ///
-/// A fault that ends a script, 51 to 54 or 61, ends it alone: its answer is handed over with the fault's number, and the next is
-/// taken. The line of the fault is the answer's last, but 54 has no line: what becomes of an answer that can't be written is the
-/// spool's matter.
+/// A fault that ends a script, 51 to 54 or 61, ends only that script: its answer is handed over with the fault's number, and the
+/// next is taken. The line of the fault is the answer's last, but 54 has no line: what becomes of an answer that can't be written
+/// is the spool's matter.
 pub fn attend_in<N, H, S, D>(
     rt: &H,
     alloc: Global,
@@ -186,7 +186,7 @@ where
     }
 }
 
-/// Does so in the plain mode: `attend_in`.
+/// The same in the plain mode: `attend_in`.
 pub fn attend<N, H, S, D>(
     rt: &H,
     alloc: Global,

@@ -13,18 +13,18 @@ use crate::end::SessionEnd;
 use crate::steward::{Generation, GenerationEnd};
 use std::sync::atomic::{AtomicBool, AtomicU64, Ordering};
 
-/// When a generation ends: by the bytes that its history is counted to hold (`held_since` of `cc_service::Client`: 256 for each
-/// call; for a change also the source, code, globals and certificate of its unit; for a list also 48 for each name), or by the
-/// scripts that were taken.
+/// When a generation ends: depending on the bytes that its history is counted to hold (`held_since` of `cc_service::Client`: 256
+/// for each call; for a change also the source, code, globals and certificate of its unit; for a list also 48 for each name), or
+/// on the number of scripts that were taken.
 ///
 /// At least one script is done in each generation, whatever these numbers are.
 #[derive(Clone, Copy, Debug, Drop, PartialEq, Eq)]
 pub struct Bounds {
-    /// If it holds this many bytes, it ends at the first moment at which no script is being done.
+    /// If the history holds this many bytes, the generation ends at the first moment at which no script is being done.
     pub ends: u64,
-    /// If it holds this many bytes, no client takes a further script.
+    /// If the history holds this many bytes, no client takes a further script.
     pub most: u64,
-    /// The scripts after which no client takes a further one.
+    /// Once this many scripts were taken, no client takes a further one.
     pub scripts: u64,
 }
 
@@ -55,7 +55,7 @@ fn is_enough(bounds: Bounds, counts: Counts) -> bool
 }
 
 /// What the clients of a generation have done so far. All of them share it. `attend` asks it and reports to it; so may whoever
-/// does scripts by `play`.
+/// does scripts with `play`.
 #[derive(Drop)]
 pub struct Meter {
     bounds: Bounds,
@@ -128,7 +128,7 @@ impl Meter {
             });
     }
 
-    // What the generation did whose service ended so.
+    // What a generation did, if its service ended like this.
     pub(crate) fn generation(&self, end: SessionEnd) -> Generation {
         let counts = self.counts();
         let why = if !self.full.load(Ordering::SeqCst) {

@@ -39,10 +39,10 @@ use std::alloc::Global;
 use std::io::{Read, Write};
 use std::sync::Wait;
 
-// The most bytes of input words after a line.
+// The input words after a line may have at most this many bytes.
 const MOST_INPUT: usize = 65_536;
 
-// What plays the scripts of a service's clients, in a mode: of each at most this many lines, if there is a bound, and then while
+// Plays the scripts of a service's clients, in a mode. If there is a bound, at most `most` lines of each are done, and only while
 // there is patience.
 #[derive(Drop)]
 pub(crate) struct Player<'a, N: Named, H, D: Disk, P> {
@@ -208,8 +208,8 @@ impl<'a, N: Named + Send + Sync + 'static, H: Wait, D: Disk, P: Patience> Player
         }
     }
 
-    // Replaces the unit of a name by one of this source, if the old one's source is the expected one. No source of a later
-    // command is handed in meanwhile.
+    // Replaces the unit under a name with one compiled from this source, if the old unit has the expected source. No source of a
+    // later command is handed in meanwhile.
     fn exchange<W: Write, E: Write>(
         &self,
         client: &mut Client<N>,
@@ -228,7 +228,7 @@ impl<'a, N: Named + Send + Sync + 'static, H: Wait, D: Disk, P: Patience> Player
         tell_change(self.alloc, answer, source, answers, explanations)
     }
 
-    // Does so with the source that comes next, unless there was no room for the expected one.
+    // The same with the source that comes next, unless there was no room for the expected one.
     fn update_from<R: Read, W: Write, E: Write>(
         &self,
         client: &mut Client<N>,
@@ -261,7 +261,7 @@ impl<'a, N: Named + Send + Sync + 'static, H: Wait, D: Disk, P: Patience> Player
         }
     }
 
-    // Replaces the unit of a name, if its source is the one that comes next; the new unit's source comes after it.
+    // Replaces the unit under a name, if its source is the one that comes next; the new unit's source comes after that.
     fn update<R: Read, W: Write, E: Write>(
         &self,
         client: &mut Client<N>,
@@ -351,7 +351,7 @@ impl<'a, N: Named + Send + Sync + 'static, H: Wait, D: Disk, P: Patience> Player
         }
     }
 
-    // Runs the image of a name's unit.
+    // Runs the image of the unit under a name.
     fn run<W: Write, E: Write>(
         &self,
         client: &mut Client<N>,
@@ -386,7 +386,7 @@ impl<'a, N: Named + Send + Sync + 'static, H: Wait, D: Disk, P: Patience> Player
         }
     }
 
-    // Runs the image of a name's unit on input words.
+    // Runs the image of the unit under a name on input words.
     fn call_words<W: Write, E: Write>(
         &self,
         client: &mut Client<N>,
@@ -404,7 +404,7 @@ impl<'a, N: Named + Send + Sync + 'static, H: Wait, D: Disk, P: Patience> Player
         }
     }
 
-    // Runs it on the input words in these bytes.
+    // Runs the image of the unit under a name on the input words in these bytes.
     fn call_on<W: Write, E: Write>(
         &self,
         client: &mut Client<N>,
@@ -434,7 +434,7 @@ impl<'a, N: Named + Send + Sync + 'static, H: Wait, D: Disk, P: Patience> Player
         }
     }
 
-    // Runs the image of a name's unit on the input words that come next.
+    // Runs the image of the unit under a name on the input words that come next.
     fn call<R: Read, W: Write, E: Write>(
         &self,
         client: &mut Client<N>,
@@ -463,7 +463,7 @@ impl<'a, N: Named + Send + Sync + 'static, H: Wait, D: Disk, P: Patience> Player
         }
     }
 
-    // Writes this part of a name's unit.
+    // Writes this part of the unit under a name.
     fn show<W: Write, E: Write>(
         &self,
         client: &mut Client<N>,
@@ -496,7 +496,7 @@ impl<'a, N: Named + Send + Sync + 'static, H: Wait, D: Disk, P: Patience> Player
         }
     }
 
-    // Writes the library again. It is no client's call.
+    // Compacts the library. This is no client's call.
     fn compact<W: Write, E: Write>(
         &self,
         answers: &mut W,
@@ -508,7 +508,7 @@ impl<'a, N: Named + Send + Sync + 'static, H: Wait, D: Disk, P: Patience> Player
         tell_done(self.alloc, answer, answers, explanations)
     }
 
-    // Writes how much of its area the library takes. It is no client's call.
+    // Writes how much of its area the library takes. This is no client's call.
     fn space<W: Write, E: Write>(
         &self,
         answers: &mut W,
@@ -520,8 +520,8 @@ impl<'a, N: Named + Send + Sync + 'static, H: Wait, D: Disk, P: Patience> Player
         tell_room(self.alloc, answer, answers, explanations)
     }
 
-    // Writes what an audit says of a unit that was found, or that memory ran out in it. The result is whether the audit said
-    // anything.
+    // Writes what an audit says about a unit that was found, or that memory ran out during the audit. The result is whether the
+    // audit said anything.
     fn audit_unit<W: Write, E: Write>(
         &self,
         name: &[u8],
@@ -546,7 +546,7 @@ impl<'a, N: Named + Send + Sync + 'static, H: Wait, D: Disk, P: Patience> Player
         }
     }
 
-    // Audits the unit of a name. The result is whether it was found and the audit said anything.
+    // Audits the unit under a name. The result is whether it was found and the audit said anything.
     fn audit_name<W: Write, E: Write>(
         &self,
         client: &mut Client<N>,
@@ -565,8 +565,8 @@ impl<'a, N: Named + Send + Sync + 'static, H: Wait, D: Disk, P: Patience> Player
         }
     }
 
-    // Audits the units of these names, up to the first that is not found or whose audit says nothing. The result is whether there
-    // was no such unit.
+    // Audits the units under these names, up to the first that is not found or whose audit says nothing. The result is whether
+    // there was no such unit.
     fn audit_names<W: Write, E: Write>(
         &self,
         client: &mut Client<N>,
@@ -586,7 +586,7 @@ impl<'a, N: Named + Send + Sync + 'static, H: Wait, D: Disk, P: Patience> Player
         Ok(true)
     }
 
-    // Audits the unit of a name.
+    // Audits the unit under a name.
     fn audit_one<W: Write, E: Write>(
         &self,
         client: &mut Client<N>,
@@ -728,7 +728,7 @@ impl<'a, N: Named + Send + Sync + 'static, H: Wait, D: Disk, P: Patience> Player
         let mut line = [0u8; LINE_BYTES];
         let mut hints = Hints::new(self.alloc);
         let mut held = Held::new(client);
-        // Each line but the last takes a byte at least.
+        // Each line except the last takes at least one byte.
         for lines in 0..=SCRIPT_BYTES {
             held.count(client);
             let limit = held.limit(self.most, lines, self.patience);

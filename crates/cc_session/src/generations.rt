@@ -65,7 +65,7 @@ fn is_well(end: SessionEnd) -> bool
     }
 }
 
-// Whether a later one did: without a fault, or by one that may pass.
+// Whether a later generation ended in such a way that a next one may begin: without a fault, or with one that may pass.
 fn may_pass(end: SessionEnd) -> bool
     ensures passes { result ≡ true → GoesOn (suc zero) end }
     ensures not { result ≡ false → end ≢ Finished }
@@ -76,7 +76,7 @@ fn may_pass(end: SessionEnd) -> bool
     }
 }
 
-// For how many seconds the server waits after a generation that ended so, if it waited for `last` seconds the last time.
+// How many seconds the server waits after a generation that ended like this, if it waited for `last` seconds the last time.
 fn pause_behind(end: SessionEnd, last: u64) -> u64
     ensures { result ≤ 60 }
 {
@@ -86,7 +86,8 @@ fn pause_behind(end: SessionEnd, last: u64) -> u64
     }
 }
 
-// Explains to a person that a generation ended by a fault that may pass: only for the first of several faults in a row.
+// Explains to a person that a generation ended with a fault that may pass. Only the first of several faults in a row is
+// explained.
 fn tell_pause<E: Write>(end: SessionEnd, pause: u64, explanations: &mut E) {
     match end {
         SessionEnd::Fault(number) if pause == 1 => {
@@ -101,8 +102,8 @@ fn tell_pause<E: Write>(end: SessionEnd, pause: u64, explanations: &mut E) {
     }
 }
 
-// Whether a next generation is to begin: the last one ended without a fault or by one that may pass, and some spool is not over.
-// After a fault there is a pause.
+// Whether a next generation is to begin: the last one ended without a fault or with one that may pass, and some spool is not
+// over. After a fault there is a pause.
 fn goes_on<H: Clock, E: Write, D: Drop, S: Spool + Drop>(
     rt: &H,
     left: &mut Served<D, S>,
@@ -123,13 +124,13 @@ fn goes_on<H: Clock, E: Write, D: Drop, S: Spool + Drop>(
     !rest(rt, *pause, left.spools.as_mut_slice())
 }
 
-/// Serves as `serve_in` does, one generation after the other, until each spool is over or a service ends by a fault. A generation
-/// begins with the disk and the spools that the one before left; the numbers of its receipts begin at 1. Between two of them no
-/// script is taken, for as long as the service's end, the opening of the library and `steward` take.
+/// Serves as `serve_in` does, one generation after the other, until each spool is over or a service ends with a fault. A
+/// generation begins with the disk and the spools that the one before left; the numbers of its receipts begin at 1. Between two
+/// of them no script is taken, for as long as the service's end, the opening of the library and `steward` take.
 ///
-/// If a later generation ends by 40 or 41, which may pass, the next is tried after a pause: of a second at first, and then twice
-/// as long each time, up to a minute. The first of several faults in a row is explained on `explanations`. Serving ends by such a
-/// fault only if each spool is over then. Any fault of the first generation ends it.
+/// If a later generation ends with 40 or 41, which may pass, the next is tried after a pause: of a second at first, and then
+/// twice as long each time, up to a minute. The first of several faults in a row is explained on `explanations`. Serving ends
+/// with such a fault only if each spool is over then. Any fault of the first generation ends it.
 ///
 /// What goes to `writer` and `explanations`, and what is handed back, is as with `serve_in`, for the last generation.
 pub fn serve_on_in<H, S, W, E, D, T>(
@@ -199,7 +200,7 @@ where
     unreachable!()
 }
 
-/// Does so in the plain mode: `serve_on_in`.
+/// The same in the plain mode: `serve_on_in`.
 pub fn serve_on<H, S, W, E, D, T>(
     rt: &H,
     alloc: Global,

@@ -1,5 +1,5 @@
-// How far a script may go: by its lines, and by what the receipts that its client got for them hold. These are counted as it
-// goes.
+// How far a script may go: the bound on its lines, and the bound on what the receipts that its client got for them hold. Both are
+// counted as the script goes on.
 
 ghost use Rattle.cc_history.specs.History.{MemberView};
 ghost use Rattle.cc_session.specs.Playing.{Grows};
@@ -9,7 +9,7 @@ use crate::patience::Patience;
 use cc_script::ScriptFault;
 use cc_service::{Client, Named};
 
-// The most bytes that these receipts may hold if a further line of a script with a bound is to begin.
+// A further line of a script with a bound begins only if these receipts hold at most this many bytes.
 const MOST_HELD: u64 = 268_435_456;
 
 // What the receipts that a client got since a script was begun hold: how many receipts it had when they were last counted, and

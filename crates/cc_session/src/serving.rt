@@ -1,7 +1,8 @@
-// Many clients of one service, each in a thread of its own with the scripts that its spool gives, from the opening of the service to its end.
+// Many clients of one service, each in a thread of its own with the scripts that its spool gives, from the opening of the service
+// to its end.
 //
-// All memory that this needs beside the clients' is taken before the service is opened, so that no client is lost once it works. The disk
-// and the spools are handed back, so a next service can go on with them.
+// All memory that this needs, except the clients' own, is taken before the service is opened, so that no client is lost once it
+// works. The disk and the spools are handed back, so a next service can go on with them.
 
 ghost use Rattle.std.specs.Prelude.{◌≡◌, ◌≤◌, ℕ, All, List, [], IsTrue, IfOk, IfErr, OnErr, OnOk, map, vec_len};
 ghost use Rattle.std.specs.Vec.{vec_capacity};
@@ -66,7 +67,7 @@ fn room_for<N: Named, S: Drop>(alloc: Global, count: usize) -> Result<Room<N, S>
     })
 }
 
-// Makes this many clients of a service; 30 if it has fewer.
+// Makes this many clients of a service; 30 if the service has fewer.
 fn hire<N, H, D>(
     rt: &H,
     alloc: Global,
@@ -91,7 +92,7 @@ where
     Ok(())
 }
 
-// Puts each spool beside a client of its own.
+// Pairs each spool with a client of its own.
 fn pair<N: Named, S: Drop>(
     clients: &mut Vec<Client<N>>,
     spools: Vec<S>,
@@ -169,7 +170,7 @@ where
     }
 }
 
-// What is there when the clients have ended their work: the clients, their spools, and how it ended.
+// What is there when the clients have ended their work: the clients, their spools, and how the work ended.
 #[derive(Drop)]
 struct Worked<N: Named, S> {
     clients: Vec<Client<N>>,
@@ -212,7 +213,7 @@ fn unhired<N: Named, S: Drop>(spools: Vec<S>, room: Room<N, S>) -> Worked<N, S>
     }
 }
 
-/// What is left of serving: the disk; the spools, in their order; how it ended.
+/// What is left of serving: the disk; the spools, in their order; how serving ended.
 #[derive(Drop)]
 pub struct Served<D: Drop, S: Drop> {
     pub disk: D,
@@ -256,7 +257,7 @@ where
     E: Write,
     D: Disk + Drop,
     T: Steward,
-    // Whatever bytes those were that recover to the map that the service's type names.
+    // This holds for any bytes that recover to the map that the service's type names.
     ensures ended { (bytes : List ℕ) → (IsTrue D.honest → Recovers bytes N.base)
         → IsEnded D.Disk N.failures bytes N.from N.left (members worked.clients.items) worked.end result.end result.disk }
     ensures spools { result.spools ≡ worked.spools }
@@ -402,7 +403,7 @@ where
     }
 }
 
-// Serves as `serve` does, and writes no line of a fault.
+// Serves as `serve` does, but writes no line for a fault.
 pub(crate) fn serve_quietly<H, S, E, D, G, T>(
     rt: &H,
     alloc: Global,
@@ -450,9 +451,9 @@ where
 /// those for which none can be made begin when others have ended. The workers pass `gate`, which can show how far a long `add`
 /// is. `steward` is called when scripts are taken and, if they were, with how the service ended.
 ///
-/// The line of a fault of the opening (35, 37, 38, 40, 41; 30 if there are too many spools) or of the end (39, 40) goes to
-/// `writer`, and what helps a person with it to `explanations`. `end` is the first, or 39, and is written. A fault that ends a
-/// script is reported in its answer alone. Disk and spools are handed back after each.
+/// The line for a fault of the opening (35, 37, 38, 40, 41; 30 if there are too many spools) or of the end (39, 40) goes to
+/// `writer`, and what helps a person with it to `explanations`. `end` is the first of these faults, or 39, and its line is
+/// written. A fault that ends a script is reported only in the script's answer. Disk and spools are handed back after each.
 pub fn serve_in<H, S, W, E, D, G, T>(
     rt: &H,
     alloc: Global,
@@ -497,7 +498,7 @@ where
     left
 }
 
-/// Does so in the plain mode: `serve_in`.
+/// The same in the plain mode: `serve_in`.
 pub fn serve<H, S, W, E, D, G, T>(
     rt: &H,
     alloc: Global,

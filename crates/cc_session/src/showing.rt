@@ -7,7 +7,7 @@ use cc_service::Found;
 use cc_task::Part;
 use std::alloc::{AllocError, Global};
 
-// The text of this part of the unit that was found: its image as Intel HEX; its source in a frame that says how many bytes it
+// The text of this part of the unit that was found: its image as Intel HEX; or its source in a frame that says how many bytes it
 // has.
 pub(crate) fn text_of(alloc: Global, found: &Found, part: Part) -> Result<Vec<u8>, AllocError>
     ensures { IfOk result (λ text. IsShownOf part found.now.entry.reply text.items) }

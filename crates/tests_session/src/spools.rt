@@ -1,4 +1,4 @@
-// Spools in memory, with scripts of several clients and the answers that each gets whatever the others do.
+// Spools in memory, with scripts of several clients, and the answers that each gets whatever the others do.
 
 use cc_spool::MemorySpool;
 use std::alloc::{AllocError, Global};
@@ -45,7 +45,7 @@ pub static SCRIPTS: [(&str, &str); 14] = [
 /// The clients, each with how many of the scripts it does: forty in all.
 pub const CLIENTS: [(u8, usize); 3] = [(b'a', 14), (b'b', 13), (b'c', 13)];
 
-/// A script. One that is torn can't be read after its bytes.
+/// A script. If it is torn, it can't be read past its bytes.
 #[derive(Drop)]
 pub struct Paper {
     pub bytes: VecDeque<u8>,
@@ -82,7 +82,7 @@ impl Write for Page {
     }
 }
 
-/// The most bytes of an answer that has all the room that it needs.
+/// An answer that has all the room that it needs has at most this many bytes.
 pub const ROOM: usize = 4_000_000;
 
 /// An empty answer with this room.
@@ -116,7 +116,7 @@ pub fn without_numbers(alloc: Global, lines: &[u8]) -> Result<Vec<u8>, AllocErro
     Ok(kept)
 }
 
-/// A spool with this many first scripts of a client.
+/// A spool with the first `count` scripts of a client.
 pub fn spool_of(
     alloc: Global,
     letter: u8,
@@ -162,7 +162,7 @@ pub fn answers_of(alloc: Global, spool: &MemorySpool<Paper, Page>) -> Result<Vec
     Ok(all)
 }
 
-/// Whether this many of the scripts of a client were answered as they should be, and no other.
+/// Whether exactly `count` of the scripts of a client were answered, each as it should be.
 pub fn is_right(
     alloc: Global,
     letter: u8,

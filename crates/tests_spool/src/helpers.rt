@@ -1,7 +1,8 @@
-// The folder of a test, and what tests do in it and see of it.
+// The folder of a test, and what tests do in it and look at.
 //
-// Each call of the system has a function of its own here, which answers by a `bool` or a number if the call is refused. A test
-// that passed errors on, or asserted in many places, would take minutes to prove, since each of its exits drops all that it has.
+// Each call of the system has a function of its own here; if the call is refused, the function answers with a `bool` or a number.
+// A test that passed errors on, or asserted in many places, would take minutes to prove, since each of its exits drops all that
+// it has.
 
 use cc_spool::{
     AnswerFile, FolderLayout, FolderSpool, Held, Limits, Recovered, ScriptFile, Spool, Submission,
@@ -26,7 +27,7 @@ pub struct Folder {
     pub path: &'static str,
 }
 
-/// What is seen of a file: its rights, and when it was last written.
+/// What is looked at in a file: its rights, and when it was last written.
 #[derive(Clone, Copy, Drop)]
 pub struct Seen {
     rights: u32,
@@ -54,7 +55,7 @@ impl Folder {
         fs::remove_dir(&self.rt, path.as_str()).is_ok()
     }
 
-    /// Makes a file of this text.
+    /// Makes a file with this text.
     pub fn write(self, part: &str, name: &str, text: &str) -> bool {
         let path = self.path_in(part, name);
         fs::write(&self.rt, path.as_str(), text).is_ok()
@@ -119,7 +120,7 @@ impl Folder {
             .ok()
     }
 
-    /// Makes a file this many bytes long.
+    /// Makes a file `bytes` bytes long.
     pub fn set_length(self, part: &str, name: &str, bytes: u64) -> bool {
         match self.open(part, name) {
             Some(file) => file.set_len(bytes).is_ok(),
@@ -134,7 +135,7 @@ impl Folder {
         }
     }
 
-    /// Makes an empty file that was written a minute from now.
+    /// Makes an empty file whose time of writing is a minute from now.
     pub fn set_ahead(self, part: &str, name: &str) -> bool {
         let Ok(now) = SystemTime::now(&self.rt) else {
             return false;
@@ -145,19 +146,19 @@ impl Folder {
         }
     }
 
-    /// Makes the rights of a directory these.
+    /// Sets the rights of a directory.
     pub fn set_rights(self, part: &str, rights: u32) -> bool {
         let path = self.path_in(part, "");
         fs::set_permissions(&self.rt, path.as_str(), Permissions::from_mode(rights)).is_ok()
     }
 
-    /// Gives a directory to another user; refused to anybody but root.
+    /// Gives a directory to another user; only root is allowed to.
     pub fn give(self, part: &str, user: u32) -> bool {
         let path = self.path_in(part, "");
         chown(&self.rt, path.as_str(), Some(user), None).is_ok()
     }
 
-    /// What is seen of a file, and no link is followed.
+    /// What is looked at in a file; a link is not followed.
     pub fn see(self, part: &str, name: &str) -> Option<Seen> {
         let path = self.path_in(part, name);
         let Ok(told) = fs::symlink_metadata(&self.rt, path.as_str()) else {
@@ -182,7 +183,7 @@ impl Folder {
         }
     }
 
-    /// Whether a file is there, and was not written since it was seen.
+    /// Whether a file is there, and was not written since it was looked at.
     pub fn is_as_seen(self, part: &str, name: &str, before: Option<Seen>) -> bool {
         match (before, self.see(part, name)) {
             (Some(before), Some(seen)) => before.written == seen.written,
@@ -190,7 +191,8 @@ impl Folder {
         }
     }
 
-    /// How many entries a part has, and the name of one that is no answer. For a part that can't be read, the most there can be.
+    /// How many entries a part has, and the name of one that is no answer. For a part that can't be read, the number is the
+    /// largest possible.
     fn entries(self, part: &str) -> (usize, String) {
         let mut script = String::new(self.rt.alloc());
         let path = self.path_in(part, "");
@@ -220,7 +222,8 @@ impl Folder {
         held(FolderLayout::new(self.rt, self.rt.alloc(), self.path).ok()?)
     }
 
-    /// The same as a server with this many clients has it. Each client may do a script for this many seconds while others wait.
+    /// The same, as a server with this many clients takes the folder. Each client may do a script for this many seconds while
+    /// others wait.
     pub fn take_to_serve(self, clients: usize, patience: u32) -> Option<(FolderLayout, Held)> {
         let limits = Limits {
             days: 7,
@@ -232,12 +235,12 @@ impl Folder {
         held(FolderLayout::for_server(self.rt, self.rt.alloc(), self.path, limits).ok()?)
     }
 
-    /// Whether it is no folder that a server takes.
+    /// Whether a server refuses the folder.
     pub fn is_refused(self) -> bool {
         self.take().is_none()
     }
 
-    /// Moves the folder, so that it is another one.
+    /// Moves the folder to the path of another one.
     pub fn move_to(self, other: Folder) -> bool {
         fs::rename(&self.rt, self.path, other.path).is_ok()
     }
@@ -247,14 +250,14 @@ impl Folder {
         fs::remove_dir_all(&self.rt, self.path).is_ok()
     }
 
-    /// Drops its parts, and removes it.
+    /// Drops the layout and the lock of the folder, and removes it.
     pub fn end(self, layout: FolderLayout, held: Held) -> bool {
         drop(layout);
         drop(held);
         self.remove_all()
     }
 
-    /// Drops a spool in it, and removes it.
+    /// Drops a spool in the folder, and removes the folder.
     pub fn end_spool(self, spool: FolderSpool, held: Held) -> bool {
         drop(spool);
         drop(held);
@@ -270,7 +273,7 @@ fn held(mut layout: FolderLayout) -> Option<(FolderLayout, Held)> {
     }
 }
 
-/// The next script, which waits: a change is seen by a look that is made a moment later.
+/// The next script, for which this waits: a change is seen when the client looks a moment later.
 pub fn begun(spool: &mut FolderSpool) -> Option<(ScriptFile, AnswerFile)> {
     for _ in 0..1000 {
         let next = spool.next();
@@ -325,10 +328,10 @@ pub fn second(layout: &FolderLayout, most: u64) -> Option<FolderSpool> {
 #[derive(Clone, Copy, Drop)]
 pub enum Meanwhile {
     Nothing,
-    /// Its place in `new` is given to another one, and two seconds go by.
+    /// The script's place in `new` is given to another one, and two seconds go by.
     Replaced,
-    /// The answer of `plain` is moved to `done`, as if a call over a network was done, its answer was lost, and it was made
-    /// again.
+    /// The answer of `plain` is moved to `done`, as if a call over a network had succeeded, its reply had been lost, and the call
+    /// had been made again.
     Moved,
     /// As much is written as an answer may have, and then more.
     Filled,
@@ -352,7 +355,7 @@ fn replace(folder: Folder) -> bool {
     is_replaced
 }
 
-/// Takes the next script, and answers it by this text. The result is whether all of that succeeds; none if no script waits.
+/// Takes the next script, and answers it with this text. The result is whether all of that succeeds; none if no script waits.
 pub fn answer(
     folder: Folder,
     spool: &mut FolderSpool,
@@ -371,7 +374,7 @@ pub fn answer(
     Some(is_written && is_done)
 }
 
-/// Reads the next script whole, once it comes, and answers it by this text. The result is whether all of that succeeds.
+/// Reads the whole of the next script, once it comes, and answers it with this text. The result is whether all of that succeeds.
 pub fn answer_read(folder: Folder, spool: &mut FolderSpool, text: &str) -> bool {
     let Some((mut script, mut answer)) = begun(spool) else {
         return false;
@@ -383,7 +386,7 @@ pub fn answer_read(folder: Folder, spool: &mut FolderSpool, text: &str) -> bool 
     is_read && is_written
 }
 
-/// Answers what waits. The result is how many scripts that were, up to 20.
+/// Answers the scripts that wait. The result is how many they were, up to 20.
 pub fn done(folder: Folder, spool: &mut FolderSpool) -> usize {
     for count in 0..20 {
         match answer(folder, spool, "ok\n", Meanwhile::Nothing) {
@@ -419,8 +422,7 @@ fn renumber(folder: Folder, name: &str) -> bool {
         && folder.rename("tmp", "copy", "new", name)
 }
 
-/// Puts another file with the same text and time in the place of the script that comes, as if a file's number belonged to its
-/// path.
+/// Replaces the script that comes with another file that has the same text and time, as if a file's number belonged to its path.
 pub fn renumber_one(folder: Folder) -> bool {
     for _ in 0..1000 {
         thread::sleep(&folder.rt, Duration::from_millis(1));
@@ -432,10 +434,10 @@ pub fn renumber_one(folder: Folder) -> bool {
     false
 }
 
-/// How a script that was left ends.
+/// How a script ends that was left.
 #[derive(Clone, Copy, Drop)]
 pub enum End {
-    /// Answered, by the number of the fault that its answer reports last, if it reports one.
+    /// It was answered; this is the number of the fault that its answer reports last, if it reports one.
     Answered(Option<u32>),
     NotTaken,
 }
@@ -446,7 +448,7 @@ pub fn put_as_written(folder: Folder) -> bool {
     folder.write("new", name.as_str(), "list\n")
 }
 
-/// Leaves a script from this reader. The result is whether it is answered without a fault, and this much is written on.
+/// Leaves a script from this reader. The result is whether it is answered without a fault, and this text is passed on.
 pub fn is_answered<S: Read, E: Write>(
     folder: Folder,
     layout: &FolderLayout,
@@ -465,7 +467,7 @@ pub fn is_answered<S: Read, E: Write>(
     )
 }
 
-/// Leaves a script. The result is whether it ends so, and this much is written on.
+/// Leaves a script. The result is whether it ends like this, and this text is passed on.
 pub fn ends_so<E: Write>(
     folder: Folder,
     layout: &FolderLayout,

@@ -1,7 +1,7 @@
-/* Wraps the C library's calls in a server: writes to the file CALLS_TO, a line each, the calls that change or sync the file CALLS_OF, as
+/* Wraps the C library's calls in a server: writes to the file CALLS_TO, one line for each, the calls that change or sync the file CALLS_OF, as
    calls.c does ("write OFFSET HEX", "length BYTES", "room OFFSET BYTES", "sync"), and each answer that is handed over: "answer ID SCRIPT
-   ANSWER", both in hex, when cur/ID.answer becomes done/ID. A line is written, in one piece, after its call and before this returns. So if
-   one of two calls waited for the other, their lines are in their order. */
+   ANSWER", both in hex, when cur/ID.answer becomes done/ID. A line is written, in one piece, after its call and before the wrapper returns. So if one
+   of two calls waited for the other, their lines are in the same order. */
 #define _GNU_SOURCE
 #include <dlfcn.h>
 #include <fcntl.h>
@@ -85,7 +85,7 @@ int rename(const char *from, const char *to) {
     const char *ending = strstr(from, ".answer"), *done = strstr(to, "/done/");
     struct line line = {0};
     if (ending && done && getenv("CALLS_TO")) {
-        /* Read before: a client may remove the answer as soon as it is there. */
+        /* The answer is read before the call, since a client may remove it as soon as it is there. */
         char script[4096];
         snprintf(script, sizeof script, "%.*s", (int)(ending - from), from);
         add_text(&line, "answer ");

@@ -1,5 +1,5 @@
-/* Wraps the C library's calls: writes to the file CALLS_TO, a line each, those that change or sync the file CALLS_OF:
-   "write OFFSET HEX", "length BYTES", "room OFFSET BYTES" and "sync". Each is written once it has succeeded. */
+/* Wraps the C library's calls: writes to the file CALLS_TO, one line for each, those that change or sync the file CALLS_OF:
+   "write OFFSET HEX", "length BYTES", "room OFFSET BYTES" and "sync". Each line is written once its call has succeeded. */
 #define _GNU_SOURCE
 #include <dlfcn.h>
 #include <fcntl.h>

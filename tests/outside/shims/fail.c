@@ -1,6 +1,6 @@
 /* Wraps the C library's calls. Among those that name a file below the folder FAIL_IN, or one that is open there, the call with the number FAIL_AT
-   (from 1) is refused with the error number FAIL_WITH. With FAIL_DONE it is done first, as over a network whose answer is lost; with FAIL_KILL
-   the process is killed in its place. When it comes, a line goes to the file FAIL_TOLD: "NUMBER CALL FILE". */
+   (from 1) is refused with the error number FAIL_WITH. With FAIL_DONE the call is done first, as over a network whose answer is lost; with FAIL_KILL
+   the process is killed instead. When the call comes, a line goes to the file FAIL_TOLD: "NUMBER CALL FILE". */
 #define _GNU_SOURCE
 #include <dlfcn.h>
 #include <errno.h>
@@ -69,7 +69,7 @@ int statx(int fd, const char *path, int flags, unsigned mask, struct statx *foun
     if (!(*path ? meets(path, "statx") : meets_open(fd, "statx"))) return NEXT(statx)(fd, path, flags, mask, found);
     return refused();
 }
-/* A file that was opened, or made, and whose number is lost. */
+/* A file that was opened or made, but whose number is lost. */
 static int opened(int fd, int is_met) {
     if (!is_met) return fd;
     if (fd >= 0) close(fd);

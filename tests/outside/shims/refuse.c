@@ -1,4 +1,4 @@
-/* A malloc that wraps the C library's: it refuses the allocation whose number the variable REFUSED says, in whichever thread that is. */
+/* A malloc that wraps the C library's: it refuses the allocation whose number is in the variable REFUSED, in whichever thread that is made. */
 #define _GNU_SOURCE
 #include <dlfcn.h>
 #include <errno.h>
@@ -16,6 +16,6 @@ void *malloc(size_t n) { NEXT(void *, "malloc", size_t); return refuse() ? 0 : n
 void *realloc(void *p, size_t n) { NEXT(void *, "realloc", void *, size_t); return refuse() ? 0 : next(p, n); }
 void *aligned_alloc(size_t a, size_t n) { NEXT(void *, "aligned_alloc", size_t, size_t); return refuse() ? 0 : next(a, n); }
 int posix_memalign(void **p, size_t a, size_t n) { NEXT(int, "posix_memalign", void **, size_t, size_t); return refuse() ? ENOMEM : next(p, a, n); }
-/* Writes a word to file 3 if the run ended before the allocation, also if a program with threads ends without its destructors. */
+/* Writes a word to descriptor 3 if the run ended before the allocation, even if a program with threads ends without its destructors. */
 __attribute__((destructor)) static void tell(void) { if (number > 0 && count < number) write(3, "all\n", 4); }
 void _exit(int status) { tell(); syscall(SYS_exit_group, status); __builtin_unreachable(); }

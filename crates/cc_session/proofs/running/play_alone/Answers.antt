@@ -1,4 +1,4 @@
--- The one client did the script, whatever the session's end is then.
+-- The one client did the script, whatever the session's end is.
 use Rattle.std.proofs.Common.{◌≡◌, [], ◌∷◌, None, rules}
 use Rattle.cc_script.specs.declared.command.Dialect.TheVariants.{Plain}
 use Rattle.cc_service.specs.Client.{members}

@@ -58,7 +58,7 @@ returns-in-Some g c =
           (λ h image left. g.met.D.Disk.only_now i.log.disk image h left) (g.met.D.Disk.counts_now old.disk) (λ p. cc p) answers;
     }
 
--- if the log would not take the record
+-- if the log does not take the record
 pub returns-in-Err : goal.returns-in-Err
 returns-in-Err g c =
     let D = g.D.Disk in

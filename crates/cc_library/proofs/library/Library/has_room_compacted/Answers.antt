@@ -1,4 +1,4 @@
--- The record has room after the compacted ones exactly if these leave it; a `compact` leaves exactly these.
+-- The record has room after the compacted records exactly if these leave enough; a `compact` leaves exactly these records.
 use Rattle.std.proofs.Common.{◌≡◌, ℕ, ◌-◌, ◌≤◌, IsTrue, Bool, false, sym, ◌∙◌, ap, subst, arith}
 use Rattle.cc_library.specs.Answers.{room_with}
 use Rattle.cc_library.specs.Body.{body_of}
