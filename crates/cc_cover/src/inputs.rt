@@ -1,16 +1,17 @@
-// The inputs of several runs: one a line.
+// The inputs of several runs, one on each line.
 
 use cc_runs::words_in;
 use std::alloc::Global;
 
-/// Why lines are no inputs: the line with this number, from 1, is no list of words, or memory ran out.
+/// Why lines are not inputs: the line with this number, counted from 1, is not a list of words, or memory ran out.
 #[derive(Clone, Copy)]
 pub enum BadInput {
     Line(usize),
     OutOfMemory,
 }
 
-/// The inputs that lines have, each as `words_in` of `cc_runs` reads it. What follows the last newline is a line if it has bytes.
+/// The inputs in these lines, each read as `words_in` of `cc_runs` reads it. What follows the last newline is a line if it has
+/// any bytes.
 pub fn inputs_of(alloc: Global, lines: &[u8]) -> Result<Vec<Vec<u32>>, BadInput> {
     let mut inputs = Vec::new(alloc);
     if lines.is_empty() {

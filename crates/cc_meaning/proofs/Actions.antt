@@ -148,7 +148,7 @@ module _ (form : FormTree) (cs : List Activation) (total : ℕ) where
 
   -- ---- elements
 
-  -- an array and an index that is in it or not
+  -- a write to an element, whether or not the index is in the array
   element_set_by : (v : Environment) (most : ℕ) (vs : List ℕ) (x : List ℕ) (i p w : ℕ) (s : State) (b : Bool) → nat_lt i (extent_of v.layout.objects x).length ≡ b → Fits v total most vs s
       → slice_get form.code p ≡ Some (instruction.SetElement (extent_of v.layout.objects x)) → (b ≡ true → Puts v total most vs s x i w)
       → Meets form (conf p vs (w ∷ i ∷ []) cs s) (Acted form cs total (conf p vs (w ∷ i ∷ []) cs s) v most (p + 1)) (if b then Gives Falls (record s { globals = with_element x i w s.globals }) else Wrong Index s.output)
@@ -170,7 +170,7 @@ module _ (form : FormTree) (cs : List Activation) (total : ℕ) where
       let move : Move = only_if (nat_lt (ext.offset + i) (length (all_of s.globals))) (Goes (record (conf (p + 1) vs [] cs s) { globals = slice_set (all_of s.globals) (ext.offset + i) (kept ext.width w) })) in
       instructed_last form (instruction.SetElement ext) p vs (w ∷ i ∷ []) cs s (outcome.Wrong Index) e (ap (λ b. if b then move else Stops (outcome.Wrong Index)) is)
 
-  -- the index is in the array in both
+  -- the source and the form agree on whether the index is in the array
   size_is : (v : Environment) (most : ℕ) (vs : List ℕ) (x : List ℕ) (i : ℕ) (s : State) → Fits v total most vs s → nat_lt i (length (global_words s.globals x)) ≡ nat_lt i (extent_of v.layout.objects x).length
   size_is v most vs x i s h = ap (nat_lt i) (sym (found_object v total most vs s x h).size)
 

@@ -194,7 +194,7 @@ module _ (form : FormTree) (layout : Layout) (defined : List (List ℕ)) (fs : L
 
   -- ---- functions
 
-  -- a frame is made of the arguments
+  -- a frame is made from the arguments
   entering : (start variables left p : ℕ) (ws vs ops : List ℕ) (cs : List Activation) (s : State) (count : ℕ) → count ≡ length ws
       → entered (record { start = start; parameters = count; variables = variables }) left (conf p vs (reverse ws ++ ops) cs s)
       ≡ Goes (conf start (ws ++ replicate variables 0) [] (record { next = p; variables = vs; operands = ops } ∷ cs) (record s { steps = left }))

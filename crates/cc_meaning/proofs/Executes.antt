@@ -75,7 +75,7 @@ module _ (form : FormTree) (cs : List Activation) (total : ℕ) (layout : Layout
   abbrev ListDoes : Environment → Exits → ℕ → List Instruction → (State → Run Flow) → Type 0
   ListDoes v x most code part = Does (λ c q t. Leaves form cs total c v most q t) v x most code part
 
-  -- a part in a scope of its own: every way to end leaves the earlier locals
+  -- a part in a scope of its own: however it ends, the earlier locals are left
   abbrev BlockDoes : Environment → Exits → ℕ → List Instruction → (State → Run Flow) → Type 0
   BlockDoes v x most code part =
       (p b k : ℕ) (vs : List ℕ) (t : State) → b ≡ p + length code + x.breaks → k ≡ p + length code + x.continues → b ≤ length form.code → k ≤ length form.code → Stands form.code p code → Fits v total most vs t

@@ -52,7 +52,7 @@ module _ (form : FormTree) (cs : List Activation) (total : ℕ) where
       (p : ℕ) (ops : List ℕ) (s : State) → Stands form.code p code → Fits v total most vs s
       → Meets form (conf p vs ops cs s) (Value form cs total (conf p vs ops cs s) v most vs (p + length code) ops) (part s)
 
-  -- after some moves, and with another way to write the place
+  -- a value that is reached from d is also reached from c, if c leads to d
   pub value_after : (v : Environment) (most : ℕ) (vs ops : List ℕ) (c d : Configuration) (q q' : ℕ) (r : Run ℕ) → Leads form c d → q ≡ q'
       → Meets form d (Value form cs total d v most vs q ops) r → Meets form c (Value form cs total c v most vs q' ops) r
   value_after v most vs ops c d q q' r p e h =

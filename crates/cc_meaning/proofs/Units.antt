@@ -94,7 +94,7 @@ module _ (unit : List External) (typed : IsTyped unit) where
   matched (Objects t os ∷ rest) f o d whole =
       matched rest (with_objects t os f) (nil_right (external_errors (Objects t os) f) (externals_errors rest (with_objects t os f)) o) (defined_right known (called_in_external (Objects t os)) (called rest) d) whole
 
-  -- a name among them: its function, its number, and the place of its instructions
+  -- the name of one of these functions: its function, its number, and the place of its instructions
   record Listed (gs : List Function) (cs : List FunctionCode) (xs : List (List ℕ)) (code : List Instruction) (at : ℕ) (x : List ℕ) : Type 0 where
     function : Function
     instructions : FunctionCode
@@ -164,7 +164,7 @@ module _ (unit : List External) (typed : IsTyped unit) where
   no_parameters : (e : Entered (resolved unit) layout known (functions unit) (codes "main")) → e.function.parameters ≡ []
   no_parameters e = nil_from_length e.function.parameters (main_parameters unit typed e.function e.is)
 
-  -- with no step left, and with at least one
+  -- the behavior with no step left, and with at least one
   behaves : (text input : List ℕ) (n : ℕ) (e : Entered (resolved unit) layout known (functions unit) (codes "main"))
       → (k : ℕ) × (form_behavior k (resolved unit) input n ≡ Some (source_behavior (record { text = text; externals = unit }) input n))
   behaves text input zero e = (

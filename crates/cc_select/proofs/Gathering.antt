@@ -101,7 +101,7 @@ cross_ends items at first found le so_far n = ap (λ (xs : List LinearItem). if 
 
 -- ---- the walk
 
--- the steps so far and those of the items to come are all steps
+-- the steps so far, followed by those of the items to come, are all the steps
 abbrev pub Threaded : Tests → List LinearItem → (index : ℕ) → Known → (gone : Bool) → List Step → Type 0
 Threaded ts items i k gone steps = steps ++ chosen k (threaded_by ts k gone (drop i items)) ≡ chosen unknown (threaded_by ts unknown false items)
 

@@ -35,7 +35,7 @@ pub record Keeping (steps : List Step) (sets : List bits.Registers) (at : ℕ) (
 pub keep_begins : (steps : List Step) (sets : List bits.Registers) → Keeping steps sets 0 [] []
 keep_begins steps sets = record { long = refl; so_far = λ t h. refl; same = λ t h j d lt. absurd (omega arith) }
 
--- what a step that is looked at leaves
+-- what is kept once a step has been looked at
 looked : (steps : List Step) (sets : List bits.Registers) (at : ℕ) (step : Step) (set d : bits.Registers) (b : Bool) (t : Table) → at < length steps → step ≡ get_or steps at step → set ≡ get_or sets at d
     → ((s : Registers) → Same (holds set) s → b ≡ stays step s) → AreBehind t steps sets → lean t (drop at steps) ≡ (if b then step ∷ lean t (drop (at + 1) steps) else lean t (drop (at + 1) steps))
 looked steps sets at step set d b t lt is is_set says h =

@@ -1,5 +1,6 @@
--- From a pair of Linear to a pair of Selected: the run by the steps of a function's items keeps up with the function. Its rate is twice
--- that of the items, times the number of steps before constants were left out, and again times the number before comparisons were joined.
+-- From a pair of Linear to a pair of Selected: the run of the steps made from a function's items keeps up with the function. Its
+-- rate is twice that of the items, times the number of steps before constants were left out, and again times the number before
+-- comparisons were joined.
 use Rattle.std.proofs.Common.{ℕ, ◌≤◌, List, length, None}
 use Rattle.cc_ast.specs.Tree.{External}
 use Rattle.cc_types.specs.Typed.{IsWithinLimits}

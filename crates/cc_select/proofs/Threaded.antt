@@ -165,7 +165,7 @@ module _ (code : List LinearItem) (ts : Tests) (stands : (n : ℕ) (t : LinearIt
     place_made : (n : ℕ) → place made n ≡ seen (ts n) (place code n)
     place_made n = place_is n unknown false code all_fine tt
 
-    -- a configuration at what is made from another's items
+    -- a configuration whose steps are made from another's items
     pub record Exact (c d : Configuration) : Type 0 where
       pub known : Known
       pub holds : Holds known c.locations

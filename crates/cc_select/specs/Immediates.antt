@@ -75,7 +75,7 @@ has_word LtU w = is_short w
 has_word LeS w = is_short (add w 1)
 -- 2^32 - 1 is the greatest unsigned word, and the word after it is 0
 has_word LeU w = is_short (add w 1) && not (w == 2 ^ 32 - 1)
--- "more than 0" is one instruction; "more than another word" would be two, and it is two with the word in its register
+-- "more than 0" is one instruction; "more than another word" would be two, as many as with the word in a register
 has_word GtS w = w == 0
 has_word GtU w = w == 0
 -- a word is at least w exactly if it is not less than w
@@ -91,7 +91,7 @@ exponent w = trailing_zeros w32 w
 abbrev pub is_power : (word : ℕ) → Bool
 is_power w = w == 2 ^ exponent w
 
--- ---- which operators have such a form
+-- ---- which operators have a form
 
 -- an operator on a register and a word, and the word
 abbrev pub Form : Type 0

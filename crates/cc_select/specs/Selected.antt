@@ -72,8 +72,8 @@ abbrev pub led : (nonzero : Bool) → (word : ℕ) → (on there : List Step) �
 led true word on there = if word == 0 then on else there
 led false word on there = if word == 0 then there else on
 
--- The next step, in the whole code; `arity` says how many parameters each function has. A label is no move: the step after it is executed.
--- A run goes wrong after the last step, and if a jump leads to no place.
+-- What the next step does; `code` has all the steps, and `arity` says how many parameters each function has. A label is no move:
+-- the step after it is executed. A run goes wrong after the last step, and if a jump leads to no place.
 abbrev pub does : (arity : ℕ → ℕ) → (code : List Step) → List Step → Locations → World → (words : List ℕ) → Moving Configuration
 does arity code [] at world words = Fails
 does arity code (One (Label label) ∷ steps) at world words = does arity code steps at world words

@@ -51,7 +51,7 @@ abbrev pub before_label : Known → Option LinearItem → (label : ℕ) → List
 before_label k None n = Label n ∷ []
 before_label k (Some test) n = way k test n ∷ Label n ∷ []
 
--- after a test that became a jump, the other jump would never be reached
+-- after a test that became a jump there is no other jump, since it would never be reached
 abbrev pub before_jump : (way : LinearItem) → (label : ℕ) → List LinearItem
 before_jump item n = item ∷ (if is_jump item then [] else Jump n ∷ [])
 

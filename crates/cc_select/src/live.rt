@@ -19,7 +19,7 @@ pub(crate) struct LiveTable {
 }
 
 impl LiveTable {
-    /// No register is live at any label.
+    /// A table in which no register is live at any label.
     pub(crate) fn nowhere(alloc: Global) -> LiveTable
         ensures { SameTable (table_of result) nowhere }
     {
@@ -29,7 +29,7 @@ impl LiveTable {
         }
     }
 
-    /// Every register is live at every label.
+    /// A table in which every register is live at every label.
     pub(crate) fn everywhere(alloc: Global) -> LiveTable
         ensures { SameTable (table_of result) everywhere }
     {
@@ -62,7 +62,7 @@ impl LiveTable {
     }
 }
 
-// What is live before a move.
+// The registers that are live before a move.
 fn live_move(between: Move, behind: Registers) -> Registers
     ensures { holds result ≡ live_move between (holds behind) }
 {
@@ -73,7 +73,7 @@ fn live_move(between: Move, behind: Registers) -> Registers
     }
 }
 
-// What is live before an item.
+// The registers that are live before an item.
 fn live_item(item: &LinearItem, table: &LiveTable, behind: Registers) -> Registers
     ensures { holds result ≡ live_item item.now (table_of table.now) (holds behind) }
 {
@@ -106,7 +106,7 @@ fn live_item(item: &LinearItem, table: &LiveTable, behind: Registers) -> Registe
     }
 }
 
-/// What is live before a step.
+/// The registers that are live before a step.
 pub(crate) fn live_before(step: &Step, table: &LiveTable, behind: Registers) -> Registers
     ensures { holds result ≡ live_before step.now (table_of table.now) (holds behind) }
 {

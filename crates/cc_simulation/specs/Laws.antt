@@ -14,11 +14,11 @@ use Rattle.cc_simulation.specs.Cuts.{IsLayer, Comparable}
 abbrev pub FollowsItself : (B R : Type 0) → Type 0
 FollowsItself B R = (a : B → Outcome R) → Follows a a
 
--- what follows a behavior that follows another follows that one
+-- following is transitive: what follows a follower of a behavior follows that behavior
 abbrev pub FollowsOn : (A B C R : Type 0) → Type 0
 FollowsOn A B C R = (a : A → Outcome R) (b : B → Outcome R) (z : C → Outcome R) → Follows a b → Follows b z → Follows a z
 
--- the same for what follows it for all unknown words
+-- the same for a run that depends on unknown words, for all of them
 abbrev pub FollowsOnForAll : (A B R : Type 0) → Type 0
 FollowsOnForAll A B R = (a : A → Outcome R) (b : B → Outcome R) (z : List ℕ → ℕ × ℕ → Outcome R) → Follows a b → FollowsForAll b z → FollowsForAll a z
 

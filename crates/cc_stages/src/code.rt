@@ -19,7 +19,7 @@ const START_WORDS: usize = 3;
 #[derive(Drop)]
 pub(crate) struct Listing {
     lines: Vec<u8>,
-    // At k the place at which the lines of function k begin; then the end of the last one's.
+    // Entry k is the place at which the lines of function k begin; one more entry is the end of the last function's lines.
     places: Vec<usize>,
 }
 

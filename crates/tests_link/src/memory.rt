@@ -1,5 +1,5 @@
-// Compilations with a growth that is refused. `tests/outside/memory.sh compile` refuses each allocation of this test in turn, so there is
-// one test for all.
+// Compilations while an allocation is refused. `tests/outside/memory.sh compile` refuses each allocation of this test in turn,
+// so there is one test for all.
 
 use cc_link::{CompiledUnit, compile};
 use std::alloc::Global;

@@ -114,7 +114,8 @@ fn conditional<'a>(
     Ok(())
 }
 
-// Writes the turns of a loop, once what follows its body, its condition, and the backward jump without its distance are written.
+// Writes the turns of a loop. What follows its body, its condition, and the backward jump without its distance are already
+// written.
 #[cycle(resolved_statements)]
 fn turns<'a>(
     names: &mut Environment<'a>,

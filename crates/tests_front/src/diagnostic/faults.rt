@@ -142,7 +142,7 @@ static SPELLING: [Row; 18] = [
     ),
 ];
 
-// Texts with a token that cannot come there, and the message about each: the token, and what could come instead.
+// Texts with a token that cannot come at its place, and the message about each: the token, and what could come instead.
 static GRAMMAR: [Row; 37] = [
     (
         "",
@@ -571,7 +571,7 @@ static NAMES: [Row; 18] = [
     ),
 ];
 
-// Names that are used as something else than they are, and expressions that should be constant and are not.
+// Names that are used as something other than what they are, and expressions that should be constant but are not.
 static KINDS: [Row; 17] = [
     (
         "int x;int main(void){x();}",
@@ -694,7 +694,7 @@ static KINDS: [Row; 17] = [
     ),
 ];
 
-// Numbers of arguments and of initialisers that do not fit.
+// Wrong numbers of arguments and of initialisers.
 static COUNTS: [Row; 9] = [
     (
         "int add(int a,int b){return a+b;}\nint main(void){\n  add(1);\n}",

@@ -1,7 +1,7 @@
 // Faulty texts: the place on standard error, and key words of the message.
 //
-// The place is that of the first line; the key words may be anywhere after it. A row without them is a program for which nothing
-// is written.
+// The place is that of the first line; the key words may be anywhere after it. A row without a place is a program for which
+// nothing is written.
 
 use super::helpers::{has, told_of};
 use std::alloc::Global;

@@ -361,7 +361,7 @@ fn of_length(alloc: Global, length: usize) -> Result<Vec<u8>, AllocError> {
     Ok(text)
 }
 
-// How many errors are reported for such a text.
+// How many errors are reported for the text of `length` bytes.
 fn count_of(alloc: Global, length: usize) -> Option<usize> {
     let text = of_length(alloc, length).ok()?;
     let errors = errors_of(alloc, text.as_slice()).ok()?;

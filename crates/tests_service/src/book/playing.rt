@@ -26,7 +26,7 @@ pub struct State {
     pub model: Model,
     /// The place of the call that was answered 35, if one was.
     pub failed: Option<usize>,
-    /// The map with that call's change too, if one was.
+    /// The map with the change of that call too, if there was one.
     pub with: Model,
     entries: usize,
 }
@@ -87,7 +87,7 @@ fn made<N: Named, D: Disk>(
     }
 }
 
-// Whether the receipt is of the client's last call, and of that entry, with the model's reply.
+// Whether this is the receipt of the client's last call, with the number of that entry and the model's reply.
 fn is_right<N: Named>(
     receipt: &Receipt,
     client: &Client<N>,
@@ -141,7 +141,8 @@ fn recorded<N: Named>(
     })
 }
 
-// The state after a call that was not put there; none if it should have been, or is not refused as the device's failures say.
+// The state after a call that was not put into the history; none if it should have been, or is not refused as the device's
+// failures require.
 fn refused(state: &State, place: usize, call: Call, number: u32) -> Option<State> {
     let (compacts, looks) = match call {
         Call::Make(_) => (false, false),
@@ -269,7 +270,7 @@ where
         let client = if *first { &mut one } else { &mut other };
         state = step(alloc, &mut book, client, &state, place, *call)?;
     }
-    // It answers 41, since the clients have its passes.
+    // `finish` answers 41, since the clients have passes of the pool.
     drop(pool.finish(rt, Vec::new(alloc)));
     ended(alloc, book, rest, one, other, state)
 }

@@ -1,4 +1,4 @@
--- The ranks of the table are ranks.
+-- The ranks of the table fall from call to call, and the rank of `main` is low enough.
 use Rattle.std.proofs.Common.{ℕ, ◌<◌, List, subst, arith}
 use Rattle.std.specs.List.{AllByRecursion}
 use Rattle.cc_ast.specs.Tree.{External}
