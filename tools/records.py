@@ -10,7 +10,7 @@ import struct
 import sys
 
 HEAD, OPEN = 16, b"\xa5"
-# The longest that an area can be, and the shortest.
+# The largest size that an area can have, and the smallest.
 MOST, LEAST = 1 << 30, 64
 
 

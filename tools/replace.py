@@ -22,7 +22,7 @@ if not os.path.exists(PROGRAM):
 
 
 def sources(path):
-    """The source of each unit, by name."""
+    """The source of each unit, by its name."""
     with open(path, "rb") as file:
         data = file.read()
     found = {}
@@ -59,7 +59,7 @@ class Session:
 
 
 def audited(session):
-    """Whether each unit is confirmed, by name."""
+    """Whether each unit is confirmed, by its name."""
     lines = session.call(b"audit\n")
     if lines[-1] != "ok":
         sys.exit(f"replace.py: {lines[-1]}")

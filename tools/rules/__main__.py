@@ -1,5 +1,5 @@
 #!/usr/bin/env python3
-"""The repository's own rules, to which .ci/run holds it before any proof.
+"""The repository's own rules, which .ci/run checks before any proof.
 
     tools/rules              every rule: says what breaks one, and ends with 1 if something does
     tools/rules RULE         this one
@@ -73,7 +73,7 @@ LONG = f"\nfn planted() -> u32\n    ensures {{ result ≡ {' + '.join(['1'] * 40
 # Words that docs/STYLE.md advises against, more often than any page has them.
 MANY = 400
 PRIVATE = "It stands behind.\n" * MANY
-# A word that no source has, this one among them.
+# A word that no source has, not even this one.
 NOWHERE = "planted" + "nowhere"
 
 
@@ -98,7 +98,7 @@ def plants():
         ("drawn_map", changed("docs/ARCHITECTURE.md", ("| 1 | `cc_words` |", "| 2 | `cc_words` |")), "cc_words: layer and arrows"),
         ("drawn_map", changed("docs/ARCHITECTURE.md", ("| 1 | `cc_words` |", "| 1 | `cc_planted` |")), "cc_planted is no crate"),
         ("drawn_map", changed("crates/cc_link/src/lib.rt", more=arrows), "cc_link: more than 7 arrows"),
-        ("version", {"VERSION": "9.9.9\n"}, "VERSION and command_line.rt"),
+        ("version", {"VERSION": "9.9.9\n"}, "VERSION and commands.rt"),
         ("help_texts", changed("docs/help.txt", ("\n\n", "\n\nplanted\n\n")), "./cclib --help"),
         ("help_texts", changed("cclib", ('echo "cclib $(cat', 'echo "cclib 9$(cat')), "./cclib --version"),
         ("programs", changed("bench/programs/crc.c", more="/* planted */\n"), "bench/programs/crc.c"),

@@ -4,11 +4,11 @@
     tools/rules/rooms.py CRATE FUNCTION [CLAUSE..]    what that function's contract rests on, or these clauses of it: the pages in
                                                       reading order, with how many of their lines, and how many lines in all
 
-As rules: definitions directly in specs/ on which no public contract rests and no type's model; definitions of specs/internal/ on which a
+As rules: definitions directly in specs/ on which neither a public contract nor a type's model rests; definitions of specs/internal/ on which a
 contract or a public type's model does; contracts that rest on something of proofs/; clauses of more than 100 characters that are word for
 word in more than three contracts of the product; names in the crates' READMEs and eight documents that no longer exist.
 
-It reads the text alone: names in clauses, followed through the `use` lines of the pages. What a Rust type is (`declared`)
+It reads only the text: names in clauses, followed through the `use` lines of the pages. What a Rust type is (`declared`)
 counts as code, and std's words are taken as known."""
 import functools
 import glob

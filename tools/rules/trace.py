@@ -33,7 +33,7 @@ def clauses_of(crate):
 
 
 def not_cited(text, known):
-    """Yields what a text cites of a crate and the crate does not have."""
+    """Yields what a text cites from a crate and the crate does not have."""
     for call, crate, clauses in CITED.findall(text):
         if crate not in known:
             known[crate] = clauses_of(crate) if (CRATES / crate).is_dir() else {}

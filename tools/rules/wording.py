@@ -2,7 +2,7 @@
 """How often pages, comments and messages use the words that docs/STYLE.md advises against, and how long the pages are.
 
     tools/rules/wording.py FILE..    each place in these files
-    tools/rules/wording.py --lower   puts today's figures into tools/words.txt if they are lower; files that are new or gone too
+    tools/rules/wording.py --lower   puts today's figures into tools/words.txt if they are lower; also for files that are new or gone
     tools/rules/wording.py --merged  puts today's figures there, also higher ones: for a merge of two branches
 
 As rules: no page, and no crate in its comments and messages, uses such words more often than tools/words.txt allows, and no group of pages has

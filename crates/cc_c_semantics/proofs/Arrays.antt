@@ -9,12 +9,12 @@ use Rattle.cc_types.specs.Types.{object_elements}
 use Rattle.cc_resolve.specs.Limits.{objects, object_name}
 use Rattle.cc_resolve.specs.Layout.{laid_from, object_number}
 
--- one of some objects has this name
+-- some object of these has this name
 abbrev is_named : List Object → List ℕ → Bool
 is_named [] x = false
 is_named (o ∷ rest) x = same_name (object_name o).text x || is_named rest x
 
--- an array was there before, or is declared now
+-- an array was declared before, or is declared now
 now_by : (f : FileScope) (y x : List ℕ) (e : Entity) (t : Scalar) (b c : Bool) → same_name y x ≡ c
     → (if b then found f.bindings x else (if c then Some e else found f.bindings x)) ≡ Some (Elements t) → (found f.bindings x ≡ Some (Elements t)) ⊎ ((c ≡ true) × (e ≡ Elements t))
 now_by f y x e t true c p h = inl h
@@ -74,7 +74,7 @@ externals_array (Objects u os ∷ rest) x t f h =
       | inr e ↦ inr (named_append os (objects rest) x ∙ or_second (is_named os x) (is_named (objects rest) x) e)
     ]
 
--- a name among objects has a number
+-- a name among these objects has a number
 number_by : (o : Object) (at : ℕ) (rest : List Object) (x : List ℕ) (b : Bool) → (b || is_named rest x) ≡ true
     → (is_named rest x ≡ true → (number : ℕ) × (object_number (laid_from (at + object_elements o) rest) x ≡ Some number))
     → (number : ℕ) × ((if b then Some 0 else option_map suc (object_number (laid_from (at + object_elements o) rest) x)) ≡ Some number)

@@ -22,7 +22,7 @@ use Rattle.cc_c_semantics.proofs.Scopes.{found_same, keeps_externals, signature_
 use Rattle.cc_c_semantics.proofs.Arrays.{array_object}
 use Rattle.cc_c_semantics.proofs.Scoped.{Scoped, scoped_parameters}
 
--- how many words a name takes: a builtin none or one, a defined function as many as it has parameters
+-- how many words a name takes in a call: a builtin one or none, a defined function as many as it has parameters
 pub data Takes (names : List (List ℕ)) (fs : List Function) (x : List ℕ) (count : ℕ) : Type 0 where
   Writes : same_name x (codes "write_word") ≡ true → count ≡ 1 → Takes names fs x count
   Reads : same_name x (codes "write_word") ≡ false → same_name x (codes "read_word") ≡ true → count ≡ 0 → Takes names fs x count
@@ -151,7 +151,7 @@ main_named (Objects t os ∷ rest) d = main_named rest d
 abbrev pub final_scope : List External → FileScope
 final_scope unit = file_scope_behind_all unit first_file_scope
 
--- how many words a name takes, by what it denotes at the end of the unit
+-- how many words a name takes in a call, given what it denotes at the end of the unit
 takes_by : (unit : List External) → IsTyped unit → (x : List ℕ) (r : Option Scalar) (ts : List Scalar) (writes reads : Bool) → same_name x (codes "write_word") ≡ writes → same_name x (codes "read_word") ≡ reads
     → found (final_scope unit).bindings x ≡ Some (scope.Function r ts) → has_name (final_scope unit).defined x ≡ true → Takes (names_in unit) (functions unit) x (length ts)
 takes_by unit typed x r ts true reads w d e has =
@@ -183,7 +183,7 @@ no_variables y u e = none (same_name (codes "write_word") y) (same_name (codes "
     none false true e = let z : Some (scope.Function (Some Int) []) ≡ Some (scope.Variable u) = e in cc
     none false false e = let z : None ≡ Some (scope.Variable u) = e in cc
 
--- no array either
+-- no array is declared before the unit either
 no_arrays : (y : List ℕ) (u : Scalar) → found first_file_scope.bindings y ≡ Some (scope.Elements u) → ⊥
 no_arrays y u e = none (same_name (codes "write_word") y) (same_name (codes "read_word") y) e
   where
@@ -208,7 +208,7 @@ module _ (unit : List External) (typed : IsTyped unit) where
   abbrev TakesHere : List ℕ → ℕ → Type 0
   TakesHere = Takes (names_in unit) (functions unit)
 
-  -- the scope of a body
+  -- what names refer to at the start of a body
   pub body_scoped : (s : Signature) (body : Stmts) (rest : List External) (f : FileScope) → file_scope_behind_all rest (file_scope_behind (Definition s body) f) ≡ final_scope unit
       → Scoped layout known TakesHere (environment_of layout s f)
   body_scoped s body rest f whole =

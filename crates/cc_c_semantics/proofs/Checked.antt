@@ -1,5 +1,5 @@
--- A checked program compared with its source: by how the source stops, and also with more steps, because a run that went wrong
--- stays the same.
+-- A checked program compared with its source, for each way in which the source stops; and also with more steps, because a run
+-- that went wrong stays the same.
 use Rattle.std.proofs.Common.{◌≡◌, ℕ, ◌+◌, Bool, true, false, if◌then◌else◌, List, refl, sym, ap, ◌∙◌, subst}
 use Rattle.cc_simulation.specs.Behavior as runs
 use Rattle.cc_simulation.specs.Behavior.{IsPrefixOf, EndsAlike, Shows, Follows}
@@ -47,14 +47,14 @@ programs_are_checked source input = record {
   wrong = λ n cause e. too_deep (source_behavior source input n).stop cause e;
 }
 
--- ---- what follows it
+-- ---- what follows a checked program
 
 same_shown : (s : Stop ℕ) → runs.IsRight (stop_without_cause s) → stop_without_cause (checked_stop s) ≡ stop_without_cause s
 same_shown Going ok = refl
 same_shown (Ended w) ok = refl
 same_shown (Wrong cause) ok = absurd ok
 
--- what follows b follows a, if b is a as long as a is right
+-- what follows b also follows a, if b equals a wherever a is right
 follows_right : {B C R : Type 0} (a b : B → runs.Outcome R) (z : C → runs.Outcome R) → ((n : B) → runs.IsRight (a n).stop → b n ≡ a n) → Follows b z → Follows a z
 follows_right {B} {C} {R} a b z same f =
     let right : (n : B) → runs.IsRight (a n).stop → runs.IsRight (b n).stop = λ n ok. subst (λ (o : runs.Outcome R). runs.IsRight o.stop) (sym (same n ok)) ok in

@@ -1,4 +1,4 @@
--- A call in the tree is the effect of the function that its name refers to, for any bound on the recursion, and with more steps
+-- A call in the tree has the effect of the function that its name refers to, for any bound on the recursion, and with more steps
 -- it continues.
 use Rattle.std.proofs.Common.{◌≡◌, ℕ, zero, suc, ◌+◌, ◌<◌, Bool, true, false, if◌then◌else◌, List, [], ◌∷◌, ◌++◌, length, nat_lt, Option, Some, None, slice_get, codes, refl, sym, ap, ◌∙◌, subst, arith, append-nil, length-append}
 use Rattle.std.proofs.lemmas.List.{nil_from_length}
@@ -139,7 +139,7 @@ bodies_go_on unit opened f ws = record {
   exact = λ h. exact_body unit opened f ws h;
 }
 
--- ---- by what a name refers to
+-- ---- for each thing that a name can refer to
 
 called_by : (unit : List External) (m opened count : ℕ) (x ws : List ℕ) (s : State) (b c : Bool) → same_name (codes "write_word") x ≡ b → same_name (codes "read_word") x ≡ c
     → IsCalled (arities unit) (if b then WriteWord else (if c then ReadWord else Defined (names_before (layout_of unit).functions x))) count → s.steps < suc m

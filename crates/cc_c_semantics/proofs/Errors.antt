@@ -29,7 +29,7 @@ pub or_right : (a b : Bool) → (a || b) ≡ false → b ≡ false
 or_right true b e = absurd (let f : true ≡ false = e in cc)
 or_right false b e = e
 
--- a list of calls of defined functions, and its parts
+-- if two lists of calls together have no call of an undefined function, neither list has one
 pub defined_left : (defined : List (List ℕ)) (xs ys : List Name) → undefined_among defined (xs ++ ys) ≡ [] → undefined_among defined xs ≡ []
 defined_left defined [] ys e = refl
 defined_left defined (f ∷ rest) ys e =
@@ -51,21 +51,21 @@ is_defined defined f rest e =
     not_false (has_name defined f.text)
     (not_broken (not (has_name defined f.text)) Undefined f.at (nil_left (broken_if (not (has_name defined f.text)) Undefined f.at) (undefined_among defined rest) e))
 
--- a name in a variable's place is a variable
+-- a name that is used as a variable denotes a variable
 pub variable_found : (r : Rule) (o : Option Entity) (at : ℕ) → variable_errors r o at ≡ [] → (t : Scalar) × (o ≡ Some (Variable t))
 variable_found r None at e = absurd (let o : RuleError = record { rule = Unknown; at = at } in let f : o ∷ [] ≡ [] = e in cc)
 variable_found r (Some (Variable t)) at e = (t, refl)
 variable_found r (Some (Elements t)) at e = absurd (let o : RuleError = record { rule = r; at = at } in let f : o ∷ [] ≡ [] = e in cc)
 variable_found r (Some (Function q ts)) at e = absurd (let o : RuleError = record { rule = r; at = at } in let f : o ∷ [] ≡ [] = e in cc)
 
--- a name that is indexed is an array
+-- a name that is indexed denotes an array
 pub array_found : (o : Option Entity) (at : ℕ) → array_errors o at ≡ [] → (t : Scalar) × (o ≡ Some (Elements t))
 array_found None at e = absurd (let o : RuleError = record { rule = Unknown; at = at } in let f : o ∷ [] ≡ [] = e in cc)
 array_found (Some (Variable t)) at e = absurd (let o : RuleError = record { rule = WrongKind; at = at } in let f : o ∷ [] ≡ [] = e in cc)
 array_found (Some (Elements t)) at e = (t, refl)
 array_found (Some (Function q ts)) at e = absurd (let o : RuleError = record { rule = WrongKind; at = at } in let f : o ∷ [] ≡ [] = e in cc)
 
--- a name that is called is a function of as many parameters
+-- a name that is called denotes a function with as many parameters as there are arguments
 pub function_found : (o : Option Entity) (count at : ℕ) → function_errors o count at ≡ [] → (r : Option Scalar) × (ts : List Scalar) × (o ≡ Some (Function r ts)) × (count ≡ length ts)
 function_found None count at e = absurd (let o : RuleError = record { rule = Unknown; at = at } in let f : o ∷ [] ≡ [] = e in cc)
 function_found (Some (Variable t)) count at e = absurd (let o : RuleError = record { rule = WrongKind; at = at } in let f : o ∷ [] ≡ [] = e in cc)

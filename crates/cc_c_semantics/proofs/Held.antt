@@ -35,7 +35,7 @@ length_slice_set [] i w = refl
 length_slice_set (x ∷ xs) zero w = refl
 length_slice_set (x ∷ xs) (suc i) w = ap suc (length_slice_set xs i w)
 
--- an element and the end of a list
+-- an element that is found has an index below the length, and past the length there are no elements; the last element of a list
 pub get_below : {A : Type 0} (xs : List A) (i : ℕ) (x : A) → slice_get xs i ≡ Some x → i < length xs
 get_below [] i x e = absurd (let f : None ≡ Some x = e in cc)
 get_below (y ∷ ys) zero x e = omega arith
@@ -49,7 +49,7 @@ get_past (x ∷ xs) (suc i) h = get_past xs i (omega arith)
 pub reverse_cons : {A : Type 0} (x : A) (xs : List A) → reverse (x ∷ xs) ≡ reverse xs ++ (x ∷ [])
 reverse_cons x xs = reverse-append (x ∷ []) xs
 
--- the newest of some words comes after all others
+-- a list of words is kept newest first; in reverse the newest comes last
 pub newest_last : {A : Type 0} (x : A) (xs junk : List A) → reverse (x ∷ xs) ++ junk ≡ reverse xs ++ (x ∷ junk)
 newest_last x xs junk = ap (λ (l : List _). l ++ junk) (reverse_cons x xs) ∙ append_assoc (reverse xs) (x ∷ []) junk
 
@@ -143,7 +143,7 @@ abbrev pub all_of : List Global → List ℕ
 all_of [] = []
 all_of (g ∷ rest) = g.words ++ all_of rest
 
--- where the objects' words are, with the first object at this offset
+-- the layout of the objects' words, with the first object at this offset
 abbrev pub layout_from : ℕ → List Global → List LaidObject
 layout_from at [] = []
 layout_from at (g ∷ rest) = record { name = g.name; extent = record { offset = at; length = length g.words; width = g.width } } ∷ layout_from (at + length g.words) rest
@@ -154,7 +154,7 @@ pub record Finds (prefix : List ℕ) (gs : List Global) (x : List ℕ) (ext : Ex
   pub within : (i : ℕ) → i < ext.length → ext.offset + i < length (prefix ++ all_of gs)
   pub writes : (i w : ℕ) → i < ext.length → slice_set (prefix ++ all_of gs) (ext.offset + i) (kept ext.width w) ≡ prefix ++ all_of (with_element x i w gs)
 
--- after the words of one more object
+-- an object is still found at its place if one more object is before it
 finds_behind : (prefix : List ℕ) (g : Global) (rest : List Global) (x : List ℕ) (ext : Extent) → same_name g.name x ≡ false → Finds (prefix ++ g.words) rest x ext → Finds prefix (g ∷ rest) x ext
 finds_behind prefix g rest x ext eq h =
     let words : global_words (g ∷ rest) x ≡ global_words rest x = ap (λ c. if c then g.words else global_words rest x) eq in
@@ -199,7 +199,7 @@ layout_keep_by x i w at g rest true ih =
     ap (λ k. record { name = g.name; extent = record { offset = at; length = k; width = g.width } } ∷ layout_from (at + k) rest) (length_slice_set g.words i (kept g.width w))
 layout_keep_by x i w at g rest false ih = ap (λ (ps : List LaidObject). record { name = g.name; extent = record { offset = at; length = length g.words; width = g.width } } ∷ ps) ih
 
--- a write moves no object
+-- a write to an element moves no object
 pub layout_keep : (x : List ℕ) (i w at : ℕ) (gs : List Global) → layout_from at (with_element x i w gs) ≡ layout_from at gs
 layout_keep x i w at [] = refl
 layout_keep x i w at (g ∷ rest) = layout_keep_by x i w at g rest (same_name g.name x) (layout_keep x i w (at + length g.words) rest)

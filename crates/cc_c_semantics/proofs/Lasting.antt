@@ -1,6 +1,6 @@
--- A part of a run with more steps, and with a larger bound on its recursion. Three facts hold of each part: it only adds to the
--- output; an answer takes exactly the steps that it spends, for any bound; what had no step left continues, and what went wrong
--- goes wrong in the same way. This file shows them for the ways of combining parts.
+-- A part of a run with more steps, and with a larger bound on its recursion. Three facts hold for each part: it only adds to the
+-- output; an answer takes exactly the steps that it spends, for any bound; and a part that had no step left continues, while one
+-- that went wrong goes wrong in the same way. This file shows them for the ways in which parts are combined.
 use Rattle.std.proofs.Common.{◌≡◌, ℕ, zero, suc, ◌+◌, ◌<◌, ◌≤◌, List, [], ◌++◌, Option, Some, None, refl, sym, ap, ◌∙◌, subst, arith, append_assoc, append-nil}
 use Rattle.cc_c_semantics.specs.Meaning.{Local, State, Run, Gives, Going, Wrong, Flow, Falls, Breaks, Continues, Returns, then_do, choose, spend_of, behind_flow, behind_body, begin_body, turns, unless_decided}
 use Rattle.cc_simulation.specs.Behavior.{IsPrefixOf}
@@ -61,7 +61,7 @@ begins_begin body go s f g =
 
 -- ---- the steps of a part of a run
 
--- a part gives r within k steps. At a bound b, `go b j` is that part within j steps; `Within j b` says that the bound is large
+-- A part gives r within k steps. At a bound b, `go b j` is that part within j steps; `Within j b` says that the bound is large
 -- enough.
 abbrev pub Lasts : {A B : Type 0} → (ℕ → B → Type 0) → ℕ → Run A → (B → ℕ → Run A) → Type 0
 Lasts {A} {B} Within k (Gives x t) go =
@@ -76,7 +76,7 @@ pub record Lowers {B : Type 0} (Within : ℕ → B → Type 0) : Type 0 where
 pub lasts_gives : {A B : Type 0} (Within : ℕ → B → Type 0) (x : A) (t : State) → Lasts Within t.steps (Gives x t) (λ (b : B) j. Gives x (at t j))
 lasts_gives Within x t = (0, omega arith, λ j b w. ap (λ n. Gives x (at t n)) (let e : 0 + j ≡ j = omega arith in e))
 
--- another kind of bound, and a part that is the same within it
+-- a part that does the same under another kind of bound also gives r
 pub lasts_by : {A B C : Type 0} (V : ℕ → C → Type 0) (W : ℕ → B → Type 0) (f : C → B) (k : ℕ) (r : Run A) (go : B → ℕ → Run A) (other : C → ℕ → Run A)
     → ((j : ℕ) (c : C) → V j c → W j (f c)) → ((j : ℕ) (c : C) → V j c → other c j ≡ go (f c) j) → Lasts W k r go → Lasts V k r other
 lasts_by V W f k (Gives x t) go other within same h = (h.0, h.1, λ j c v. same (h.0 + j) c v ∙ h.2 j (f c) (within (h.0 + j) c v))
@@ -84,7 +84,7 @@ lasts_by V W f k (Going output) go other within same h = λ j c v.
     subst (λ r. IsPrefixOf output (written r)) (sym (same (k + j) c v)) (h j (f c) (within (k + j) c v))
 lasts_by V W f k (Wrong cause output) go other within same h = λ j c v. same (k + j) c v ∙ h j (f c) (within (k + j) c v)
 
--- the rest, after a first part that gives a value
+-- if a first part gives a value, and what follows it gives r, both together give r
 lasts_behind : {A C B : Type 0} (W : ℕ → B → Type 0) → Lowers W → (k spent : ℕ) (x : A) (t : State) (first : B → ℕ → Run A) (later : A → B → State → Run C) (r : Run C)
     → k ≡ spent + t.steps → ((j : ℕ) (b : B) → W (spent + j) b → first b (spent + j) ≡ Gives x (at t j))
     → Lasts W t.steps r (λ b j. later x b (at t j)) → Lasts W k r (λ b j. then_do (first b j) (λ y u. later y b u))
@@ -109,7 +109,7 @@ lasts_behind W low k spent x t first later (Wrong cause output) e go h = λ j b 
     ∙ ap (λ r. then_do r (λ z v. later z b v)) (go (t.steps + j) b (low.lower _ _ b (omega arith) w))
     ∙ h j b (low.lower _ _ b (omega arith) w)
 
--- one part, then another
+-- one part, followed by another
 pub lasts_then : {A C B : Type 0} (W : ℕ → B → Type 0) → Lowers W → (k : ℕ) (r : Run A) (first : B → ℕ → Run A) (rest : A → State → Run C) (later : A → B → State → Run C)
     → Lasts W k r first → ((x : A) (t : State) → t.steps ≤ k → Lasts W t.steps (rest x t) (λ b j. later x b (at t j)))
     → ((x : A) (b : B) (t : State) → IsPrefixOf t.output (written (later x b t)))
@@ -186,7 +186,7 @@ pub record Steady {A B : Type 0} (W : ℕ → B → Type 0) (part : B → State 
 pub steady_gives : {A B : Type 0} (W : ℕ → B → Type 0) (x : A) → Steady W (λ (b : B) s. Gives x s)
 steady_gives W x = record { grows = λ b s. begins_refl s.output; lasts = λ b s w. lasts_gives W x s }
 
--- one part, then another, which may use the earlier locals
+-- one part, followed by another, which may use the earlier locals
 pub steady_then : {A C B : Type 0} (W : ℕ → B → Type 0) → Lowers W → (first : B → State → Run A) (rest : List Local → A → B → State → Run C)
     → Steady W first → ((ls : List Local) (x : A) → Steady W (rest ls x)) → Steady W (λ b s. then_do (first b s) (λ x t. rest s.locals x b t))
 steady_then W low first rest p q = record {
@@ -214,7 +214,7 @@ steady_flow W flow go p = record {
 
 -- ---- parts under a bound by a number, and loops
 
--- a bound is greater than the steps left
+-- the bound is greater than the number of steps left
 abbrev pub Under : ℕ → ℕ → Type 0
 Under k n = k < n
 
@@ -229,14 +229,14 @@ steady_begin body go p q = record {
       (λ i e. p.lasts n (at s i) (omega arith)) (λ u less. q.lasts n u (omega arith)) p.grows q.grows;
 }
 
--- a bound on the turns of a loop and one on its parts
+-- one bound on the turns of a loop, and one on its parts
 abbrev pub Both : ℕ → ℕ × ℕ → Type 0
 Both k b = (k < b.0) × (k < b.1)
 
 both : Lowers Both
 both = record { lower = λ j k b le h. (let p = h.0 in omega arith, let p = h.1 in omega arith) }
 
--- both, for one step more
+-- the same two bounds, for one step more
 abbrev Further : ℕ → ℕ × ℕ → Type 0
 Further k b = (suc k < b.0) × (suc k < b.1)
 
@@ -255,11 +255,11 @@ module _ (test : ℕ → State → Run ℕ) (body behind : ℕ → State → Run
   abbrev turns_at : ℕ → ℕ → State → Run Flow
   turns_at i n s = turns i (test n) (body n) (behind n) s
 
-  -- after the body of a turn
+  -- what follows the body of a turn
   abbrev next_turn : ℕ → ℕ → State → Run Flow
   next_turn i n u = then_do (behind n u) (λ flow v. turns_at i n v)
 
-  -- a turn
+  -- one turn, with everything after it
   abbrev turn : ℕ → ℕ → State → Run Flow
   turn i n s = then_do (test n s) (λ w t. choose w (begin_body (body n) (next_turn i n)) (λ u. Gives Falls u) t)
 

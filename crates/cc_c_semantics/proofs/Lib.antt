@@ -1,12 +1,13 @@
 -- How the laws for the passes are shown. With a larger bound and more steps, a part of a run does the same (Lasting, Steps,
--- Exact: one predicate over each part of a run). So a call in the tree is the call from its own steps (Effects); since a call
--- sees none of its caller's locals, it is its effect. A walk over the tree shows that the objects keep their names and sizes
--- (Kept). Another walk shows that names are resolved, from the rules that a typed unit keeps and from its file scope at the end
--- (Resolving, which uses Scopes, Arrays, Scoped and Bodies). The meaning by number is the meaning by name with the unit's names
--- restored by position (ByNumber).
+-- Exact: one predicate over each part of a run). So a call in the tree does what the call with its own steps does (Effects); and
+-- since a call sees none of its caller's locals, it does just the function's effect. A walk over the tree shows that the objects
+-- keep their names and sizes (Kept). Another walk shows that names are resolved, from the rules that a typed unit keeps and from
+-- its file scope at the end (Resolving, which uses Scopes, Arrays, Scoped and Bodies). The meaning by number is the meaning by
+-- name with the unit's names restored by position (ByNumber).
+--
 -- a part of a run with more steps and a larger bound
 pub mod Lasting
--- this holds of each part of a program
+-- this holds for each part of a program
 pub mod Steps
 -- an answer takes exactly the steps that it spends
 pub mod Exact
@@ -18,7 +19,7 @@ pub mod Errors
 pub mod Named
 -- locals as numbered variables, globals as one list of words
 pub mod Held
--- what a name of file scope denotes does not change
+-- what a name at file scope denotes does not change
 pub mod Scopes
 -- the name of an array is the name of an object
 pub mod Arrays
@@ -36,5 +37,5 @@ pub mod Kept
 pub mod Mains
 -- every name in a body refers to what the body needs
 pub mod Resolving
--- the meaning by number is one in the passes' sense
+-- the meaning by number is a meaning in the passes' sense
 pub mod ByNumber

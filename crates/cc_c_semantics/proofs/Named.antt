@@ -22,7 +22,7 @@ name_is_itself x = nat_list_eq_equiv.refl x
 pub same_name_symm : (x y : List ℕ) → same_name x y ≡ same_name y x
 same_name_symm x y = nat_list_eq_equiv.symm x y
 
--- no function has a name from this list, or that of an earlier function
+-- no function has a name in this list, or the name of an earlier function
 abbrev pub Apart : List (List ℕ) → List Function → Type 0
 Apart seen [] = Unit {0}
 Apart seen (f ∷ rest) = (has_name seen f.name ≡ false) × Apart (f.name ∷ seen) rest
@@ -53,7 +53,7 @@ apart_from (Objects t os ∷ rest) f e =
 pub functions_apart : (unit : List External) → IsTyped unit → Apart first_file_scope.defined (functions unit)
 functions_apart unit typed = apart_from unit first_file_scope typed.0
 
--- a function is the one with its name
+-- looking up a function's name finds that function
 pub named_at : (seen : List (List ℕ)) (fs : List Function) (i : ℕ) (g : Function) → Apart seen fs → slice_get fs i ≡ Some g
     → (has_name seen g.name ≡ false) × (function_named fs g.name ≡ Some g)
 named_at seen [] i g h e = absurd (let f : None ≡ Some g = e in cc)
@@ -73,7 +73,7 @@ there [] i h = absurd (omega arith)
 there (x ∷ xs) zero h = (x, refl)
 there (x ∷ xs) (suc i) h = there xs i (omega arith)
 
--- the function with a number
+-- the function with this number, and what is known about it
 record Numbered (unit : List External) (f : ℕ) : Type 0 where
   function : Function
   is : slice_get (functions unit) f ≡ Some function
@@ -98,7 +98,7 @@ numbered unit f typed h =
       no_read = same_name_symm (g.0).name (codes "read_word") ∙ reads;
     }
 
--- a call of something that is not a builtin
+-- how a call of something that is not a builtin begins
 pub call_begins : (fs : List Function) (opened : ℕ) (f ws : List ℕ) (n : ℕ) (s : State) → same_name f (codes "write_word") ≡ false → same_name f (codes "read_word") ≡ false
     → calls (suc n) fs opened f ws s ≡ begun false false (nat_lt opened most_open) (body_part fs opened f ws) ws n s
 call_begins fs opened f ws n s p q =

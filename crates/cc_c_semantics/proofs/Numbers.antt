@@ -33,11 +33,11 @@ as_many_names unit = sym (ap (λ (xs : List (List ℕ)). length xs) (functions_a
 pub as_many_arities : (unit : List External) → length (arities unit) ≡ length (functions unit)
 as_many_arities unit = length-map (functions unit) (λ (g : Function). length g.parameters)
 
--- an element other than the first
+-- an element other than the first is at the next lower index of the rest
 pub get_next : {A : Type 0} (x : A) (xs : List A) (k : ℕ) → slice_get (x ∷ xs) (1 + k) ≡ slice_get xs k
 get_next x xs k = ap (λ n. slice_get (x ∷ xs) n) (let z : 1 + k ≡ suc k = omega arith in z)
 
--- the name with the number of a name is the name
+-- the name that has a name's number is that name
 named_by : (y : List ℕ) (rest : List (List ℕ)) (x : List ℕ) (b : Bool) → same_name y x ≡ b → (if b then 0 else 1 + names_before rest x) < suc (length rest)
     → (names_before rest x < length rest → unwrap_or (slice_get rest (names_before rest x)) [] ≡ x) → unwrap_or (slice_get (y ∷ rest) (if b then 0 else 1 + names_before rest x)) [] ≡ x
 named_by y rest x true e lt ih = same_text y x (sym e)

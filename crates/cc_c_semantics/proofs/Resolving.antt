@@ -29,7 +29,7 @@ is_variable v x r =
       | inr q ↦ subst (λ o. IsPlaced o v x) (sym q.0) (sized_number v.layout.objects x q.1.0, q.1)
     ]
 
--- by how many words a name takes
+-- a call is right if it has as many words as its name takes
 is_called_by : (unit : List External) (x : List ℕ) (count : ℕ) → Takes (layout_of unit).functions (functions unit) x count → IsCalled (arities unit) (callee (layout_of unit) x) count
 is_called_by unit x count (Writes is one) =
     subst (λ b. IsCalled (arities unit) (if b then WriteWord else (if same_name (codes "read_word") x then ReadWord else Defined (names_before (layout_of unit).functions x))) count)
@@ -139,7 +139,7 @@ module _ (layout : Layout) (defined : List (List ℕ)) (Taken : List ℕ → ℕ
   after_beginning (Declares t ds) v h = (with_locals_visible t ds v, scoped_locals layout defined Taken t ds v h)
   after_beginning (Performs a) v h = (refl, h)
 
-  -- the value of a return
+  -- the value of a return is resolved
   returned : (r : Option Scalar) (at : ℕ) (o : Option Expr) (v : Environment) → return_errors r (types_in v) at o ≡ [] → optional_errors (types_in v) o ≡ []
   returned r at None v e = refl
   returned None at (Some i) v e = nil_right (broken BadReturn at) (value_errors (types_in v) i) e
@@ -210,7 +210,7 @@ module _ (layout : Layout) (defined : List (List ℕ)) (Taken : List ℕ → ℕ
 
 -- ---- functions
 
--- the function with a number among some external declarations
+-- the function with number i among these external declarations
 record Found (unit ds : List External) (f : FileScope) (i : ℕ) : Type 0 where
   signature : Signature
   body : Stmts

@@ -76,7 +76,7 @@ pub scoped_locals : (layout : Layout) (defined : List (List ℕ)) (Takes : List 
 scoped_locals layout defined Takes t [] v h = h
 scoped_locals layout defined Takes t (d ∷ rest) v h = scoped_locals layout defined Takes t rest (with_local t d.name.text v) (scoped_local layout defined Takes t d.name.text v h)
 
--- after a statement
+-- what is known about the environment after a statement
 pub record Behind (layout : Layout) (defined : List (List ℕ)) (Takes : List ℕ → ℕ → Type 0) (s : Stmt) (v : Environment) : Type 0 where
   pub visible : (behind s v).visible ≡ scope_behind s v.visible
   pub laid : (behind s v).layout ≡ v.layout

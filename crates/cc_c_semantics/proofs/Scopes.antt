@@ -1,5 +1,5 @@
--- File scope in a typed unit: what a name denotes does not change; a function's name denotes a function of its number of
--- parameters, and a variable's name an object of one word.
+-- File scope in a typed unit: what a name denotes does not change; a function's name denotes a function with as many parameters
+-- as the function has, and a variable's name denotes an object of one word.
 use Rattle.std.proofs.Common.{◌≡◌, ℕ, suc, ◌+◌, ◌-◌, ◌%◌, ◌^◌, Bool, true, false, true≢false, not, ◌||◌, ◌&&◌, ◌==◌, if◌then◌else◌, List, [], ◌∷◌, ◌++◌, length, map, nat_lt, inl, inr, Option, Some, None, is_some, option_map, unwrap_or, refl, sym, ap, ◌∙◌, subst, arith, length-append, append_assoc, append-nil}
 use Rattle.std.proofs.lemmas.List.{length-map, length-replicate}
 use Rattle.std.proofs.lemmas.Bool.Decides.{leb_tells}
@@ -22,7 +22,7 @@ use Rattle.cc_c_semantics.proofs.Named.{name_is_itself, same_name_symm}
 
 -- ---- names
 
--- a name in place of the same one
+-- a name may be replaced with one that is equal to it
 pub name_congr : (a x y : List ℕ) → same_name x y ≡ true → same_name a x ≡ same_name a y
 name_congr a x y e = same_name_symm a x ∙ nat_list_eq_equiv.congr x y a e ∙ same_name_symm y a
 
@@ -76,7 +76,7 @@ same_scalars_length [] (u ∷ us) e = absurd (true≢false (sym e))
 same_scalars_length (t ∷ ts) [] e = absurd (true≢false (sym e))
 same_scalars_length (t ∷ ts) (u ∷ us) e = ap suc (same_scalars_length ts us (and_right (same_scalar t u) (same_scalars ts us) e))
 
--- a name denotes a function of this many parameters
+-- the name denotes a function with this many parameters
 pub record Takes (bs : List Binding) (x : List ℕ) (count : ℕ) : Type 0 where
   pub result : Option Scalar
   pub scalars : List Scalar
@@ -127,7 +127,7 @@ named_append (p ∷ rest) qs x = ap (λ b. same_name p.name x || b) (named_appen
     or_assoc true b c = refl
     or_assoc false b c = refl
 
--- the first object of that name stays the first
+-- the first object with that name stays the first
 extent_kept_by : (p : LaidObject) (rest qs : List LaidObject) (x : List ℕ) (b : Bool) → IsOneWord (if b then p.extent else extent_of rest x) → (IsOneWord (extent_of rest x) → IsOneWord (extent_of (rest ++ qs) x))
     → IsOneWord (if b then p.extent else extent_of (rest ++ qs) x)
 extent_kept_by p rest qs x true e ih = e
@@ -137,13 +137,13 @@ extent_kept : (ps qs : List LaidObject) (x : List ℕ) → IsOneWord (extent_of 
 extent_kept [] qs x e = absurd (let z : 0 ≡ 1 = e.0 in omega arith)
 extent_kept (p ∷ rest) qs x e = extent_kept_by p rest qs x (same_name p.name x) e (extent_kept rest qs x)
 
--- an object after objects that have other names
+-- an object is found if the objects before it have other names
 extent_last : (ps : List LaidObject) (q : LaidObject) (x : List ℕ) → named_in ps x ≡ false → same_name q.name x ≡ true → extent_of (ps ++ q ∷ []) x ≡ q.extent
 extent_last [] q x e h = ap (λ b. if b then q.extent else record { offset = 0; length = 0; width = Word }) h
 extent_last (p ∷ rest) q x e h =
     ap (λ b. if b then p.extent else extent_of (rest ++ q ∷ []) x) (or_left (same_name p.name x) (named_in rest x) e) ∙ extent_last rest q x (or_right (same_name p.name x) (named_in rest x) e) h
 
--- each object has a declared name, and a variable's object has one word
+-- each object's name is declared, and a variable's object has one word
 record Sized (bs : List Binding) (ps : List LaidObject) : Type 0 where
   known : (x : List ℕ) → named_in ps x ≡ true → is_declared bs x ≡ true
   one : (x : List ℕ) (t : Scalar) → found bs x ≡ Some (Variable t) → IsOneWord (extent_of ps x)
@@ -152,7 +152,7 @@ declared_kept : (y x : List ℕ) (e' : Entity) (f : FileScope) (o : Option Entit
 declared_kept y x e' f None e h = absurd (true≢false (sym h))
 declared_kept y x e' f (Some z) e h = ap is_some (keeps_declared y x z e' f e)
 
--- a name that is declared now, and what a look-up of it gives, by whether it was there before
+-- a name is declared now; what a look-up gives then, depending on whether it was there before
 new_by : (f : FileScope) (y x : List ℕ) (e' : Entity) (t : Scalar) (b c : Bool) (P : Type 0) → is_declared f.bindings y ≡ b → same_name y x ≡ c
     → found (if b then f.bindings else record { name = y; entity = e' } ∷ f.bindings) x ≡ Some (Variable t)
     → (found f.bindings x ≡ Some (Variable t) → P) → (b ≡ false → c ≡ true → e' ≡ Variable t → P) → P
@@ -175,7 +175,7 @@ declared_now y e' f = now (is_declared f.bindings y) refl
     now true e = e
     now false e = ap (λ k. is_some (if k then Some e' else found f.bindings y)) (name_is_itself y)
 
--- the known names, with one more
+-- if one more object has a declared name, all objects have
 known_more : (y : List ℕ) (e' : Entity) (f : FileScope) (ps : List LaidObject) (q : LaidObject) (x : List ℕ) (b c : Bool) → named_in ps x ≡ b → same_name y x ≡ c → (b || (c || false)) ≡ true
     → Sized f.bindings ps → is_declared (with_declared y e' f).bindings x ≡ true
 known_more y e' f ps q x true c p r e h = declared_kept y x e' f (found f.bindings x) refl (h.known x p)
@@ -209,7 +209,7 @@ sized_object t (Array y n values) at f ps h =
 sized_object t (Bytes y n values) at f ps h =
     sized_new y.text (Elements Int) f ps (record { name = y.text; extent = record { offset = at; length = array_elements n values; width = Byte } }) refl (λ u e. absurd (let z : Elements Int ≡ Variable u = e in cc)) h
 
--- how many elements some objects have together
+-- how many elements these objects have together
 abbrev elements_of_objects : List Object → ℕ
 elements_of_objects [] = 0
 elements_of_objects (o ∷ rest) = object_elements o + elements_of_objects rest
@@ -249,7 +249,7 @@ broken_not : (o : Option ℕ) → not (is_some o) ≡ false → (w : ℕ) × (o 
 broken_not None e = absurd (true≢false e)
 broken_not (Some w) e = (w, refl)
 
--- an array's length is known, and at least that of its list
+-- an array's length is known, and is at least the length of its list
 array_fits_by : (o : Option ℕ) (given at : ℕ) → length_errors o given at ≡ [] → (o ≡ None → ⊥) → given + (unwrap_or o 0 - given) ≡ unwrap_or o 0
 array_fits_by None given at e h = absurd (h refl)
 array_fits_by (Some k) given at e h =
@@ -263,7 +263,7 @@ length_known_by (Some c) values bs e h =
     let z : option_map (elements_of_word (types.value_type [] c.expr)) (constant_word c) ≡ Some (elements_of_word (types.value_type [] c.expr) w.0) = ap (option_map (elements_of_word (types.value_type [] c.expr))) w.1 in
     let y : Some (elements_of_word (types.value_type [] c.expr) w.0) ≡ None = sym z ∙ h in cc
 
--- an array has, before the run, as many words as elements, whatever the elements keep of the list
+-- before the run an array has as many words as elements, whatever the elements keep of the words in its list
 array_size : (t : Scalar) (x : Name) (n : Option ConstantExpr) (values : List ConstantExpr) (word : ConstantExpr → ℕ) (f : FileScope) → named_array_errors t x n values f ≡ []
     → length (map word values ++ zeros_behind n values) ≡ array_elements n values
 array_size t x n values word f e =
@@ -279,13 +279,13 @@ array_size t x n values word f e =
     ∙ ap (λ k. length values + k) (length-replicate (array_elements n values - length values) 0)
     ∙ array_fits_by (array_length n values) (length values) x.at of_length (length_known_by n values f.bindings of_n)
 
--- every object has as many words as elements
+-- each object has as many words as elements
 pub object_size : (t : Scalar) (o : Object) (f : FileScope) → object_errors t o f ≡ [] → length (initial_words o) ≡ object_elements o
 object_size t (Single x i) f e = refl
 object_size t (Array x n values) f e = array_size t x n values (λ (v : ConstantExpr). initial_word (Some v)) f e
 object_size t (Bytes x n values) f e = array_size Int x n values (λ (v : ConstantExpr). initial_word (Some v) % 2 ^ 8) f e
 
--- each object of a list
+-- each object of a list has as many words as elements
 abbrev pub AllFit : List Object → Type 0
 AllFit [] = Unit {0}
 AllFit (o ∷ rest) = (length (initial_words o) ≡ object_elements o) × AllFit rest

@@ -1,5 +1,5 @@
--- The facts of Lasting hold of each part of a program: of expressions and statements by recursion on the tree, of calls by
--- recursion on how many may still be opened.
+-- The facts of Lasting hold for each part of a program: for expressions and statements by recursion on the tree, and for calls by
+-- recursion on how many more may be opened.
 use Rattle.std.proofs.Common.{◌≡◌, ℕ, zero, suc, ◌+◌, ◌-◌, ◌<◌, ◌≤◌, List, [], ◌∷◌, ◌++◌, Bool, true, false, if◌then◌else◌, length, nat_lt, Option, Some, None, is_some, slice_get, codes, refl, sym, ◌∙◌, arith, inl, inr, true≢false}
 use Rattle.std.proofs.lemmas.Bool.Decides.{leb_tells}
 use Rattle.cc_resolve.specs.scalar.Scalar.{Scalar}
@@ -71,7 +71,7 @@ given_steady op (Some w) = steady_gives Under w
 variable_steady : (x : List ℕ) → Steady Under (λ (n : ℕ) s. Gives (variable_word x s) s)
 variable_steady x = record { grows = λ n s. begins_refl s.output; lasts = λ n s w. lasts_gives Under (variable_word x s) s }
 
--- ---- expressions, assignments, statements, if they hold of each call
+-- ---- expressions, assignments and statements, if the facts hold for each call
 
 module _ (call : ℕ → Calls) (steady : (f ws : List ℕ) → Steady Under (λ n s. call n f ws s)) where
   mutual
@@ -127,7 +127,7 @@ module _ (call : ℕ → Calls) (steady : (f ws : List ℕ) → Steady Under (λ
       steady_then Under under (λ n s. old_value d s) (λ ls old n v. given op (binary_word op (working_type op t u) old w) v) (old_steady d)
       (λ ls old. given_steady op (binary_word op (working_type op t u) old w))
 
-  -- the operator, then the write
+  -- an assignment: the operator, then the write
   assigned_steady : (op : Option BinaryOperator) (t u : Scalar) (d : Destination) (w : ℕ) → Steady Under (λ (n : ℕ) s. then_do (new_value op t u d w s) (λ new v. write d new v))
   assigned_steady op t u d w =
       steady_then Under under (λ n s. new_value op t u d w s) (λ ls new n v. write d new v) (new_steady op t u d w) (λ ls new. write_steady d new)
@@ -151,11 +151,11 @@ module _ (call : ℕ → Calls) (steady : (f ws : List ℕ) → Steady Under (λ
   optional_steady None bs = steady_gives Under Falls
   optional_steady (Some a) bs = perform_steady a bs
 
-  -- with a new local, whose word is 0
+  -- what comes after a declaration of a local, whose word is 0
   behind_local : {A : Type 0} (x : List ℕ) (part : ℕ → State → Run A) → Steady Under part → Steady Under (λ n s. part n (with_local x s))
   behind_local x part p = record { grows = λ n s. p.grows n (with_local x s); lasts = λ n s w. p.lasts n (with_local x s) w }
 
-  -- after a write to a variable
+  -- what comes after a write to a variable
   behind_stored : (x : List ℕ) (w : ℕ) (part : ℕ → State → Run Flow) → Steady Under part → Steady Under (λ n s. part n (stored x w s))
   behind_stored x w part p =
       steady_then Under under (λ n s. Gives Falls (stored x w s)) (λ ls flow n u. part n u) (stored_steady x w) (λ ls flow. p)
@@ -243,7 +243,7 @@ module _ (call : ℕ → Calls) (steady : (f ws : List ℕ) → Steady Under (λ
 
 -- ---- calls
 
--- a call after the tests of its name and of how many are open, given what its body does
+-- a call once its name and the number of open calls are tested, given what its body does
 abbrev pub begun : (writes reads allowed : Bool) → (ℕ → State → Run ℕ) → List ℕ → ℕ → State → Run ℕ
 begun writes reads allowed body ws n s =
     elim writes [
@@ -254,7 +254,7 @@ begun writes reads allowed body ws n s =
       ]
     ]
 
--- a bound of a body; a call has one more
+-- the bound of a body; a call's bound is one greater
 abbrev UpTo : ℕ → ℕ → Type 0
 UpTo k n = k < suc n
 

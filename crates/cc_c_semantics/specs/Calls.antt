@@ -1,5 +1,5 @@
--- What holds of every call and of the body of every function, whether the unit is typed or not: the laws of the meaning that the
--- passes use.
+-- What holds for every call and for the body of every function, whether the unit is typed or not: the laws of the meaning that
+-- the passes use.
 use Rattle.std.specs.Prelude.{◌≡◌, ℕ, ◌+◌, ◌<◌, List, [], ◌++◌, length, map, Some, slice_get, codes}
 use Rattle.cc_simulation.specs.operators.Width.{Width}
 use Rattle.cc_ast.specs.Tree.{External, Source}
@@ -27,7 +27,7 @@ after_call ls (Answers a left) =
 after_call ls (Unfinished output) = Going output
 after_call ls (Failed cause output) = Wrong cause output
 
--- what a call does, by what its name refers to: a builtin writes or reads, and a function of the unit has its effect
+-- what a call does, given what its name refers to: a builtin writes or reads, and a function of the unit has its effect
 abbrev pub called : List External → (opened : ℕ) → Callee → List ℕ → State → Run ℕ
 called unit opened WriteWord ws s = Gives 0 (record s { output = s.output ++ ws })
 called unit opened ReadWord ws s = read_input s.input s
@@ -46,20 +46,20 @@ output_of (Answers a left) = a.shared.output
 output_of (Unfinished output) = output
 output_of (Failed cause output) = output
 
--- the second effect is the first one with this many more steps
+-- the second effect is what the first one becomes with this many more steps
 abbrev pub WithMoreSteps : (more : ℕ) → Effect Answer → Effect Answer → Type 0
 WithMoreSteps more (Answers a left) z = z ≡ Answers a (left + more)
 WithMoreSteps more (Unfinished output) z = IsPrefixOf output (output_of z)
 WithMoreSteps more (Failed cause output) z = z ≡ Failed cause output
 
--- what a call or a body does to what is shared, within a number of steps: it writes after what is written already; with more
+-- what a call or a body does, within a number of steps, to what is shared: it only adds to what is written already; with more
 -- steps it continues; and an answer takes exactly the steps that it spends, however many are left
 pub record EffectGoesOn (effect : ℕ → Shared → Effect Answer) : Type 0 where
   pub grows : (n : ℕ) (h : Shared) → IsPrefixOf h.output (output_of (effect n h))
   pub later : (n more : ℕ) (h : Shared) → WithMoreSteps more (effect n h) (effect (n + more) h)
   pub exact : (h : Shared) → SpendsExactly (λ n. effect n h)
 
--- this holds of each call, and of the body of each function
+-- this holds for each call, and for the body of each function
 abbrev pub CallsGoOn : Type 0
 CallsGoOn = (unit : List External) (opened f : ℕ) (ws : List ℕ) → EffectGoesOn (λ n h. call_function unit n opened f ws h)
 
@@ -68,7 +68,7 @@ BodiesGoOn = (unit : List External) (opened f : ℕ) (ws : List ℕ) → EffectG
 
 -- ---- objects
 
--- an object's name, how wide its elements are, and how many it has
+-- an object's name, how wide its elements are, and how many elements it has
 pub record NamedSize : Type 0 where
   pub name : List ℕ
   pub width : Width

@@ -1,5 +1,5 @@
--- What a program shows in each mode. A plain program shows what its source does. So does a checked one until the source goes
--- wrong: then it runs for ever with the output so far, without writing more and without ending. This holds for every cause but
+-- What a program shows in each mode. A plain program shows what its source does. So does a checked program until the source goes
+-- wrong; then it runs for ever with the output so far, without writing more and without ending. This holds for every cause but
 -- depth, after which nothing is owed.
 use Rattle.std.specs.Prelude.{◌≡◌, ℕ, ◌+◌, Bool, true, false, if◌then◌else◌, List}
 use Rattle.cc_ast.specs.Tree.{Source}
@@ -42,13 +42,13 @@ IsRight (Wrong cause) = ⊥
 
 -- how a checked program compares with its source
 pub record ChecksSource (source : Source) (input : List ℕ) : Type 0 where
-  -- as long as the source is right the two show the same
+  -- as long as the source is right, the two show the same
   pub right : (n : ℕ) → IsRight (source_behavior source input n).stop → checked_behavior source input n ≡ source_behavior source input n
-  -- if the source goes wrong, but not for depth, the checked program keeps running with that output, at every larger number of
-  -- steps
+  -- if the source goes wrong for a cause other than depth, the checked program is still running with that output, at every larger
+  -- number of steps
   pub still : (n more : ℕ) (cause : Cause) → (source_behavior source input n).stop ≡ Wrong cause → stays Checked cause ≡ true
       → checked_behavior source input (n + more) ≡ record { stop = Going; output = (source_behavior source input n).output }
-  -- it goes wrong only if the source is too deep
+  -- the checked program goes wrong only if calls in the source are nested too deep
   pub wrong : (n : ℕ) (cause : Cause) → (checked_behavior source input n).stop ≡ Wrong cause → (source_behavior source input n).stop ≡ Wrong Depth
 
 abbrev pub ProgramsAreChecked : Type 0

@@ -8,11 +8,11 @@ pub mod Checked
 pub mod Function
 -- what the names in a function's body refer to
 pub mod Resolved
--- what holds of every call
+-- what holds for every call
 pub mod Calls
 -- the same by number, in the form that the passes use
 pub mod Numbered
 -- worked examples
 pub mod rows
--- Modules of the crates below that clauses here use, passed on.
+-- Modules of the crates below that clauses here use, re-exported.
 pub use Rattle.cc_resolve.specs.Layout

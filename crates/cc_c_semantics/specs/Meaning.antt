@@ -1,6 +1,6 @@
 -- What a program does: the value of an expression and the effect of a statement, by cases on the syntax, over globals and locals
--- by name. The numbers in parentheses are clauses of ISO/IEC 9899:1999. Whatever the rules of scope and type refuse may have any
--- meaning here, such as a name that is not in scope, or a call of something that is not a function.
+-- by name. The numbers in parentheses are clauses of ISO/IEC 9899:1999. What the rules of scope and type refuse, such as a name
+-- that is not in scope or a call of something that is not a function, may have any meaning here.
 --
 -- The start of `main`, each call of a defined function, and each start of a loop's body spend a step. A number n, which is
 -- greater than the number of steps left, makes each recursion end; it has no other effect.
@@ -31,13 +31,13 @@ pub record Local : Type 0 where
   pub name : List ℕ
   pub word : ℕ
 
--- an object at file scope: its name, how wide its elements are, and their words, one word for a single object (6.2.4)
+-- an object at file scope: its name, how wide its elements are, and their words; a single object has one word (6.2.4)
 pub record Global : Type 0 where
   pub name : List ℕ
   pub width : Width
   pub words : List ℕ
 
--- the state of a run: the locals of the function that runs, newest first, the globals, the rest of the input, the output so far,
+-- the state of a run: the locals of the function that runs, newest first; the globals; the rest of the input; the output so far;
 -- and how many steps are left
 pub record State : Type 0 where
   pub locals : List Local
@@ -46,7 +46,7 @@ pub record State : Type 0 where
   pub output : List ℕ
   pub steps : ℕ
 
--- what a part of a run gives: a value and the next state, or no step is left, or the run goes wrong. The last two keep the
+-- what a part of a run gives: a value and the next state; or no step is left; or the run goes wrong. The last two keep the
 -- output.
 pub data Run (A : Type 0) : Type 0 where
   Gives : A → State → Run A
@@ -61,7 +61,7 @@ pub data Flow : Type 0 where
   Continues : Flow
   Returns : ℕ → Flow
 
--- one part of a run, and then another with the value of the first
+-- one part of a run, and then another, which gets the value of the first
 abbrev pub then_do : {A B : Type 0} → Run A → (A → State → Run B) → Run B
 then_do (Gives x s) go = go x s
 then_do (Going output) go = Going output
@@ -88,12 +88,12 @@ abbrev pub global_words : List Global → List ℕ → List ℕ
 global_words [] x = []
 global_words (g ∷ rest) x = if same_name g.name x then g.words else global_words rest x
 
--- the newest local of that name gets a word
+-- the newest local of that name gets this word
 abbrev pub with_local_word : List ℕ → ℕ → List Local → List Local
 with_local_word x w [] = []
 with_local_word x w (l ∷ behind) = if same_name l.name x then record l { word = w } ∷ behind else l ∷ with_local_word x w behind
 
--- an element of the object of that name gets a word, and keeps the part of it that fits (6.3.1.3)
+-- an element of the object of that name gets a word, and keeps the part that fits in it (6.3.1.3)
 abbrev pub with_element : List ℕ → ℕ → ℕ → List Global → List Global
 with_element x i w [] = []
 with_element x i w (g ∷ rest) = if same_name g.name x then record g { words = slice_set g.words i (kept g.width w) } ∷ rest else g ∷ with_element x i w rest
@@ -108,8 +108,8 @@ stored x w s =
     if is_some (local_word s.locals x) then record s { locals = with_local_word x w s.locals }
     else record s { globals = with_element x 0 w s.globals }
 
--- reads an element of an array; an index outside the array goes wrong (6.5.2.1, 6.5.6). An index below 0 is a word above every
--- length that a unit may have.
+-- reads an element of an array; an index outside the array makes the run go wrong (6.5.2.1, 6.5.6). An index below 0 is a word
+-- above every length that a unit may have.
 abbrev pub read_element : List ℕ → ℕ → State → Run ℕ
 read_element x i s = elim (slice_get (global_words s.globals x) i) [ None ↦ Wrong Index s.output | Some w ↦ Gives w s ]
 
@@ -121,7 +121,8 @@ write_element x i w s =
 
 -- ---- expressions
 
--- why an operator has no value: a shift because of its count (6.5.7), any other as a quotient (6.5.5)
+-- why an operator has no value: a shift because of its count (6.5.7), any other operator because it is a quotient or remainder
+-- (6.5.5)
 abbrev pub cause_of : BinaryOperator → Cause
 cause_of ShiftLeft = Shift
 cause_of ShiftRight = Shift
@@ -159,7 +160,7 @@ abbrev mutual
   evaluate_all (more e rest) bs call s =
       then_do (evaluate e bs call s) (λ w t. then_do (evaluate_all rest bs call t) (λ ws u. Gives (w ∷ ws) u))
 
--- an expression that may be absent, and the word to give without it
+-- the value of an expression that may be absent; if it is, this word
 abbrev pub evaluate_or : ℕ → Option Expr → List Binding → Calls → State → Run ℕ
 evaluate_or w None bs call s = Gives w s
 evaluate_or w (Some e) bs call s = evaluate e bs call s
@@ -186,13 +187,14 @@ abbrev pub write : Destination → ℕ → State → Run Flow
 write (ToVariable x) w s = Gives Falls (stored x w s)
 write (ToElement x i) w s = write_element x i w s
 
--- the word to write, given the right side's word: that word for `=`, else the operator's value for the old value and that word
+-- the word to write, given the right side's word: for `=` it is that word, else the operator's value for the old value and that
+-- word
 abbrev pub new_value : Option BinaryOperator → Scalar → Scalar → Destination → ℕ → State → Run ℕ
 new_value None t u d w s = Gives w s
 new_value (Some op) t u d w s = then_do (old_value d s) (λ old v. given op (binary_word op (working_type op t u) old w) v)
 
--- an action: first the index, then the right side, then the old value if it is needed, then the write; ++ and -- are += 1 and -=
--- 1 (6.8.3)
+-- an action: first the index is evaluated, then the right side, then the old value is read if it is needed, then the write is
+-- done; ++ and -- are += 1 and -= 1 (6.8.3)
 abbrev pub perform : Action → List Binding → Calls → State → Run Flow
 perform (Assign op target e) bs call s =
     then_do (destination target bs call s) (λ d t. then_do (evaluate e bs call t) (λ w u.
@@ -262,17 +264,17 @@ start (Performs a) call v s = perform_optional a (in_scope v) call s
 abbrev pub left_scope : ℕ → State → State
 left_scope before s = record s { locals = drop (length s.locals - before) s.locals }
 
--- a part of a run in a scope of its own
+-- a part of a run that has a scope of its own
 abbrev pub in_block : (State → Run Flow) → State → Run Flow
 in_block part s = then_do (part s) (λ flow t. Gives flow (left_scope (length s.locals) t))
 
 -- ---- statements
 
--- a return, with its value if it has one
+-- a return, with a value if it has one
 abbrev pub return : Option Expr → List Binding → Calls → State → Run Flow
 return e bs call s = then_do (evaluate_or 0 e bs call s) (λ w t. Gives (Returns w) t)
 
--- what a statement does, or a list of statements, if at most n steps are left (6.8). A block and each part of a statement are
+-- what a statement or a list of statements does, if at most n steps are left (6.8). A block and each part of a statement are
 -- scopes, and a `for` header is a scope around the loop's body (6.8.2, 6.8.4, 6.8.5). An absent condition counts as true
 -- (6.8.5.3).
 abbrev mutual
@@ -334,7 +336,7 @@ abbrev pub function_named : List Function → List ℕ → Option Function
 function_named [] x = None
 function_named (f ∷ rest) x = if same_name f.name x then Some f else function_named rest x
 
--- the parameters with their words, the last one newest, before some locals
+-- the parameters with their words are put before these locals, the last parameter as the newest
 abbrev pub bound : List (List ℕ) → List ℕ → List Local → List Local
 bound (x ∷ xs) (w ∷ ws) ls = bound xs ws (record { name = x; word = w } ∷ ls)
 bound [] ws ls = ls
@@ -345,8 +347,8 @@ abbrev pub result_of : Flow → ℕ
 result_of (Returns w) = w
 result_of flow = 0
 
--- the body of a function on the words of its arguments: its parameters are its only locals, and its caller's locals are back
--- after it
+-- the body of a function on the words of its arguments: its parameters are its only locals at its start, and after it the
+-- caller's locals are there again
 abbrev pub run_body : Function → ℕ → Calls → List ℕ → State → Run ℕ
 run_body f n call ws s =
     then_do (execute_all f.body n call f.visible (record s { locals = bound f.parameters ws [] }))
@@ -356,7 +358,7 @@ abbrev pub run_optional : Option Function → ℕ → Calls → List ℕ → Sta
 run_optional None n call ws s = Gives 0 s
 run_optional (Some f) n call ws s = run_body f n call ws s
 
--- the next word of the input, or 0 if none is left
+-- reads the next word of the input, or 0 if none is left
 abbrev pub read_input : List ℕ → State → Run ℕ
 read_input [] s = Gives 0 s
 read_input (w ∷ rest) s = Gives w (record s { input = rest })

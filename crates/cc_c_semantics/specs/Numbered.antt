@@ -1,5 +1,5 @@
--- The meaning of a unit by number in a mode, in the form that the compiler's passes use: functions and objects by their numbers,
--- and no causes.
+-- The meaning of a unit in a mode, in the form that the compiler's passes use: functions and objects have numbers instead of
+-- names, and there are no causes.
 use Rattle.std.specs.Prelude.{◌≡◌, ℕ, if◌then◌else◌, List, [], ◌∷◌, length, map, unwrap_or, slice_get}
 use Rattle.cc_ast.specs.Tree.{External, Source}
 use Rattle.cc_types.specs.Typed.{IsTyped}
@@ -35,7 +35,7 @@ named [] os = []
 named (x ∷ xs) [] = []
 named (x ∷ xs) (o ∷ os) = record { name = x; width = o.width; words = o.words } ∷ named xs os
 
--- what is shared, with the names of a unit's objects
+-- what is shared; its objects get the names of the unit's objects
 abbrev pub shared_in : List External → World → Shared
 shared_in unit h = record { globals = named (names_of (initial_globals unit)) h.globals; input = h.input; output = h.output }
 
@@ -45,7 +45,7 @@ objects_in unit = map size_of (objects_of (initial_globals unit))
 
 -- ---- calls by number
 
--- a call that goes wrong; if the program then runs for ever, the call is never finished
+-- the effect of a call that goes wrong; in a mode in which the program then runs for ever, it is a call that never finishes
 abbrev pub gone_wrong : Mode → Cause → (output : List ℕ) → Effect
 gone_wrong mode cause output = if stays mode cause then Unfinished output else Failed output
 
@@ -55,7 +55,7 @@ numbered mode (by_name.Answers a left) = Gives (record { value = a.word; world =
 numbered mode (by_name.Unfinished output) = Unfinished output
 numbered mode (by_name.Failed cause output) = gone_wrong mode cause output
 
--- a call of function f, and its body after the call's step
+-- the effect of a call of function f, and that of its body after the call's step
 abbrev pub call_in : Mode → List External → (n opened f : ℕ) → List ℕ → World → Effect
 call_in mode unit n opened f ws h = numbered mode (call_function unit n opened f ws (shared_in unit h))
 
@@ -68,7 +68,7 @@ arity_in unit f = unwrap_or (slice_get (arities unit) f) 0
 
 -- ---- a unit's meaning
 
--- a meaning, in the passes' sense, is that of a unit in a mode
+-- this meaning, in the passes' sense, is that of the unit in the mode
 pub record IsMeaning (mode : Mode) (unit : List External) (meaning : Meaning) : Type 0 where
   pub functions : meaning.functions ≡ length (functions unit)
   pub arity : meaning.arity ≡ arity_in unit
@@ -80,7 +80,7 @@ pub record IsMeaning (mode : Mode) (unit : List External) (meaning : Meaning) : 
 abbrev pub TypedUnitsHaveMeanings : Type 0
 TypedUnitsHaveMeanings = (mode : Mode) (unit : List External) → IsTyped unit → (meaning : Meaning) × IsMeaning mode unit meaning
 
--- by number a call and a body do what they do by name, if the objects have the names of the unit's objects
+-- by number, a call and a body do what they do by name, if the objects have the names of the unit's objects
 abbrev pub CallsAreNumbered : Type 0
 CallsAreNumbered = (mode : Mode) (unit : List External) (n opened f : ℕ) (ws : List ℕ) (h : Shared) → names_of h.globals ≡ names_of (initial_globals unit)
     → (call_in mode unit n opened f ws (world_of h) ≡ numbered mode (call_function unit n opened f ws h))
@@ -97,7 +97,7 @@ stop_without_cause (outcome.Wrong cause) = runs.Wrong
 abbrev pub without_cause : outcome.Outcome ℕ → runs.Outcome ℕ
 without_cause o = record { stop = stop_without_cause o.stop; output = o.output }
 
--- the outcome of the call of main, with its word as the only result
+-- the outcome of the call of main, whose word is the only result that counts
 abbrev pub outcome_by_number : Effect → runs.Outcome ℕ
 outcome_by_number (Gives a left) = record { stop = runs.Ended a.value; output = a.world.output }
 outcome_by_number (Unfinished output) = record { stop = runs.Going; output = output }

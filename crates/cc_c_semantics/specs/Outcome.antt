@@ -2,7 +2,7 @@
 use Rattle.std.specs.Prelude.{ℕ, List}
 use Rattle.cc_c_semantics.specs.declared.cause.Cause.{Cause}
 
--- how a run stops: with no step left, with its result, or by going wrong
+-- how a run stops: with no step left, with its result, or because it goes wrong
 pub data Stop (R : Type 0) : Type 0 where
   Going : Stop R
   Ended : R → Stop R

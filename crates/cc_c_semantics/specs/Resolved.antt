@@ -1,6 +1,6 @@
 -- What the names in the bodies of a typed unit refer to: a variable that is read or assigned is a local in scope or an object of
--- one word, a name that is indexed is an object, and a call is one of a builtin or of a function of the unit, with as many
--- arguments as it has parameters.
+-- one word; a name that is indexed is an object; and a call is a call of a builtin or of a function of the unit, with as many
+-- arguments as that has parameters.
 use Rattle.std.specs.Prelude.{◌≡◌, ℕ, ◌<◌, List, [], ◌∷◌, length, map, Option, Some, None, slice_get}
 use Rattle.cc_simulation.specs.operators.Width.TheVariants.{Word}
 use Rattle.cc_resolve.specs.scalar.Scalar.{Scalar}
@@ -21,7 +21,7 @@ arities unit = map (λ (g : Function). length g.parameters) (functions unit)
 
 -- ---- names
 
--- a name of file scope is that of an object
+-- a name at file scope is that of an object
 abbrev pub IsObject : Environment → List ℕ → Type 0
 IsObject v x = (number : ℕ) × (object_number v.layout.objects x ≡ Some number)
 
@@ -37,13 +37,13 @@ IsPlaced (Some number) v x = Unit {0}
 abbrev pub IsVariable : Environment → List ℕ → Type 0
 IsVariable v x = IsPlaced (number_in v.locals x) v x
 
--- this many arguments are right for a builtin, or for a function of the unit, given the functions' numbers of parameters
+-- this number of arguments is right for a builtin, or for a function of the unit, given how many parameters each function has
 abbrev pub IsCalled : (arities : List ℕ) → Callee → (count : ℕ) → Type 0
 IsCalled arities WriteWord count = count ≡ 1
 IsCalled arities ReadWord count = count ≡ 0
 IsCalled arities (Defined f) count = slice_get arities f ≡ Some count
 
--- ---- every name in an expression, an action, a statement
+-- ---- each name in an expression, an action, a statement
 
 abbrev mutual
   pub ExprResolved : List ℕ → Environment → Expr → Type 0
@@ -123,7 +123,7 @@ pub record IsResolved (unit : List External) (f : ℕ) : Type 0 where
   pub begins : slice_get (environments unit) f ≡ Some environment
   pub locals : environment.locals ≡ parameter_names signature.parameters []
   pub layout : environment.layout ≡ layout_of unit
-  -- the function in the sense of the meaning
+  -- the function as the meaning has it
   pub function : slice_get (functions unit) f
       ≡ Some (record { name = signature.name.text; parameters = map (λ (p : Parameter). text_of p.name) signature.parameters; body = body; visible = environment.visible })
   pub resolved : StmtsResolved (arities unit) environment body

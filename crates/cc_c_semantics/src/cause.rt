@@ -9,6 +9,6 @@ pub enum Cause {
     Shift,
     /// An index outside its array (C99 6.5.6).
     Index,
-    /// A call that would make 1,025 calls open.
+    /// A call with which 1,025 calls would be open.
     Depth,
 }

@@ -1,4 +1,4 @@
-// What holds of the meaning of every program.
+// What holds for the meaning of every program.
 
 ghost use Rattle.cc_c_semantics.specs.Calls.{BodiesGoOn, BodiesKeepObjects, CallsAreEffects, CallsGoOn, CallsKeepObjects, FunctionsAreNumbered, ObjectsAreNumbered, ObjectsAreSized, ProgramsCallMain, TypedUnitsHaveMain};
 ghost use Rattle.cc_c_semantics.specs.Checked.{ProgramsAreChecked};
@@ -7,13 +7,13 @@ ghost use Rattle.cc_c_semantics.specs.Numbered.{CallsAreNumbered, CheckedFollows
 ghost use Rattle.cc_c_semantics.specs.Resolved.{FunctionsAreResolved};
 
 /// Shows that each function of a typed unit has its meaning. A call with no step left is unfinished. A call made while 1,024
-/// calls are open spends a step and goes wrong. Any other call is the function's body with one step less.
+/// calls are open spends a step and goes wrong. Any other call does what the function's body does with one step less.
 pub fn functions_have_meaning()
     ensures { TypedUnitsHaveMeaning }
 {}
 
-/// Shows that with more steps a run continues. If it had ended or gone wrong it does the same; otherwise its output begins the
-/// longer run's output.
+/// Shows that with more steps a run continues. If it had ended or gone wrong, it does the same again; otherwise its output is the
+/// beginning of the longer run's output.
 pub fn runs_go_on()
     ensures { RunsGoOn }
 {}
@@ -24,7 +24,7 @@ pub fn calls_are_effects()
     ensures { CallsAreEffects }
 {}
 
-/// Shows that a call, or the body of a function, writes after what is written already, and that with more steps it continues. If
+/// Shows that a call, or the body of a function, only adds to what is written already, and that with more steps it continues. If
 /// it gives an answer, it takes exactly the steps that it spends, however many are left.
 pub fn calls_go_on()
     ensures calls { CallsGoOn }
@@ -45,22 +45,22 @@ pub fn names_have_numbers()
     ensures sizes { ObjectsAreSized }
 {}
 
-/// Shows that a typed unit defines `main`, without parameters, and that a program's run is the call of it.
+/// Shows that a typed unit defines `main`, without parameters, and that a program's run is the call of `main`.
 pub fn programs_call_main()
     ensures main { TypedUnitsHaveMain }
     ensures run { ProgramsCallMain }
 {}
 
 /// Shows what names in the functions of a typed unit refer to. A variable that is read or assigned is a local in scope or an
-/// object of one word. A name that is indexed is an object. A call is one of a builtin or of a function of the unit, with the
+/// object of one word. A name that is indexed is an object. A call is a call of a builtin or of a function of the unit, with the
 /// right number of arguments.
 pub fn functions_are_resolved()
     ensures { FunctionsAreResolved }
 {}
 
 /// Shows that a checked program shows what its source shows as long as the source is right. If the source goes wrong for a cause
-/// other than depth, the checked program runs for ever with the output so far. It goes wrong only if the source is too deep.
-/// Whatever follows the checked program follows the source.
+/// other than depth, the checked program runs for ever with the output so far. It goes wrong only if calls in the source are
+/// nested too deep. Whatever follows the checked program follows the source.
 pub fn programs_are_checked()
     ensures checked { ProgramsAreChecked }
     ensures follows { CheckedFollows }

@@ -2,8 +2,8 @@
 //! crate runs a program: `cc_meaning` has the interpreter, whose results are exactly this meaning, and the passes follow it.
 //!
 //! - `cause`: why a program goes wrong.
-//! - `mode`: what a compiled program then owes.
-//! - `laws`: what holds of every program. These functions do nothing; the contract of each is a law of the definitions.
+//! - `mode`: what a compiled program owes if its source goes wrong.
+//! - `laws`: what holds for every program. These functions do nothing; the contract of each is a law of the definitions.
 #![tactic(auto)]
 
 mod cause;

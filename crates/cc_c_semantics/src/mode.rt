@@ -5,6 +5,7 @@
 pub enum Mode {
     /// Nothing.
     Plain,
-    /// To run for ever with the output so far, without writing more and without ending. After too many open calls: nothing.
+    /// The program has to run for ever with the output so far, without writing more and without ending. After too many open calls it owes
+    /// nothing.
     Checked,
 }

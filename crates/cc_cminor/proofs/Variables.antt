@@ -151,7 +151,7 @@ found_by true k u ws vs rest o n e f = let z : 0 ≡ n = cc in ap (λ i. get_or 
 found_by false k u ws vs rest None n e f = absurd (cc)
 found_by false k u ws vs rest (Some m) n e f = let z : suc m ≡ n = cc in ap (λ i. get_or (object k ws ∷ rest) i no_object) (sym z) ∙ f m refl
 
--- an object by its number
+-- an object is found by its number
 found_object : (gs : List Global) (ps : List LaidObject) (x : List ℕ) (n : ℕ) → sizes gs ≡ laid_sizes ps → object_number ps x ≡ Some n → get_or (objects_of gs) n no_object ≡ object (width_by_name gs x) (global_words gs x)
 found_object gs [] x n e f = absurd (cc)
 found_object [] (p ∷ ps) x n e f = absurd (let q : ◌≡◌ {A = List NamedSize} [] (laid_sizes (p ∷ ps)) = e in cc)
@@ -217,7 +217,7 @@ same_itself : (u : Width) → same_width u u ≡ true
 same_itself Byte = refl
 same_itself Word = refl
 
--- an element by its object's number
+-- an element is found by its object's number
 pub element_object : (gs : List Global) (ps : List LaidObject) (x : List ℕ) (n i : ℕ) (input output : List ℕ) → sizes gs ≡ laid_sizes ps → object_number ps x ≡ Some n
     → element (record { globals = objects_of gs; input = input; output = output }) (extent_of ps x).width n i ≡ slice_get (global_words gs x) i
 element_object gs ps x n i input output e f =
@@ -374,7 +374,7 @@ and_right false b e = absurd (cc)
 
 -- ---- plain expressions
 
--- a part of a run leaves the state as it is, and gives a word or goes wrong, as this says
+-- a part of a run leaves the state as it is, and gives a word or goes wrong, as the option says
 abbrev pub PlainIs : {A : Type 0} → Run A → State → Option A → Type 0
 PlainIs (Gives x u) s o = (u ≡ s) × (o ≡ Some x)
 PlainIs (meaning.Going output) s o = ⊥

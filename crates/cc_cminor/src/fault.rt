@@ -1,4 +1,4 @@
-// Why a pass makes no code of a function.
+// Why a pass makes no code for a function.
 
 ghost use Rattle.std.specs.Prelude.{◌≡◌};
 ghost use Rattle.cc_cminor.specs.Fault.{fault_number};
@@ -6,7 +6,7 @@ ghost use Rattle.cc_cminor.specs.Fault.{fault_number};
 use std::alloc::AllocError;
 use thiserror::Error;
 
-/// Why a pass makes no code of a function.
+/// Why a pass makes no code for a function.
 #[derive(Debug, Drop, Error)]
 pub enum CodeFault {
     /// 22: the code would be too large: it would have more nodes or set more variables than code may have.

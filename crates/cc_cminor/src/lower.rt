@@ -1,7 +1,7 @@
 // From a function of a typed unit to its Cminor.
 //
 // The code is that of the function's body, from the environment in which the body begins. It keeps up with the function, and
-// calls each function with its number of arguments; both follow from the laws of the meaning for every typed unit.
+// calls each function with the right number of arguments; both follow from the laws of the meaning for every typed unit.
 
 ghost use Rattle.std.specs.Prelude.{◌≡◌, ◌<◌, length, IfOk};
 ghost use Rattle.std.specs.Arc.{arc_value};

@@ -43,11 +43,11 @@ fn write_units<D: Disk>(
     }
 }
 
-/// Makes a new library with these units on a disk, with areas of `area` bytes. The disk is handed back. After Ok, every crash leaves these
-/// units and no others.
+/// Makes a new library with these units on a disk, with areas of `area` bytes. The disk is handed back. After Ok, every crash
+/// leaves these units and no others.
 ///
-/// Refusals: 34 if the units don't fit such an area, or two of them the disk, which is as before then; 35 if the device failed; 40
-/// if memory ran out.
+/// Refusals: 34 if the units don't fit in such an area, or two such areas don't fit on the disk, which is then as before; 35 if
+/// the device failed; 40 if memory ran out.
 pub fn copy_units<D: Disk + Drop>(
     alloc: Global,
     units: &UnitMap,

@@ -85,8 +85,8 @@ fn judge<S: Write>(
     Ok(judged)
 }
 
-/// The units of a map that an audit confirms, and those that are left out, in the order of their names. A newline goes to `seen` for each unit
-/// that was audited, so that it may count them. The error is lack of memory.
+/// The units of a map that an audit confirms, and those that are left out, in the order of their names. A newline goes to `seen`
+/// for each unit that was audited, so that `seen` can count them. The error is lack of memory.
 pub fn confirm<S: Write>(
     alloc: Global,
     units: &UnitMap,

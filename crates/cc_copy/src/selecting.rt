@@ -37,7 +37,7 @@ fn names_in(alloc: Global, texts: &[String]) -> Result<Vec<Name>, PartFault>
     Ok(names)
 }
 
-// The units of these names, or all. For the first name without one it is reported which one is near.
+// The units of these names, or all. For the first name that has no unit, a near one is reported.
 fn taken<E: Write>(
     alloc: Global,
     units: &UnitMap,
@@ -129,7 +129,7 @@ pub fn selection_on<D: Disk + Drop, S: Write, E: Write>(
     seen: &mut S,
     explanations: &mut E,
 ) -> (Result<Selection, PartFault>, D)
-    // On an honest disk they are those of the map to which it recovers.
+    // On an honest disk the units are selected from the map to which it recovers.
     ensures selected { IfOk result.0 (λ selection. IsTrue D.honest → IsSelectedOn (D.seen disk) (map string_bytes names.now) is_confirmed selection) }
     ensures refused { IfErr result.0 (λ fault. IsNotSelectedOn D.honest (D.seen disk) (D.failures disk) (D.failures result.1) (map string_bytes names.now) fault) }
     ensures reads { IsTrue D.honest → OnlyReads D.seen D.may_leave D.moment D.left_since disk result.1 }

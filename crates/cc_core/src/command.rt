@@ -1,4 +1,4 @@
-// What clients ask for, the commands that go into the order, each with a number of its own, and the answers.
+// What clients ask for; the commands that go into the order, each with a number of its own; and the answers.
 
 ghost use Rattle.std.specs.Prelude.{◌≡◌, IfOk};
 
@@ -8,11 +8,11 @@ use crate::sequence_number::SequenceNumber;
 use cc_library::{Change, LibraryCommand};
 use std::alloc::AllocError;
 
-/// What a client asks for: a change that carries a source, which may be any bytes.
+/// What a client asks for: a change with a source, which may be any bytes.
 pub type Request = Change<Sequence<u8>>;
 
-/// A command with its name: the sequence number of its Begin among all Begins that took a step. Two commands that ask for the same have
-/// different numbers.
+/// A command and its sequence number: that of its Begin among all Begins that took a step. Two commands that ask for the same
+/// thing have different numbers.
 #[derive(Drop)]
 pub struct Numbered {
     pub number: SequenceNumber,

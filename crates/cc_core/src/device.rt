@@ -95,7 +95,7 @@ pub(crate) fn sync_gate(core: &mut Core) -> Answer
     Ok(None)
 }
 
-// The device step of a commit that is due fails. A write has then reached the disk as a whole, unsettled.
+// The device step of a commit that is due fails. If it is a write, all its bytes have reached the disk, unsettled.
 fn fail_core(alloc: Global, core: &mut Core, client: ClientId) -> Answer
     requires { IsReady core.old }
     ensures { Answers (Fails client core.old) result core.old core.new }

@@ -1,4 +1,4 @@
--- Runs that do not go wrong for depth.
+-- Runs that do not go wrong because of depth.
 use Rattle.std.proofs.Common.{◌≡◌, ◌≢◌, ℕ, zero, suc, ◌+◌, ◌<◌, ◌≤◌, List, [], ◌∷◌, ◌++◌, Bool, true, false, if◌then◌else◌, length, nat_lt, Option, Some, None, is_some, inl, inr, refl, sym, ap, ◌∙◌, subst, arith}
 use Rattle.std.proofs.lemmas.Bool.Decides.{leb_tells}
 use Rattle.std.specs.Prelude.{codes, slice_get, unwrap_or, map}
@@ -248,7 +248,7 @@ module _ (call : Calls) (Is : List ℕ → Type 0) (each : (f : List ℕ) → Is
 -- ---- calls
 
 module _ (rank : List ℕ → ℕ) where
-  -- the function with a name calls only functions of lower rank than that name
+  -- the function with this name, if there is one, calls only functions of lower rank than the name has
   abbrev Lower : List ℕ → Option Function → Type 0
   Lower x None = Unit {0}
   Lower x (Some f) = InStatements (λ g. rank g < rank x) f.body

@@ -1,5 +1,5 @@
--- An earlier text has its unit, its program does what it did, and an image that agreed with it agrees: from the laws of `Texts` on its
--- tree, and `Runs` on its run.
+-- An earlier text has its unit, its program does what it did, and an image that agreed with it agrees. This follows from what `Texts`
+-- shows about its tree, and `Runs` about its run.
 use Rattle.std.proofs.Common.{◌≡◌, ℕ, List, sym, ap, ◌∙◌, subst}
 use Rattle.std.proofs.Math.Logic.{∥∥₁_map}
 use Rattle.cc_rv32.specs.declared.image.Image.{Image}

@@ -1,5 +1,5 @@
--- A part of a run over objects of words does what it did before there were arrays of `unsigned char`: it gives the same and leaves objects
--- of words, the same as it left then. By recursion on the tree and on the number of calls that may still be opened, as in `Kept` of
+-- A part of a run over objects of words does what it did before there were arrays of `unsigned char`: it gives the same result and leaves
+-- the same objects, which are of words. By recursion on the tree and on the number of calls that may still be opened, as in `Kept` of
 -- `cc_c_semantics`.
 use Rattle.std.proofs.Common.{◌≡◌, ℕ, zero, suc, ◌+◌, Bool, true, false, if◌then◌else◌, List, [], ◌∷◌, ◌++◌, map, length, nat_lt, Option, Some, None, is_some, unwrap_or, slice_get, codes, refl, sym, ap, ◌∙◌, subst}
 use Rattle.cc_tokens.specs.declared.scalar.Scalar.{Scalar}

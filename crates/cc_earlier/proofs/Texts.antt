@@ -88,7 +88,7 @@ earlier_trees_stay tokens trees text tree h =
       plain_unit tree s.0 s.1,
     )
 
--- if two rows have no token `char`, neither has one
+-- if two lists of tokens together have no token `char`, neither has one
 no_char_apart : (xs ys : List Measured) → HasNoChar (plain_tokens (xs ++ ys)) → HasNoChar (plain_tokens xs) × HasNoChar (plain_tokens ys)
 no_char_apart [] ys h = (tt, h)
 no_char_apart (x ∷ xs) ys h = let q = no_char_apart xs ys h.1 in ((h.0, q.0), q.1)

@@ -1,4 +1,4 @@
--- The sizes that the code reads from a unit's declarations are those of its objects.
+-- The sizes that the code reads from a unit's declarations are the sizes of the unit's objects.
 use Rattle.std.proofs.Common.{◌≡◌, ℕ, ◌+◌, List, [], ◌∷◌, ◌++◌, length, map, refl, sym, ap, ◌∙◌}
 use Rattle.cc_ast.specs.Tree.{Object, External}
 use Rattle.cc_types.specs.Types.{object_elements, object_width}

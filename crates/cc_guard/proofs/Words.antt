@@ -1,5 +1,5 @@
--- Code whose constants are words makes words from words: what variables and objects hold, what it passes to a call, and what it
--- returns. So each call that it makes is one that the source can make.
+-- Code whose constants are words makes words from words: variables and objects hold words, and it passes words to calls and
+-- returns words. So each call that it makes is one that the source can make.
 use Rattle.std.proofs.Common.{◌≡◌, ℕ, zero, suc, ◌^◌, ◌<◌, Bool, true, false, ◌==◌, List, [], ◌∷◌, length, get_or, Option, Some, None, option_map, unwrap_or, slice_get, refl, sym, ap, ◌∙◌, subst, arith}
 use Rattle.std.specs.Prelude.{if◌then◌else◌, set}
 use Rattle.std.proofs.lemmas.List.{length-map}
@@ -208,7 +208,7 @@ module _ (unit : List External) where
   NextFits (Again s κ) = AreCalls unit s × CodeConstantsFit s × NextFits κ
   NextFits (Leaving κ) = NextFits κ
 
-  -- words everywhere, and what remains to be done calls only functions of the unit
+  -- the configuration holds only words, and what remains to be done calls only functions of the unit
   pub record IsOfWords (c : Config) : Type 0 where
     pub calls : AreCalls unit c.statement
     pub constants : CodeConstantsFit c.statement
@@ -216,7 +216,7 @@ module _ (unit : List External) where
     pub holds : HoldWords c.variables
     pub world : IsWorld objects c.world
 
-  -- a call or a function answers with a word and a world of words
+  -- a call or a function gives a word and a world of words
   abbrev pub IsGiven : Answer → Type 0
   IsGiven a = (a.value < 2 ^ 32) × IsWorld objects a.world
 

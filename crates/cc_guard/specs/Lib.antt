@@ -2,7 +2,7 @@
 pub mod Guard
 -- the code with words in variables
 pub mod Held
--- what holds of all guarded code
+-- what holds for all guarded code
 pub mod Laws
 -- units in which no function needs a guard
 pub mod Safe

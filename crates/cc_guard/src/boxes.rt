@@ -64,7 +64,7 @@ pub fn copied(alloc: Global, e: &Expression) -> Result<Box<Expression>, AllocErr
     }
 }
 
-/// Statements that run one after another.
+/// A statement that runs these statements one after another.
 pub fn sequence(alloc: Global, all: Vec<Statement>) -> Result<Box<Statement>, AllocError>
     ensures { IfOk result (λ s. statement_of s.value ≡ in_sequence (statements_of all.items)) }
 {

@@ -47,6 +47,6 @@ entry_bytes entry = 256 + asked_bytes entry.asked + reply_bytes entry.reply
 abbrev pub receipts_bytes : List Receipt → ℕ
 receipts_bytes receipts = sum_by (λ receipt. entry_bytes receipt.entry) receipts
 
--- this many, or the most that a number of 64 bits can be
+-- this many, or the largest number of 64 bits if there are more
 abbrev pub at_most_told : ℕ → ℕ
 at_most_told bytes = min bytes (2 ^ 64 - 1)

@@ -65,7 +65,7 @@ impl LinearPair {
         }
     }
 
-    /// The mode: what the code owes if the function goes wrong.
+    /// The mode: what the code must do if the function goes wrong.
     pub fn mode(&self) -> Mode
         ensures answer { result ≡ self.now.mode }
     {

@@ -1,5 +1,5 @@
--- What `made_in` answers, from the results of its steps. a, b, m, n, o, i: no stranger, none doubled, none missing, how many
--- functions, their pieces, and their items.
+-- What `made_in` answers, given the results of its steps. The parameters a, b, m, n, o and i say: no stranger, none doubled, none
+-- missing, how many functions there are, their pieces, and their items.
 use Rattle.std.proofs.Common.{◌≡◌, ℕ, ◌<◌, ◌≤◌, ◌^◌, ◌⊎◌, inl, inr, List, [], length, Some, None, Ok, Err, sym, ap, ◌∙◌, subst, arith}
 use Rattle.std.proofs.lemmas.List.{length-map}
 use Rattle.std.specs.Borrow.{Bor}

@@ -1,4 +1,4 @@
--- What is confirmed for a unit that was made again, and is the stored one.
+-- What is confirmed if a unit that was made again is the stored one.
 use Rattle.std.proofs.Common.{◌≡◌, ℕ, List, All, Option, Some, sym, ap, ◌∙◌, subst}
 use Rattle.cc_c_semantics.specs.declared.mode.Mode.{Mode}
 use Rattle.cc_emit.specs.Piece.{Piece, IsPieceOfUnit}

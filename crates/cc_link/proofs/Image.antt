@@ -138,7 +138,7 @@ linked_backed meaning few main pieces is_function bare count fits stack frames a
     (subst (λ g. Follows (called_behavior meaning main initial input) (λ m. shown (seen (run_above stack.floor (encoded (linked_code main pieces)) m (record { state = start_state g input; outcome = Runs }))))) (sym is_globals)
     (agrees meaning few main pieces is_function bare count fits stack frames all enough backed initial sized kept (subst AreWords is_globals words) input input_words))
 
--- ---- the whole machine: the most bytes of a frame for each call that the limit allows
+-- ---- the whole machine: for each call that the limit allows, the largest frame
 
 each_all : (Holds : ℕ → Type 0) → ((g : ℕ) → Holds g) → (items : List PieceItem) → EachCalled Holds items
 each_all Holds all [] = tt

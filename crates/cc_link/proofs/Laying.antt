@@ -1,4 +1,4 @@
--- The objects one after the other from 0x200000 on, their image, and what the machine loads of it at its start: byte i of the
+-- The objects one after the other from 0x200000 on, their image, and what the machine loads from it at its start: byte i of the
 -- packed words is element i.
 use Rattle.std.proofs.Common.{◌≡◌, ℕ, zero, suc, ◌+◌, ◌-◌, ◌*◌, ◌/◌, ◌%◌, ◌^◌, ◌<◌, ◌≤◌, ◌⊎◌, inl, inr, Bool, true, false, List, [], ◌∷◌, ◌++◌, length, map, get_or, refl, sym, ap, ap₂, ◌∙◌, subst, arith}
 use Rattle.std.specs.Prelude.{nat_le, ◌&&◌, ◌==◌, if◌then◌else◌, slice_index}
@@ -29,7 +29,7 @@ globals_image os = concat (map object_image os)
 
 -- ---- bytes in words
 
--- each word is what an element of the width keeps
+-- each word is in the range of an element of the width
 abbrev pub AreKept : Width → List ℕ → Type 0
 AreKept Byte bs = AreBytes bs
 AreKept Word ws = AreWords ws
@@ -170,7 +170,7 @@ object_at gs objects is all g i lt =
 
 -- ---- words
 
--- as many words as the objects take
+-- the image has as many words as the objects take
 pub image_long : (os : List Object) → length (globals_image os) ≡ total (map size_of os)
 image_long [] = refl
 image_long (o ∷ os) =

@@ -1,4 +1,4 @@
--- Pieces of a unit's functions, one of each in their order, are refused for the size of the image alone.
+-- If there is one piece of each of a unit's functions, in their order, only the size of the image can be refused.
 use Rattle.std.proofs.Common.{◌≡◌, ℕ, zero, suc, ◌+◌, ◌<◌, ◌≤◌, ◌⊎◌, inl, inr, ◌==◌, nat_lt, Bool, true, false, ◌||◌, if◌then◌else◌, List, [], ◌∷◌, ◌++◌, length, Some, None, is_some, Err, refl, sym, ap, ◌∙◌, arith, Result, Ok}
 use Rattle.std.proofs.lemmas.Bool.{eq-eqb, eqb-true, cases_lt}
 use Rattle.std.specs.Option.{option_or}
@@ -89,7 +89,7 @@ only_large mode s ps f h count e =
     ∙ ap (λ o. option_or o (option_or (missing ps 0 n) (too_large (bodies s.externals ps)))) b ∙ ap (λ o. option_or o (too_large (bodies s.externals ps))) c in
     only_fault s ps f (nat_lt most_code (code_words (bodies s.externals ps))) (sym (ap (λ o. unless_refused o (unit_of s ps)) is) ∙ e)
 
--- one piece more
+-- one more piece
 pub one_from : (mode : Mode) (text : List ℕ) (from : ℕ) (ps : List Piece) (p : Piece) → AreFromIn mode text from ps → p.mode ≡ mode → (source p.unit).text ≡ text → p.function ≡ from + length ps → AreFromIn mode text from (ps ++ p ∷ [])
 one_from mode text from [] p h m e f = ((m, e), omega arith, tt)
 one_from mode text from (q ∷ ps) p h m e f = (h.0, h.1, one_from mode text (suc from) ps p h.2 m e (omega arith))

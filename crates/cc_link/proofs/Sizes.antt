@@ -81,7 +81,7 @@ few_globals sized unit typed h =
 
 -- ---- what the elements are
 
--- before the run each element of some objects is what its width keeps
+-- before the run each element of these objects is in the range of its width
 abbrev pub AllKept : List Object → Type 0
 AllKept [] = Unit {0}
 AllKept (o ∷ rest) = AreKept (object_width o) (initial_words o) × AllKept rest

@@ -39,7 +39,8 @@ pub record Agreement (text : List ℕ) (image : Image) : Type 0 where
   pub typed : IsTyped tree
   pub follows : (input : List ℕ) → AreWords input → Follows (program_behavior (source_with text tree) input) (image_behavior image input)
 
--- They agree. A typed unit keeps that its text spells its tree, but not in which way (∥ ∥₁); so nothing more is kept here.
+-- The text and the image agree. A typed unit keeps that its text spells its tree, but not in which way (∥ ∥₁), so no more than
+-- that is kept here.
 abbrev pub Agree : List ℕ → Image → Type 0
 Agree text image = ∥ Agreement text image ∥₁
 
@@ -51,7 +52,7 @@ abbrev pub behavior_in : Mode → Source → (input : List ℕ) → ℕ → Outc
 behavior_in mode source input n = without_cause (behavior mode source input n)
 
 -- the tree of the text, and that the image's run follows what its program shows in the mode: in the checked mode that is owed
--- also if the source goes wrong, but not for depth
+-- even if the source goes wrong, unless it goes wrong because of its depth
 pub record AgreementIn (mode : Mode) (text : List ℕ) (image : Image) : Type 0 where
   pub tree : List External
   pub spelled : SpellsText text tree

@@ -8,7 +8,7 @@ use Rattle.cc_ast.specs.Tree.{External}
 use Rattle.cc_linear_language.specs.Pair.{LtlKeepsUp}
 use Rattle.cc_c_semantics.specs.declared.mode.Mode.{Mode}
 
--- how many bytes the LTL of a function takes, and these
+-- how many bytes the LTL of a function takes, and then these bytes
 abbrev pub ltl_field : Ltl → List ℕ
 ltl_field ltl = word_bytes (length (ltl_bytes ltl)) ++ ltl_bytes ltl
 
@@ -20,7 +20,7 @@ certificate_of ltls = word_bytes (length ltls) ++ flat_map ltl_field ltls
 abbrev pub IsToldLtl : Ltl → Type 0
 IsToldLtl ltl = IsLtl ltl × (length (ltl_bytes ltl) < 2 ^ 32)
 
--- the bytes spell the LTL of this many functions, and nothing else is there
+-- the bytes spell the LTL of this many functions, and nothing else
 pub record SpellsAll (bytes : List ℕ) (functions : ℕ) : Type 0 where
   pub ltls : List Ltl
   pub count : length ltls ≡ functions

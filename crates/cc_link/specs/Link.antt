@@ -21,7 +21,7 @@ abbrev pub fill_all : (places : ℕ → ℕ) → (a : ℕ) → List (List PieceI
 fill_all places a [] = []
 fill_all places a (f ∷ fs) = fill places a a f ++ fill_all places (a + 4 * length f) fs
 
--- how many items functions have
+-- how many items the functions have in all
 abbrev pub size_of : List (List PieceItem) → ℕ
 size_of [] = 0
 size_of (f ∷ fs) = length f + size_of fs
@@ -30,7 +30,7 @@ size_of (f ∷ fs) = length f + size_of fs
 abbrev pub exit_service : ℕ
 exit_service = 93
 
--- main is called, and its word is that of the exit
+-- main is called, and the run exits with its word
 abbrev pub head : (main : ℕ) → List PieceItem
 head main = Call main ∷ Plain (OpImm Addi 17 0 exit_service) ∷ Plain Ecall ∷ []
 

@@ -51,7 +51,7 @@ abbrev pub is_among : List ℕ → ℕ → Bool
 is_among [] f = false
 is_among (g ∷ gs) f = (g == f) || is_among gs f
 
--- 27: the first piece of a function that came before it; pieces of the functions `before` came before the first one of the list
+-- 27: the first piece whose function came before; pieces of the functions `before` came before the first one of the list
 abbrev pub doubled : (before : List ℕ) (at : ℕ) → List Piece → Option LinkFault
 doubled before at [] = None
 doubled before at (p ∷ ps) = if is_among before p.function then Some (Doubled p.function at) else doubled (before ++ p.function ∷ []) (suc at) ps
@@ -61,22 +61,22 @@ abbrev pub piece_of : List Piece → (function : ℕ) → Option Piece
 piece_of [] f = None
 piece_of (p ∷ ps) f = if p.function == f then Some p else piece_of ps f
 
--- 26: the least function without a piece, of this many from this one on
+-- 26: the least function without a piece, among the `count` functions from `from` on
 abbrev pub missing : List Piece → (from count : ℕ) → Option LinkFault
 missing pieces from zero = None
 missing pieces from (suc count) = if is_some (piece_of pieces from) then missing pieces (suc from) count else Some (Missing from)
 
--- a piece before others, if there is one
+-- the piece, if there is one, put before the others
 abbrev pub put_first : Option Piece → List Piece → List Piece
 put_first None ps = ps
 put_first (Some p) ps = p ∷ ps
 
--- the first pieces of this many functions from this one on
+-- the first piece of each of the `count` functions from `from` on
 abbrev pub in_order : List Piece → (from count : ℕ) → List Piece
 in_order pieces from zero = []
 in_order pieces from (suc count) = put_first (piece_of pieces from) (in_order pieces (suc from) count)
 
--- those of a unit's functions, in the order of definitions
+-- the first pieces of a unit's functions, in the order of definitions
 abbrev pub ordered : List External → List Piece → List Piece
 ordered unit pieces = in_order pieces 0 (length (functions unit))
 
@@ -101,9 +101,9 @@ link_refusal mode s pieces =
     option_or (stranger mode s.text 0 pieces) (option_or (doubled [] 0 pieces)
     (option_or (missing pieces 0 (length (functions s.externals))) (too_large (bodies s.externals pieces))))
 
--- ---- what they make
+-- ---- what the pieces make
 
--- the image: its code, and the words of the objects one after the other, four bytes in one
+-- the image: its code, and the words of the objects one after the other, with four bytes in each
 abbrev pub image_of : List External → List (List PieceItem) → Image
 image_of unit fs = record { code = encoded (linked_code (main_of unit) fs); globals = image_words (objects unit) }
 

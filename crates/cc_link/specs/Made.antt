@@ -24,6 +24,6 @@ pub record IsMadeIn (mode : Mode) (unit : StoredUnit) : Type 0 where
   pub compiled : All IsCompiled pieces
   pub linked_is : linked_in mode of pieces ≡ Ok unit
 
--- in some mode
+-- pieces in some mode link to this unit
 abbrev pub IsMade : StoredUnit → Type 0
 IsMade unit = (mode : Mode) × IsMadeIn mode unit

@@ -22,7 +22,7 @@ use Rattle.cc_link.specs.Linked.{ordered, bodies, linked_in}
 abbrev pub larger : (a b : ℕ) → ℕ
 larger a b = if nat_le a b then b else a
 
--- the largest value of n at a function that items call; 0 if they call none
+-- the largest value of n for a function that the items call; 0 if they call none
 abbrev pub most_called : (n : ℕ → ℕ) → List PieceItem → ℕ
 most_called n [] = 0
 most_called n (Plain i ∷ items) = most_called n items
@@ -46,14 +46,14 @@ stack_of unit pieces = need (frames unit pieces) (bodies unit pieces) most_open 
 abbrev pub backed_image_behavior : (bytes : ℕ) → Image → (input : List ℕ) → ℕ → Outcome ℕ
 backed_image_behavior bytes image input m = shown (backed_behavior bytes image input m)
 
--- like `AgreementIn`, on such a board
+-- like `AgreementIn`, on a board that backs this many bytes of stack
 pub record BackedAgreement (mode : Mode) (text : List ℕ) (bytes : ℕ) (image : Image) : Type 0 where
   pub tree : List External
   pub spelled : SpellsText text tree
   pub typed : IsTyped tree
   pub follows : (input : List ℕ) → AreWords input → Follows (behavior_in mode (source_with text tree) input) (backed_image_behavior bytes image input)
 
--- it follows its program so on each board that backs at least this many bytes of stack
+-- the image follows its program in this way on each board that backs at least this many bytes of stack
 abbrev pub IsBackedFrom : Mode → (text : List ℕ) (least : ℕ) → Image → Type 0
 IsBackedFrom mode text least image = (bytes : ℕ) → least ≤ bytes → bytes ≤ stack_to - stack_from → ∥ BackedAgreement mode text bytes image ∥₁
 

@@ -1,4 +1,4 @@
-// What holds for linking by its definition alone, and the laws of lower crates that it rests on.
+// What holds for linking just by its definition, and the laws of lower crates that it rests on.
 
 ghost use Rattle.cc_tokens.specs.Tokens.{TokensAreOne};
 ghost use Rattle.cc_ast.specs.Limits.{TreesAreOne};

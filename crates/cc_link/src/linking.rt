@@ -66,7 +66,7 @@ fn image(alloc: Global, unit: &TypedUnit, bodies: &[&[PieceItem]]) -> Result<Ima
     Ok(Image { code, globals })
 }
 
-// What the library keeps of a unit and its functions with these pieces.
+// What the library keeps of a unit whose functions have these pieces.
 fn stored(
     alloc: Global,
     unit: &TypedUnit,
@@ -90,7 +90,7 @@ fn stored(
     Ok(Arc::new(alloc, unit)?)
 }
 
-// The unit that the pieces of a unit in a mode make, lent in any order.
+// The unit that these pieces of a unit's functions in a mode make. They are lent, in any order.
 fn made_in(
     alloc: Global,
     mode: Mode,
@@ -201,7 +201,7 @@ pub fn link_pieces_in(
     link_all_in(alloc, mode, unit, pieces.as_slice())
 }
 
-/// Links the pieces of a unit in a mode that lie one after the other. It answers what `link_in` does.
+/// Links the pieces of a unit in a mode, which lie one after the other. It answers what `link_in` does.
 pub(crate) fn link_all_in(
     alloc: Global,
     mode: Mode,

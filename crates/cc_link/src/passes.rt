@@ -34,7 +34,7 @@ pub(crate) struct Colourable {
 }
 
 impl Colourable {
-    // The RTL alone.
+    // The RTL without the live sets.
     fn into_rtl(self) -> RtlPair
         ensures { result ≡ self.rtl }
     {
@@ -69,7 +69,7 @@ fn lowered<W: Watch>(
     }
 }
 
-// Shows what is new of Cminor in a mode.
+// Shows the Cminor with guards of a checked function. A plain one has none.
 fn show_guarded<W: Watch>(mode: Mode, pair: &CminorPair, watch: &mut W) -> Result<(), AllocError> {
     match mode {
         Mode::Plain => Ok(()),
@@ -138,7 +138,7 @@ pub(crate) fn prepared<W: Watch>(
     }
 }
 
-// The fault of LTL that was refused, after it was shown.
+// Shows that LTL was refused, and returns the fault.
 fn told<W: Watch>(fault: ValidateFault, watch: &mut W) -> ValidateFault {
     match fault {
         ValidateFault::Unvalidated { label } => match watch.see(Seen::Refused(label)) {
@@ -177,7 +177,7 @@ fn judged<W: Watch>(
     }
 }
 
-// LTL that one allocator alone makes.
+// LTL that is made by this allocator or by none.
 fn accepted<W: Watch>(
     alloc: Global,
     pair: RtlPair,
@@ -207,12 +207,12 @@ fn spilled<W: Watch>(alloc: Global, pair: RtlPair, watch: &mut W) -> Result<LtlP
     }
 }
 
-// LTL by registers, with these live sets.
+// LTL with values in registers, given these live sets.
 fn coloured(alloc: Global, rtl: &Rtl, live: Liveness) -> Result<Ltl, AllocError> {
     colour(alloc, rtl, &live)
 }
 
-// LTL by registers, and with a slot for each value only if the validator refuses that.
+// LTL with values in registers, or with a slot for each value if the validator refuses that.
 fn chosen<W: Watch>(
     alloc: Global,
     colourable: Colourable,

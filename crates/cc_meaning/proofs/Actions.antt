@@ -41,7 +41,7 @@ option_same : (o : Option ℕ) (z : Move) (f g : ℕ → Move) → ((w : ℕ) �
 option_same None z f g h = refl
 option_same (Some w) z f g h = h w
 
--- the operation's move, by the operator's value
+-- the move of an operation, depending on the operator's value
 operated_is : (op : BinaryOperator) (t : Scalar) (a b : ℕ) (o : Option ℕ) (go : ℕ → Move) → IsPlain op → binary_word op t a b ≡ o
     → operated (operation op t) a b go ≡ elim o [ None ↦ Stops (outcome.Wrong (cause_of op)) | Some w ↦ go w ]
 operated_is op t a b o go plain e =

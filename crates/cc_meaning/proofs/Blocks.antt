@@ -13,7 +13,7 @@ use Rattle.cc_meaning.proofs.Fits.{Fits}
 
 -- ---- environments
 
--- the same with further locals before the others
+-- an environment with further locals before its own
 abbrev pub over : List (List ℕ) → Environment → Environment
 over extra v = record v { locals = extra ++ v.locals }
 

@@ -110,7 +110,7 @@ written_onto-append x (s ∷ xs) ys w c =
     ap (λ v. written_onto x (xs ++ ys) w (statement_code v (exits_of (length c) x) (statement_tree s) ++ c)) (behind_reversed-append xs ys w)
     ∙ written_onto-append x xs ys w (statement_code (behind_reversed xs (behind_reversed ys w)) (exits_of (length c) x) (statement_tree s) ++ c)
 
--- a target's distance from the next instruction, by its distance from those that are written
+-- a target's distance from the next instruction, given its distance from those that are written
 further-minus : (n m k : ℕ) → k ≤ m → (n + m) - k ≡ n + (m - k)
 further-minus n m k h = omega arith
 

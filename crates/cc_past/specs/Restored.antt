@@ -16,7 +16,7 @@ use Rattle.cc_tasks.specs.declared.part.PartFault.{PartFault}
 use Rattle.cc_tasks.specs.declared.part.PartFault.TheVariants.{BadName, Absent, Library, OutOfMemory}
 use Rattle.cc_past.specs.Past.{IsNotStoredOn, IsStored, IsStoredOn}
 
--- the command that puts a unit under a name: a Replace if the map has one there, else an Add
+-- the command that puts a unit under a name: a Replace if the map has a unit there, else an Add
 abbrev pub putting : Units → (name : List ℕ) → StoredUnit → LibraryCommand
 putting units name unit = if contains_key units name then Replace name unit else Add name unit
 
@@ -52,7 +52,7 @@ IsNotPut honest seen before after no_room Exists = ⊥
 IsNotPut honest seen before after no_room NoUnit = ⊥
 IsNotPut honest seen before after no_room Closed = ⊥
 
--- why nothing is put back: the command stored nothing with the name, or what it stored could not be put into the library
+-- why nothing is put back: the command stored nothing under the name, or what it stored could not be put into the library
 abbrev pub IsNotRestored : (honest : Bool) (seen : List ℕ) (before after : ℕ) (name : List ℕ) (number : ℕ) → PartFault → Type 0
 IsNotRestored honest seen before after name number (Library f) =
     IsNotPut honest seen before after ((unit : StoredUnit) × IsStoredOn seen name number unit × HasNoRoom seen name unit) f

@@ -68,7 +68,7 @@ abbrev pub honest_kind : {Disk : Type 0} → Ghosts Disk → Ghosts Disk
 honest_kind D = record D { honest = true }
 
 module _ {Disk P : Type 0} (D : Ghosts Disk) where
-  -- on an honest disk it is a beginning of the core, if the units that were found are right
+  -- on an honest disk the state that the book shows is a beginning of the core, if the units that were found are right
   pub begins : (book : BookView Disk) → book.history ≡ [] → book.failed ≡ [] → book.library.closed ≡ false → book.base ≡ book.library.units → StandFor book.library.bodies book.library.units
       → HoldsRecords (D.seen book.library.disk) book.library.area book.library.bodies → LeavesAlone (D.seen book.library.disk) (D.may_leave book.library.disk)
       → (s : Contents P) × Shows (honest_kind D) book s × IsOpened s

@@ -1,4 +1,4 @@
--- How it is kept that the changes that failed did so with the device: only a device call that fails adds one.
+-- How it is kept that changes failed only because the device did: only a device call that fails adds one.
 use Rattle.std.proofs.Common.{◌≡◌, ◌+◌, ◌≤◌, ℕ, List, [], ◌∷◌, length, Result, Ok, Err, refl, sym, ap, subst, arith}
 use Rattle.cc_disk.specs.declared.disk.Disk.{Ghosts}
 use Rattle.cc_library.specs.Change.{LibraryCommand}

@@ -1,4 +1,5 @@
--- What each exit of a commit owes, in terms of what contracts see of a book: that its type keeps what it keeps, and the answer.
+-- What each exit of a commit owes, in terms of what contracts see of a book: that what its type keeps still holds, and the
+-- answer.
 use Rattle.std.proofs.Common.{◌≡◌, ℕ, zero, suc, ◌+◌, inl, inr, Bool, true, false, IsTrue, List, [], ◌∷◌, ◌++◌, length, Result, Ok, Err, refl, sym, ap, ◌∙◌, subst, arith, length-append}
 use Rattle.std.specs.Prelude.{◌==◌, IsOk, if◌then◌else◌}
 use Rattle.cc_disk.specs.declared.disk.Disk.{Ghosts}
@@ -44,7 +45,7 @@ module _ {Disk : Type 0} where
       ap (λ (u : Units). record { base = before.base; units = u; history = before.history ++ receipt.entry ∷ [] }) (sym units) in
       subst (λ (c : Chronicle). IsRecorded (chronicle_of before) old asked answer c (member_of old receipt) receipt × Replays c × IsOwn (member_of old receipt)) next made
 
-  -- the book's type keeps what it keeps
+  -- what the book's type keeps still holds
   pub keeps_entered : (D : Ghosts Disk) (named : Units) (total total' : ℕ) (before : BookView Disk) (library : View Disk) (receipt : Receipt)
       → IsRecordedLibrary D named total before → Replays (chronicle_of (entered before library receipt)) → HasAgreedUnit receipt.entry.asked → total' ≡ total + 1
       → library.closed ≡ before.library.closed → (IsTrue D.honest → (image : List ℕ) → D.may_leave library.disk image → RecoversTo library.units before.failed image)
@@ -60,7 +61,7 @@ module _ {Disk : Type 0} where
     images = images;
   }
 
--- the client's type keeps what it keeps
+-- what the client's type keeps still holds
 pub keeps_member : (old : MemberView) (receipt : Receipt) (parts amount parts' amount' : ℕ) → IsMember old parts amount → parts' ≡ parts → amount' ≡ amount + 1 → IsOwn (member_of old receipt) → IsMember (member_of old receipt) parts' amount'
 keeps_member old receipt parts amount parts' amount' client part counted own = record {
   part = part ∙ client.part;
@@ -99,8 +100,8 @@ done_is_ok (Err number) is = absurd (not_done (number == 31) is)
 
 -- ---- an exit with an entry
 
--- The book and the client after a call whose entry was put in, over this library: their types keep what they keep, and the call is
--- recorded.
+-- The book and the client after a call whose entry was put in, over this library: what their types keep still holds, and the
+-- call is recorded.
 pub entering : RecordsKeep → {Disk : Type 0} (D : Ghosts Disk) (named : Units) (total total' : ℕ) (before : BookView Disk) (new_library : View Disk) (old : MemberView) (parts amount parts' amount' : ℕ)
     (asked : Asked) (answer : Reply) (history : List Entry) (receipts : List Receipt) (receipt : Receipt)
     → IsRecordedLibrary D named total before → IsMember old parts amount → LastStands before.history old.receipts → answer ≡ reply_of before.library.units asked → HasAgreedUnit asked
@@ -121,7 +122,7 @@ entering keep D named total total' before new_library old parts amount parts' am
           (subst (λ (r : List Receipt). IsRecorded (chronicle_of before) old asked answer (chronicle_of (entered before new_library receipt)) (record old { receipts = r }) receipt) (sym receipts_is) made.0),
     )
 
--- what a receipt has, by its parts
+-- the parts of a receipt
 pub receipt_is : (receipt : Receipt) (number : ℕ) (entry : Entry) → receipt ≡ record { number = number; entry = entry } → (receipt.number ≡ number) × (receipt.entry ≡ entry)
 receipt_is receipt number entry is = (ap (λ (r : Receipt). r.number) is, ap (λ (r : Receipt). r.entry) is)
 
@@ -131,7 +132,7 @@ only_agreed : (c : made.LibraryCommand) → HasAgreed c → AllAgreed (c ∷ [])
 only_agreed c agrees zero d at = let same : c ≡ d = cc in subst HasAgreed same agrees
 only_agreed c agrees (suc k) d at = absurd (cc)
 
--- the type keeps what it keeps
+-- what the book's type keeps still holds
 pub keeps_failed : {Disk : Type 0} (D : Ghosts Disk) (named : Units) (total : ℕ) (before : BookView Disk) (new_library : View Disk) (history : List Entry) (failed : List made.LibraryCommand) (command : Command) (change : made.LibraryCommand)
     → IsRecordedLibrary D named total before → HasAgreed command → history ≡ before.history → failed ≡ before.failed ++ change ∷ [] → before.library.closed ≡ false
     → new_library ≡ record before.library { disk = new_library.disk; closed = true } → change ≡ command
@@ -170,7 +171,7 @@ no_call_between D book next only_now images idle h usable = record {
 
 -- ---- a look-up
 
--- it hands in no unit and changes nothing
+-- a look-up hands in no unit and changes nothing
 pub look_agrees : (asked : Asked) → IsLook asked → HasAgreedUnit asked
 look_agrees (Change command) look = absurd look
 look_agrees (Fetch name) look = tt

@@ -164,7 +164,7 @@ length-written cells offset bytes fits =
     omega (arith, length-append (take offset cells) (map unsettled bytes ++ drop (offset + length bytes) cells), length-append (map unsettled bytes) (drop (offset + length bytes) cells), length-map bytes unsettled, length-take-le offset cells (omega arith), length-drop (offset + length bytes) cells)
 
 module _ {Disk : Type 0} (D : Ghosts Disk) where
-  -- the commit of a change is that of the store
+  -- the commit of a change is the same as the store's
   same_commit : (view : View Disk) (store : StoreState) (c : LibraryCommand) → store.area ≡ view.area → store.used ≡ length (records view.bodies) → commit_of store.area_byte view c ≡ append_of store c
   same_commit view store c area used = λ i. append_commit (area_begin store.area_byte (sym area i) + sym used i) (body_of c)
 
@@ -440,7 +440,7 @@ module _ {Disk P : Type 0} (rules : Rules P) (D : Ghosts Disk) where
   accepted_here : (book : BookView Disk) (s : Contents P) (c : LibraryCommand) → Shown book s → IsOk (apply book.library.units c) → job.map_refusal s.core.library c ≡ None
   accepted_here book s c shows ok = ap (λ (u : Units). job.map_refusal u c) shows.library ∙ map_refuses book.library.units c ∙ ok_is_done (apply book.library.units c) ok
 
-  -- a refused call changes nothing but the history, and none of the history's changes
+  -- a refused call changes only the history, and adds no change to it
   refused_shown : (before after : BookView Disk) (s : Contents P) (client : ClientId) → Shown before s → after.library ≡ before.library → after.failed ≡ before.failed → after.base ≡ before.base → changes after.history ≡ changes before.history
       → Shown after (refused_state s client)
   refused_shown before after s client shows library failed base same = record {
@@ -486,7 +486,7 @@ module _ {Disk P : Type 0} (rules : Rules P) (D : Ghosts Disk) where
         disk = here;
       }
 
-  -- a refused call does not change the changes of the history
+  -- after a refused call the changes of the history are the same
   refused_changes : (before after_it : BookView Disk) (old new : MemberView) (command : Command) (answer : history.Reply) (receipt : Receipt) → done_by command answer ≡ [] → IsRefused before old command answer after_it new receipt → changes after_it.history ≡ changes before.history
   refused_changes before after_it old new command answer receipt nothing refused =
       ap changes refused.recorded.history ∙ changes-push before.history receipt.entry

@@ -3,8 +3,6 @@
 -- over those relations (Tying, Sinces). A commit is the core's steps, by cases of its answer (Cores, Rewriting); the only work is that the
 -- bytes and images of the library's disk are those of the core's store (Disks).
 --
--- what the map's refusal says, and which faults come after it
-pub mod Refusals
 -- what each exit of a commit owes
 pub mod Committing
 -- a store of the core still shows the library's disk after the steps of a commit

@@ -33,7 +33,7 @@ module _ {Disk : Type 0} (D : Ghosts Disk) where
 
   -- ---- after a compaction
 
-  -- the record fits there
+  -- the record fits after the compaction
   fits_behind : (before between : BookView Disk) (change : LibraryCommand) → IsMended before.library change → CompactAnswers {T = Unit {0}} D.failures before between (Ok tt) → room_with between.library change ≤ between.library.area
   fits_behind before between change mended (_, _, _, is) = subst (λ (b : BookView Disk). room_with b.library change ≤ b.library.area) (sym is) mended.2
 

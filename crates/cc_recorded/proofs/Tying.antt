@@ -298,7 +298,7 @@ module _ {Disk P : Type 0} (rules : Rules P) (keeps : P → Type 0) (law : TurnL
   base_same before after_it old new command (Err DiskFault) (_, _, _, same, _) = ap (λ (b : BookView Disk). b.base) same
   base_same before after_it old new command (Err OutOfMemory) (_, same, _) = ap (λ (b : BookView Disk). b.base) same
 
-  -- what the commit is for the core, it is for the tie
+  -- if the commit is a commit of the core, the tie goes on
   commit_on : (before after_it : BookView Disk) (old new : MemberView) (command : Command) (result : Result Receipt BookFault) (tied : TiedSo before)
       → CommitAnswers D.failures before old command after_it new result → (length (body_of command) < 2 ^ 32 → IsCommand command) → (ready_for : IsReadyFor before tied command) → after_it.base ≡ before.base
       → IsCommitOf rules (ShownBy after_it) ready_for.new (next before tied) result → TiedSo after_it

@@ -110,8 +110,8 @@ module _ {D : Type 0} where
   LookAnswers before old asked after new (Err Closed) = ⊥
   LookAnswers before old asked after new (Err DiskFault) = ⊥
 
-  -- the answer to a compaction, and what it leaves: history and map stay. 36 exactly if the device has failed before, then 34 exactly if
-  -- the new records do not fit, then 35 exactly if the device failed in the call
+  -- the answer to a compaction, and what it leaves: the history and the map stay as they are. 36 exactly if the device has failed
+  -- before, then 34 exactly if the new records do not fit, then 35 exactly if the device failed in the call
   abbrev pub CompactAnswers : {T : Type 0} → (failures : D → ℕ) (before after : BookView D) → Result T BookFault → Type 0
   CompactAnswers failures before after (Ok done) =
       (before.library.closed ≡ false) × (room_of (compacted before.library.units) ≤ before.library.area) × (failures after.library.disk ≡ failures before.library.disk)
@@ -127,7 +127,7 @@ module _ {D : Type 0} where
   CompactAnswers failures before after (Err (Absent receipt)) = ⊥
   CompactAnswers failures before after (Err (Estranged number found)) = ⊥
 
-  -- the answer to how much of its area the library takes: 36 exactly if the device has failed before
+  -- what `space` answers: how much of its area the library takes; 36 exactly if the device has failed before
   abbrev pub SpaceAnswers : BookView D → Result SpaceUse BookFault → Type 0
   SpaceAnswers book (Ok space) = (book.library.closed ≡ false) × IsSpace book.library.area book.library.bodies book.library.units space
   SpaceAnswers book (Err fault) = (fault ≡ Closed) × (book.library.closed ≡ true)

@@ -13,7 +13,7 @@ use Rattle.cc_recorded.specs.Disk.{ChangesDisk, CompactsDisk}
 use Rattle.cc_recorded.specs.declared.fault.BookFault.{BookFault}
 
 module _ {Disk : Type 0} (D : Ghosts Disk) where
-  -- every image recovers to the book's map; after a change that failed, to the map with or without it
+  -- every image recovers to the book's map; after a change that failed, to the map with or without that change
   abbrev pub AllRecover : BookView Disk → Type 0
   AllRecover book = IsTrue D.honest → (image : List ℕ) → D.may_leave book.library.disk image → RecoversTo book.library.units book.failed image
 
@@ -28,7 +28,7 @@ module _ {Disk : Type 0} (D : Ghosts Disk) where
     -- what becomes of the disk's bytes
     pub disk : IsTrue D.honest → ChangesDisk D command before.library after.library result
     pub moments : ChangesAtOnce command before after
-    -- after Ok it is the map after the command, and no other
+    -- after Ok every image recovers to the map after the command, and to no other
     pub kept : AllRecover after
 
   -- a compaction
@@ -36,7 +36,7 @@ module _ {Disk : Type 0} (D : Ghosts Disk) where
     pub answers : CompactAnswers D.failures before after result
     -- what becomes of the disk's bytes
     pub disk : IsTrue D.honest → CompactsDisk D before.library after.library result
-    -- a crash at any moment leaves the map
+    -- a crash at any moment leaves the map, and no other
     pub moments : IsTrue D.honest → before.library.closed ≡ false
         → LeavesOnly D.moment D.left_since before.library.disk after.library.disk (λ image. RecoversAlone image before.library.units)
     pub kept : AllRecover after

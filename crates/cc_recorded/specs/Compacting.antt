@@ -1,5 +1,5 @@
--- What a commit answers that compacts if this makes room, and what it leaves: 34 is its answer only if the record does not fit after the
--- compacted records either, or if the compaction was refused.
+-- What a commit that compacts if this makes room answers, and what it leaves: 34 is its answer only if the record does not fit
+-- after the compacted records either, or if the compaction was refused.
 use Rattle.std.specs.Prelude.{◌≡◌, ◌≢◌, ◌⊎◌, ◌<◌, IsTrue, Result, Ok, Err}
 use Rattle.cc_disk.specs.declared.disk.Disk.{Ghosts}
 use Rattle.cc_library.specs.Answers.{IsMended}

@@ -26,7 +26,7 @@ ChangesDisk D change old new (Err Closed) = Unit {0}
 ChangesDisk D change old new (Err (Estranged number found)) = Unit {0}
 ChangesDisk D change old new (Err OutOfMemory) = Unit {0}
 
--- what a compaction does to the disk's bytes, by its answer
+-- what a compaction does to the disk's bytes, depending on its answer
 abbrev pub CompactsDisk : {Disk T : Type 0} (D : Ghosts Disk) → (old new : View Disk) → Result T BookFault → Type 0
 CompactsDisk D old new (Ok done) =
     HoldsRecords (D.seen new.disk) new.area new.bodies

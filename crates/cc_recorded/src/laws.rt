@@ -47,7 +47,7 @@ pub fn jobs_are_beside<D: Disk, B: Build>()
         → IsBeside event → Step B.rules old event reply new → Shows D.Disk book old → Shows D.Disk book new }
 {}
 
-/// The same for a compaction: it is the four device steps of a rewrite, or those up to the failure.
+/// Whatever state of the core a book shows: a compaction is the four device steps of a rewrite, or those up to the failure.
 pub fn compactions_are_rewrites<D: Disk, B: Build>()
     ensures { (before after : BookView D) (result : Result (Unit {0}) BookFault) (s : Contents B.Piece)
         → CompactAnswers D.failures before after result

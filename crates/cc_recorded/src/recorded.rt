@@ -98,7 +98,7 @@ impl<N: Based, D: Disk> RecordedLibrary<N, D> {
         library.into_disk()
     }
 
-    /// States what its type keeps, for proofs; it does nothing.
+    /// Gives proofs what the type keeps; at run time it does nothing.
     pub(crate) fn kept(&self)
         ensures base { IsTrue D.honest → self.now.base ≡ N.base }
         ensures replays { Replays (chronicle_of self.now) }
@@ -274,11 +274,12 @@ impl<N: Based, D: Disk> RecordedLibrary<N, D> {
         Ok(())
     }
 
-    /// Ends it, with a share that is the whole ledger: this share counts as many calls as the history has.
+    /// Ends the library with its history, with a share that is the whole ledger: this share counts as many calls as the history
+    /// has.
     pub(crate) fn end(self, mut whole: Share<N>) -> Ended<D>
         requires parts { whole.parts ≡ N.parts }
         ensures counted { length result.history.items ≡ whole.amount }
-        // It is the book's library, with what was known about it.
+        // The answer is the book's library, with what was known about the book.
         ensures of_book { ◌≡◌ {A = BookView D} (record { base = result.base; library = result.library; history = result.history.items; failed = result.failed.items }) self }
     {
         let RecordedLibrary {

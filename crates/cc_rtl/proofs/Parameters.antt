@@ -68,7 +68,7 @@ same_parameters unit f s body is e =
     slice_get-map (λ (g : Function). length g.parameters) (functions unit) f ∙ ap (option_map (λ (g : Function). length g.parameters)) is.function
     ∙ ap Some (map_length (λ (p : Parameter). text_of p.name) is.signature.parameters ∙ ap (λ (k : Signature). length k.parameters) w)
 
--- ---- of the definition that the code takes
+-- ---- the parameters of the definition that the code takes
 
 module _ (law : FunctionsAreResolved) (p u : parsed.Unit) (f k : ℕ) (unit_is : u ≡ p) (function_is : k ≡ f) (typed : IsTyped (source u).externals) (below : f < length (functions (source p).externals)) where
   resolved : IsResolved (source p).externals f

@@ -30,7 +30,7 @@ fn parameters_of(pair: &CminorPair) -> u32
 }
 
 /// Translates a function to RTL. The value of an expression is put directly into the variable that is set, and a condition's
-/// comparison comes directly before its branch; labels ascend along the code.
+/// comparison comes directly before its branch; labels ascend in the code's order.
 ///
 /// Fails with `FunctionTooLarge` (22) exactly if the function would have more than 4,096 nodes, which takes more than 3,072
 /// statements and expressions; and with `OutOfMemory` (40) if memory runs out. An error drops the pair.

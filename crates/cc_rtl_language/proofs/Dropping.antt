@@ -59,7 +59,7 @@ module _ (live : Sets) where
     some_other : (to x : ℕ) → to ≢ x → Some to ≢ Some x
     some_other to x d e = d (let z : Some to ≡ Some x = e in cc)
 
-    -- a node with a result, which may have no value
+    -- a node with a result, which can lack a value
     tried_both : (o o' : Option ℕ) (to next : ℕ) → o' ≡ o → ((x : ℕ) → IsTrue (live next x) → to ≢ x → r' x ≡ r x)
         → Matches (tried o (λ word. Goes (at next (put to word r) h))) (tried o' (λ word. Goes (at next (put to word r') h)))
     tried_both o o' to next same others = subst (λ p. Matches (tried o (λ word. Goes (at next (put to word r) h))) (tried p (λ word. Goes (at next (put to word r') h)))) (sym same) (go o)

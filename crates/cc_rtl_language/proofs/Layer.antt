@@ -1,5 +1,5 @@
--- RTL is a layer: outputs grow, and a call passes on the output so far and continues from the answer's. So a run that keeps up
--- follows.
+-- RTL is a layer: outputs grow, and a call passes on the output so far and continues from the output of its answer. So a run that
+-- keeps up follows.
 use Rattle.std.proofs.Common.{◌≡◌, ℕ, List, [], ◌∷◌, Option, Some, None, option_map, refl, subst}
 use Rattle.cc_words.specs.Operators.{apply_binary}
 use Rattle.cc_simulation.specs.Behavior.{IsPrefixOf}

@@ -65,7 +65,7 @@ impl RtlPair {
         }
     }
 
-    /// What the code owes if the function goes wrong.
+    /// The mode, which says what the code owes if the function goes wrong.
     pub fn mode(&self) -> Mode
         ensures answer { result ≡ self.now.mode }
     {
@@ -112,7 +112,7 @@ impl RtlPair {
         self.code.make_nops(labels);
     }
 
-    /// Turns the node with one label into a nop, under the same condition.
+    /// Turns the node with one label into a nop, under the condition of `make_nops`.
     pub fn make_nop(&mut self, label: u32)
         requires there { IsSome (node_at self.old.rtl.nodes label) }
         requires dead { MayGo (label ∷ []) self.old.rtl }

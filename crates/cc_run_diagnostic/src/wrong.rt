@@ -83,7 +83,7 @@ fn of_depth<'a>(
     format!(in alloc; "this call of {name} would be the {past}th open call, in {function}")
 }
 
-// The message of what goes wrong in a function.
+// The message for what goes wrong in a function.
 fn message_of<'a>(
     alloc: Global,
     wrong: Wrong<'a>,
@@ -119,14 +119,14 @@ struct Run<'a> {
     cause: Cause,
 }
 
-/// The report about a run that went wrong: what did, and the calls that were open, the innermost first.
+/// The report about a run that went wrong: what went wrong, and the calls that were open, the innermost first.
 #[derive(Drop)]
 pub struct WrongRun {
     pub first: Diagnostic,
     pub calls: Vec<Diagnostic>,
 }
 
-// The report about a replay that calls a function that no other calls, if it goes wrong for a cause.
+// Runs `main` in a replay. The result is the report, if the run goes wrong for this cause.
 fn of_replay(
     alloc: Global,
     replay: Replay<'_>,
@@ -144,7 +144,7 @@ fn of_replay(
     }
 }
 
-// The report about a run of a unit that becomes this code.
+// The report about a run of a unit whose code is `traced`.
 fn of_code(
     alloc: Global,
     unit: &Unit,
@@ -199,7 +199,7 @@ pub fn of_wrong(
     }
 }
 
-/// The same, with the calls that were open.
+/// The same report, together with the calls that were open.
 pub fn of_wrong_run(
     alloc: Global,
     text: &[u8],

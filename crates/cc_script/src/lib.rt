@@ -14,4 +14,4 @@ mod script;
 pub use command::{Dialect, MOST_STEPS, ScriptCommand, command_of};
 pub use commands::{COMMANDS, PLAIN_COMMANDS};
 pub use fault::ScriptFault;
-pub use script::{LINE_BYTES, MOST_BYTES, NextLine, Script};
+pub use script::{LINE_BYTES, NextLine, SCRIPT_BYTES, Script};

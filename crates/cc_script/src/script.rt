@@ -13,7 +13,7 @@ use std::io::Read;
 use std::marker::Model;
 
 /// The most bytes that a script may have.
-pub const MOST_BYTES: usize = 16_777_216;
+pub const SCRIPT_BYTES: usize = 16_777_216;
 
 /// The most bytes that a line may have, without its newline.
 pub const LINE_BYTES: usize = 128;
@@ -68,7 +68,7 @@ impl Script {
             piece: [0; PIECE_BYTES],
             next: 0,
             end: 0,
-            left: MOST_BYTES,
+            left: SCRIPT_BYTES,
             is_over: false,
         }
     }

@@ -41,6 +41,6 @@ few_in (Objects t os ∷ rest) scope g none = few_in rest (file_scope_behind (Ob
 pub few_parameters : (unit : List External) → IsWithinLimits unit → (g : ℕ) → arity_in unit g ≤ 8
 few_parameters unit limits g = few_in unit first_file_scope g (prefix_none (externals_excesses unit) _ limits)
 
--- in its meaning
+-- a function has at most eight parameters in the unit's meaning
 pub few_of_meaning : {mode : Mode} (unit : List External) (meaning : Meaning) → IsWithinLimits unit → IsMeaning mode unit meaning → (g : ℕ) → meaning.arity g ≤ 8
 few_of_meaning unit meaning limits is g = subst (λ (arity : ℕ → ℕ). arity g ≤ 8) (sym is.arity) (few_parameters unit limits g)

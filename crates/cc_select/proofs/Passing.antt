@@ -155,7 +155,7 @@ abbrev put_branch : Option Step → Step → (done : List Step) → List Step
 put_branch None s done = s ∷ done
 put_branch (Some b) s done = b ∷ behind done
 
--- whether it is the last reader, as `branch_of` asks
+-- whether the test is the last reader, as `branch_of` asks
 abbrev if_last : Table → (Test → Option Step) → Option Test → (steps : List Step) → Option Step
 if_last t f None steps = None
 if_last t f (Some v) steps = if is_last t v steps then f v else None
@@ -208,7 +208,7 @@ test_alone t _ steps v e = absurd (cc)
 fused_step : (t : Table) (s : Step) (steps : List Step) → fused t (s ∷ steps) ≡ put_branch (branch_of t s (test_of steps) steps) s (fused t steps)
 fused_step t s steps = joined_by t s (truth_of s) (branch_on s) (test_of steps) steps (fused t steps) (branches s) ∙ ap (λ x. put_branch x s (fused t steps)) (same_branch t s (test_of steps) steps)
 
--- what a list becomes, by its first branch
+-- what a list becomes, given its first branch
 fused_none : (t : Table) (s : Step) (steps : List Step) → None ≡ first_branch t (s ∷ steps) → fused t (s ∷ steps) ≡ s ∷ fused t steps
 fused_none t s [] e = fused_step t s []
 fused_none t s (next ∷ steps) e =

@@ -10,7 +10,7 @@ use Rattle.cc_select.specs.declared.step.WordOperator.TheVariants.{Add, Sub, Shl
 
 -- ---- what each does
 
--- the operator of Linear that it is
+-- the operator of Linear that an operator on a register and a word computes
 abbrev pub operator_of : WordOperator → binary.Binary
 operator_of Add = operators.Add
 operator_of Sub = operators.Sub
@@ -44,7 +44,7 @@ abbrev pub applied : (exchanged : Bool) → binary.Binary → (register word : �
 applied true o a w = apply_binary o w a
 applied false o a w = apply_binary o a w
 
--- its value for a register's word and a word
+-- the operator's value for a register's word and a word
 abbrev pub apply_immediate : WordOperator → (register word : ℕ) → Option ℕ
 apply_immediate o a w = applied (is_exchanged o) (operator_of o) a w
 

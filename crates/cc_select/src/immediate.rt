@@ -69,7 +69,7 @@ pub(crate) fn immediate_of(operator: Binary, word: u32) -> Option<(WordOperator,
     }
 }
 
-/// Does the same for a word on the operator's left.
+/// An operator with a word on its left, as an operator on a register and a word.
 pub(crate) fn immediate_of_left(operator: Binary, word: u32) -> Option<(WordOperator, u32)>
     ensures { result ≡ immediate_of_left operator word }
 {

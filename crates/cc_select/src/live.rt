@@ -1,4 +1,4 @@
-// Which registers are live before a step, from those after it and a table of the labels.
+// Which registers are live before a step, given those after it and a table of the labels.
 
 ghost use Rattle.std.specs.Prelude.{◌≡◌, IfOk, ◌==◌, if◌then◌else◌, ℕ};
 ghost use Rattle.cc_select.specs.Live.{live_move, live_item, live_before};
@@ -11,7 +11,7 @@ use cc_linear_language::LinearItem;
 use cc_ltl::Move;
 use std::alloc::{AllocError, Global};
 
-/// The registers that are live at each label, by its number; `rest` has those of every label past the rows.
+/// For each label, by its number, the registers that are live there; `rest` has those of every label past the rows.
 #[derive(Drop)]
 pub(crate) struct LiveTable {
     rows: Vec<Registers>,

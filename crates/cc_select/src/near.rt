@@ -151,7 +151,7 @@ fn near_store(sum: &Option<Sum>, width: Width, object: u32, value: Register, oth
     }
 }
 
-// The step for an item of Linear, from the sum that is known before it.
+// The step for an item of Linear, given the sum that is known before it.
 fn near_item(known: &Option<Sum>, item: LinearItem) -> Step
     ensures { result ≡ near known.now (One item) }
 {
@@ -172,7 +172,7 @@ fn near_item(known: &Option<Sum>, item: LinearItem) -> Step
     }
 }
 
-// A step, from the sum that is known before it.
+// The step to use for this one, given the sum that is known before it.
 fn near(known: &Option<Sum>, step: Step) -> Step
     ensures { result ≡ near known.now step }
 {

@@ -64,7 +64,7 @@ pub enum Step {
         index: Register,
         word: u32,
     },
-    /// A store into that element.
+    /// A store into the element whose number is a register's word plus a word.
     StoreNear {
         width: Width,
         object: u32,
@@ -80,7 +80,7 @@ pub enum Step {
         right: Register,
         to: u32,
     },
-    /// The same for a register and a word.
+    /// Like `Branch`, for a register and a word.
     BranchImmediate {
         operator: WordOperator,
         nonzero: bool,

@@ -16,7 +16,7 @@ use crate::step::Step;
 use cc_linear_language::LinearItem;
 use std::alloc::{AllocError, Global};
 
-/// The test that goes before each label, by its number.
+/// For each label, by its number, the test that goes before it.
 #[derive(Drop)]
 struct Tests {
     rows: Vec<Option<LinearItem>>,

@@ -139,7 +139,7 @@ not_prepared mode text BadName none = none
 not_prepared mode text (Book f) none = none
 not_prepared mode text (Changed receipt) none = none
 
--- for a text that was not compiled
+-- what is answered for a text that was not compiled
 pub not_put : (mode : Mode) (Asks : Command → Type 0) (name source : List ℕ) (old new : MemberView) → IsTrue (is_name name) → new ≡ old → (fault : ServiceFault) → IsCompileRefusal mode source fault → PutAnswers mode Asks name source old new (Err fault)
 not_put mode Asks name source old new named same (Text f) e = (named, e, same)
 not_put mode Asks name source old new named same (Piece function f) e = (named, e, same)

@@ -8,10 +8,16 @@ use Rattle.cc_script.specs.Reading.{Ahead, Between, IsLine, IsNotRead, IsNoSourc
 use Rattle.cc_script.specs.declared.fault.ScriptFault.{ScriptFault}
 use Rattle.cc_script.specs.declared.fault.ScriptFault.TheVariants.{BadLine, EndOfScript, ScriptTooLong, ReadFault, WriteFault, Stopped}
 use Rattle.cc_c_semantics.specs.declared.mode.Mode.{Mode}
+use Rattle.cc_history.specs.declared.entry.Receipt.{Receipt}
+use Rattle.cc_history.specs.History.{MemberView}
+use Rattle.cc_service.specs.Serving.{PutAnswers, Puts}
 use Rattle.cc_service.specs.Updating.{UpdateAnswers}
+use Rattle.cc_service.specs.declared.fault.ServiceFault.{ServiceFault}
+use Rattle.cc_service.specs.declared.fault.ServiceFault.TheVariants.{OutOfMemory, WorkersGone}
+use Rattle.cc_service.specs.declared.service.Put.{Put}
 use Rattle.cc_session.specs.Playing.{CallsAndWrites, IsBegun, IsSentTo, IsSentTwice, IsShortOfTwo, IsUnended, IsUnendedOfTwo, Talk, Writes, talk}
 use Rattle.cc_session.specs.Telling.{SaysChange, no_memory_text}
-use Rattle.cc_session.specs.internal.Calls.{DoesAndTells, DoesOr, UpdatesIf}
+use Rattle.cc_session.specs.internal.Calls.{CallsAndTells, DoesAndTells, DoesOr, UpdatesIf}
 use Rattle.cc_session.specs.internal.Steps.{HasSent, IsDone, IsNotDone, IsShortOf}
 use Rattle.cc_session.specs.declared.reading.Sent.TheVariants.{NoRoom, Source, Unended}
 use Rattle.cc_session.proofs.Playing.{between_map, between_then, done_of, known_by, known_map, known_then, line_behind, more_before, skipped}
@@ -192,3 +198,25 @@ twice_unread mode name many count x left h ScriptTooLong why = (inl refl, why.1)
 twice_unread mode name many count x left h ReadFault why = inl refl
 twice_unread mode name many count x left h WriteFault why = absurd why
 twice_unread mode name many count x left h Stopped why = absurd why
+
+-- ---- a unit that is put
+
+-- what was put is a text that was prepared: its mode and its bytes are those that were asked for, and the client was the same
+pub put_as : (put : Put) (name : List ℕ) (its mode : Mode) (text source : List ℕ) (before old new : MemberView) (answer : Result Receipt ServiceFault) → its ≡ mode → text ≡ source → before ≡ old
+    → PutAnswers its (Puts put its name text) name text before new answer → PutAnswers mode (Puts put mode name source) name source old new answer
+put_as put name its mode text source before old new answer one two three it =
+    subst (λ (h : MemberView). PutAnswers mode (Puts put mode name source) name source h new answer) three
+    (subst (λ (t : List ℕ). PutAnswers mode (Puts put mode name t) name t before new answer) two (subst (λ (m : Mode). PutAnswers m (Puts put m name text) name text before new answer) one it))
+
+-- a unit that was put by the same client
+pub put_from : {T : Type 0} (result : Result T ScriptFault) (mode : Mode) (put : Put) (name source : List ℕ) (before old new : MemberView) (one two : Option (List ℕ)) → before ≡ old
+    → CallsAndTells (PutAnswers mode (Puts put mode name source) name source) (SaysChange source) (talk before one) (talk new two) result
+    → CallsAndTells (PutAnswers mode (Puts put mode name source) name source) (SaysChange source) (talk old one) (talk new two) result
+put_from result mode put name source before old new one two same it =
+    subst (λ (h : MemberView). CallsAndTells (PutAnswers mode (Puts put mode name source) name source) (SaysChange source) (talk h one) (talk new two) result) same it
+
+-- a unit that was not put for want of memory, or of a worker: the client is as it was
+pub put_not : (mode : Mode) (put : Put) (name source : List ℕ) (old new : MemberView) (answer : Result Receipt ServiceFault) → (answer ≡ Err OutOfMemory) ⊎ (answer ≡ Err WorkersGone)
+    → PutAnswers mode (Puts put mode name source) name source old new answer → new ≡ old
+put_not mode put name source old new answer (inl is) it = (subst (λ (a : Result Receipt ServiceFault). PutAnswers mode (Puts put mode name source) name source old new a) is it).1
+put_not mode put name source old new answer (inr is) it = (subst (λ (a : Result Receipt ServiceFault). PutAnswers mode (Puts put mode name source) name source old new a) is it).2

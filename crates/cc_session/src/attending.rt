@@ -8,7 +8,7 @@ ghost use Rattle.cc_session.specs.Spooling.{HasDone, IsDoneBy, given_by};
 ghost use Rattle.cc_session.specs.internal.Ends.{EndOf};
 
 use crate::bounds::Meter;
-use crate::calls::Player;
+use crate::calls::{Player, tell_halt};
 use crate::patience::{Others, Patience, Unhurried};
 use crate::reading::Reading;
 use cc_disk::Disk;
@@ -53,19 +53,22 @@ where
     ensures played { IsPlayedBy mode dialect most (R.remaining reader.old) (talk client.old.member (W.contents writer.old)) (talk client.new.member (W.contents writer.new)) result }
     ensures grows { Grows client.old.member client.new.member }
 {
-    play_while(
+    let player = Player {
         rt,
         alloc,
-        mode,
         service,
+        mode,
+        most,
+        patience: &Unhurried,
+    };
+    let halted = player.play(
         client,
-        reader,
+        &mut Reading::new(reader),
+        dialect,
         writer,
         explanations,
-        dialect,
-        most,
-        &Unhurried,
-    )
+    );
+    tell_halt(halted, writer, explanations)
 }
 
 /// Does so in the plain mode: `play_in`.
@@ -101,39 +104,6 @@ where
     )
 }
 
-// Does so while there is patience, if there is a bound.
-fn play_while<N, H, R: Read, W: Write, E: Write, D, P: Patience>(
-    rt: &H,
-    alloc: Global,
-    mode: Mode,
-    service: &Service<N, D>,
-    client: &mut Client<N>,
-    reader: &mut R,
-    writer: &mut W,
-    explanations: &mut E,
-    dialect: Dialect,
-    most: Option<usize>,
-    patience: &P,
-) -> Result<(), ScriptFault>
-where
-    N: Named + Send + Sync + 'static,
-    H: Wait,
-    D: Disk,
-    ensures played { IsPlayedBy mode dialect most (R.remaining reader.old) (talk client.old.member (W.contents writer.old)) (talk client.new.member (W.contents writer.new)) result }
-    ensures grows { Grows client.old.member client.new.member }
-{
-    let mut script = Reading::new(reader);
-    let player = Player {
-        rt,
-        alloc,
-        service,
-        mode,
-        most,
-        patience,
-    };
-    player.play(client, &mut script, dialect, writer, explanations)
-}
-
 // The number of the fault that ended a script.
 fn end_of(played: Result<(), ScriptFault>) -> Option<u32>
     ensures { EndOf played result }
@@ -144,79 +114,12 @@ fn end_of(played: Result<(), ScriptFault>) -> Option<u32>
     }
 }
 
-// Does a script that a spool gave, and hands its answer over.
-#[tactic(auto, using(crate::proofs::Spooling::done_by))]
-fn attend_script<N, H, S, D>(
-    rt: &H,
-    alloc: Global,
-    mode: Mode,
-    service: &Service<N, D>,
-    client: &mut Client<N>,
-    spool: &mut S,
-    meter: &Meter,
-    mut script: S::Script,
-    mut answer: S::Answer,
-)
-where
-    N: Named + Send + Sync + 'static,
-    H: Wait,
-    S: Spool,
-    D: Disk,
+// Whether no further script of a spool is to be taken.
+fn is_closing<S: Spool>(spool: &mut S, meter: &Meter) -> bool
     ensures taken { S.taken spool.new ≡ S.taken spool.old }
-    ensures done { (delivered : Delivered) × (S.ended spool.new ≡ S.ended spool.old ++ delivered ∷ [])
-        × IsDoneBy mode (taken_as (S.Script.remaining script) (S.Answer.contents answer)) delivered client.old.member client.new.member }
+    ensures ended { S.ended spool.new ≡ S.ended spool.old }
 {
-    let played = play_while(
-        rt,
-        alloc,
-        mode,
-        service,
-        client,
-        &mut script,
-        &mut answer,
-        &mut io::sink(),
-        Dialect::Served,
-        Some(MOST_LINES),
-        &Others {
-            spool: &*spool,
-            meter,
-        },
-    );
-    spool.deliver(script, answer, end_of(played));
-}
-
-// Does the next script of a spool, if there is one. The result is whether more may come. The meter counts the script from when it
-// was taken until its answer is handed over, with the receipts that it brought.
-fn attend_one<N, H, S, D>(
-    rt: &H,
-    alloc: Global,
-    mode: Mode,
-    service: &Service<N, D>,
-    client: &mut Client<N>,
-    spool: &mut S,
-    meter: &Meter,
-) -> bool
-where
-    N: Named + Send + Sync + 'static,
-    H: Wait,
-    S: Spool,
-    D: Disk,
-    ensures { HasDone mode (given_by S.taken S.ended spool.old) client.old.member (given_by S.taken S.ended spool.new) client.new.member }
-{
-    if spool.is_over() {
-        return false;
-    }
-    if meter.is_full() {
-        return false;
-    }
-    if let Some((text, reply)) = spool.next() {
-        meter.begin_script();
-        let seen = client.receipts().len();
-        attend_script(rt, alloc, mode, service, client, spool, meter, text, reply);
-        let entries = client.receipts().len().saturating_sub(seen);
-        meter.end_script(entries as u64, client.held_since(seen));
-    }
-    true
+    spool.is_over() || meter.is_full()
 }
 
 /// Does the scripts of a spool in a mode one after another, by one client of a service, until the spool says that no more is to
@@ -246,9 +149,40 @@ where
     ensures { HasDone mode (given_by S.taken S.ended spool.old) client.old.member (given_by S.taken S.ended spool.new) client.new.member }
 {
     for _ in rt.forever() {
-        if !attend_one(rt, alloc, mode, service, client, spool, meter) {
+        if is_closing(spool, meter) {
             break;
         }
+        let Some((mut text, mut answer)) = spool.next() else {
+            continue;
+        };
+        // The meter counts a script from when it was taken until its answer is handed over, with the receipts that it brought.
+        meter.begin_script();
+        let seen = client.receipts().len();
+        let others = Others {
+            spool: &*spool,
+            meter,
+        };
+        let player = Player {
+            rt,
+            alloc,
+            service,
+            mode,
+            most: Some(MOST_LINES),
+            patience: &others,
+        };
+        let mut script = Reading::new(&mut text);
+        let halted = player.play(
+            client,
+            &mut script,
+            Dialect::Served,
+            &mut answer,
+            &mut io::sink(),
+        );
+        drop(script);
+        let played = tell_halt(halted, &mut answer, &mut io::sink());
+        spool.deliver(text, answer, end_of(played));
+        let entries = client.receipts().len().saturating_sub(seen);
+        meter.end_script(entries as u64, client.held_since(seen));
     }
 }
 

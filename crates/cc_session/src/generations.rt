@@ -123,71 +123,6 @@ fn goes_on<H: Clock, E: Write, D: Drop, S: Spool + Drop>(
     !rest(rt, *pause, left.spools.as_mut_slice())
 }
 
-// Serves so, and writes no line of the fault that ended it.
-fn serve_all<H, S, E, D, T>(
-    rt: &H,
-    alloc: Global,
-    mode: Mode,
-    spools: Vec<S>,
-    explanations: &mut E,
-    disk: D,
-    workers: usize,
-    bounds: Bounds,
-    steward: &mut T,
-) -> Served<D, S>
-where
-    H: Threads + Wait + Clock + Copy + Send + Sync + 'static,
-    S: Spool + Send + Drop,
-    E: Write,
-    D: Disk + Send + Drop,
-    T: Steward,
-    requires some { 1 ≤ workers }
-    requires few { workers ≤ 8 }
-    ensures generations { (earlier : ℕ) × ServesOn (ServingEnds mode D.Disk) earlier
-        (map (given_by S.taken S.ended) spools.items) (map (given_by S.taken S.ended) result.spools.items) disk result.disk result.end }
-    ensures over { result.end ≡ Finished → All S.over result.spools.items }
-{
-    let mut left = serve_quietly(
-        rt,
-        alloc,
-        mode,
-        spools,
-        explanations,
-        disk,
-        workers,
-        NoGate,
-        bounds,
-        steward,
-    );
-    if !is_well(left.end) {
-        return left;
-    }
-    let mut pause = 0;
-    for _ in rt.forever() {
-        if !goes_on(rt, &mut left, &mut pause, explanations) {
-            return left;
-        }
-        let Served {
-            disk,
-            spools,
-            end: _,
-        } = left;
-        left = serve_quietly(
-            rt,
-            alloc,
-            mode,
-            spools,
-            explanations,
-            disk,
-            workers,
-            NoGate,
-            bounds,
-            steward,
-        );
-    }
-    unreachable!()
-}
-
 /// Serves as `serve_in` does, one generation after the other, until each spool is over or a service ends by a fault. A generation
 /// begins with the disk and the spools that the one before left; the numbers of its receipts begin at 1. Between two of them no
 /// script is taken, for as long as the service's end, the opening of the library and `steward` take.
@@ -225,7 +160,7 @@ where
     // Nothing is written if no fault ended it.
     ensures still { result.end ≡ Finished → W.contents writer.new ≡ W.contents writer.old }
 {
-    let left = serve_all(
+    let mut left = serve_quietly(
         rt,
         alloc,
         mode,
@@ -233,11 +168,35 @@ where
         explanations,
         disk,
         workers,
+        NoGate,
         bounds,
         steward,
     );
-    tell_end(alloc, left.end, writer, explanations);
-    left
+    if !is_well(left.end) {
+        tell_end(alloc, left.end, writer, explanations);
+        return left;
+    }
+    let mut pause = 0;
+    for _ in rt.forever() {
+        if !goes_on(rt, &mut left, &mut pause, explanations) {
+            tell_end(alloc, left.end, writer, explanations);
+            return left;
+        }
+        let Served { disk, spools, .. } = left;
+        left = serve_quietly(
+            rt,
+            alloc,
+            mode,
+            spools,
+            explanations,
+            disk,
+            workers,
+            NoGate,
+            bounds,
+            steward,
+        );
+    }
+    unreachable!()
 }
 
 /// Does so in the plain mode: `serve_on_in`.

@@ -8,7 +8,7 @@ ghost use Rattle.cc_script.specs.declared.fault.ScriptFault.TheVariants.{BadLine
 ghost use Rattle.cc_session.specs.internal.Steps.{HasSent, IsNoLine, IsSentAs, MayFollow};
 
 use cc_answers::tell_fault;
-use cc_script::{LINE_BYTES, MOST_BYTES, NextLine, Script, ScriptFault};
+use cc_script::{LINE_BYTES, NextLine, SCRIPT_BYTES, Script, ScriptFault};
 use std::alloc::Global;
 use std::io::{Read, Write};
 use std::marker::Model;
@@ -64,7 +64,7 @@ impl<R: Read> Reading<R> {
 
     // How many bytes of it were handed out.
     pub(crate) fn position(&self) -> usize {
-        MOST_BYTES.saturating_sub(self.script.left())
+        SCRIPT_BYTES.saturating_sub(self.script.left())
     }
 
     // What was read of it and not handed out yet.

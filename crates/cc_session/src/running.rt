@@ -14,7 +14,7 @@ ghost use Rattle.cc_session.specs.Session.{EndsSince, HaveCalled, IsEnded, Sessi
 ghost use Rattle.cc_session.specs.internal.Ends.{given_up_after};
 ghost use Rattle.cc_session.specs.internal.Steps.{EndsFor};
 
-use crate::calls::Player;
+use crate::calls::{Player, tell_halt};
 use crate::end::SessionEnd;
 use crate::patience::Unhurried;
 use crate::reading::Reading;
@@ -137,9 +137,9 @@ where
                 most: None,
                 patience: &Unhurried,
             };
-            let played = player.play(&mut client, script, Dialect::Plain, answers, explanations);
+            let halted = player.play(&mut client, script, Dialect::Plain, answers, explanations);
             clients.push_reserved(client);
-            ended(played)
+            ended(tell_halt(halted, answers, explanations))
         }
         Err(fault) => SessionEnd::Fault(refused(alloc, fault, answers, explanations)),
     }

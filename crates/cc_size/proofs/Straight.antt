@@ -1,4 +1,4 @@
--- A way of calls can be cut so that it leads to no function twice. It then has no more calls than there are functions.
+-- A way of calls can be cut so that it leads to no function twice. Then it has no more calls than there are functions.
 use Rattle.std.proofs.Common.{◌≡◌, ℕ, zero, suc, ◌<◌, ◌≤◌, List, [], ◌∷◌, Bool, true, false, eqb, length, refl, sym, subst, inl, inr, arith}
 use Rattle.std.specs.Prelude.{◌||◌}
 use Rattle.std.specs.List.{AllByRecursion, IsDistinct, list_any}
@@ -19,7 +19,7 @@ pub leads_within : (bodies : List (List PieceItem)) (way : List ℕ) (f t : ℕ)
 leads_within bodies [] f t lt p = (let e : f ≡ t = p in omega arith)
 leads_within bodies (h ∷ way) f t lt p = called_within bodies f h p.0
 
--- each function of a way is one of these
+-- each number on a way is that of a function
 all_within : (bodies : List (List PieceItem)) (way : List ℕ) (f t : ℕ) → t < length bodies → LeadsBy bodies way f t → (q : ℕ) → list_any (eqb q) way ≡ true → q < length bodies
 all_within bodies [] f t lt p q e = absurd (let n : false ≡ true = e in cc)
 all_within bodies (h ∷ way) f t lt p q e = elim (eqb_tells q h) [
@@ -46,7 +46,7 @@ none_is h (x ∷ way) e = (let n = neither (eqb h x) (list_any (eqb h) way) e in
     neither false b e = (refl, e)
     neither true b e = absurd (let n : true ≡ false = e in cc)
 
--- what is left of a way after a function that it leads to
+-- what is left of a way once it has come to the function h
 pub record After (bodies : List (List PieceItem)) (h t : ℕ) : Type 0 where
   pub way : List ℕ
   pub leads : LeadsBy bodies way h t

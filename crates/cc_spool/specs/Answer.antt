@@ -12,18 +12,18 @@ framed source = codes "source " ++ decimal (length source) ++ 10 ∷ source ++ 1
 
 -- ---- byte by byte
 
--- the number with one digit more, up to 32 bits
+-- the number with one more digit, up to 32 bits
 abbrev pub with_digit : (number byte : ℕ) → ℕ
 with_digit number byte = min (10 * number + (byte - 48)) 4294967295
 
--- after this many first bytes of a line that may be that of a fault
+-- the place after this byte, when the line so far has this many bytes of `fault `
 abbrev pub in_fault : (count byte : ℕ) → Place
 in_fault count byte =
     if (count == 0) && (byte == 115) then Source 1
     else if nat_lt count 6 && (slice_index (codes "fault ") count == byte) then (if count == 5 then Number 0 else Fault (count + 1))
     else Line
 
--- the same for a line that may say how many bytes of a source come after it
+-- the place after this byte, when the line so far has this many bytes of `source `
 abbrev pub in_source : (count byte : ℕ) → Place
 in_source count byte =
     if nat_lt count 7 then (if slice_index (codes "source ") count == byte then Source (count + 1) else Line)
@@ -42,12 +42,12 @@ place_behind (Number number) byte = if byte == 10 then Fault 0 else (if is_ascii
 place_behind (Source count) byte = if byte == 10 then Fault 0 else in_source count byte
 place_behind Line byte = if byte == 10 then Fault 0 else Line
 
--- the fault that was reported last, if the line read so far is one of a fault
+-- the fault that was reported last: if the line read so far is the line for a fault, the one that it reports
 abbrev pub told_at : Place → (last : Option ℕ) → Option ℕ
 told_at (Number number) last = Some number
 told_at place last = last
 
--- what was read, with one byte more
+-- what was read, after one more byte
 abbrev pub read_byte : Lines → (byte : ℕ) → Lines
 read_byte lines byte = let place = place_behind lines.place byte in record { place = place; last = told_at place lines.last }
 

@@ -1,12 +1,12 @@
 // What waits in `new`, as all clients of one server know it.
 //
-// One client at a time looks through `new`. All clients take the names that it found, the least first, each once. A look costs as
-// much as `new` has entries, and anybody may put entries that can't be claimed there. So no look is made while `new` is
-// unchanged, and a name that could not be claimed is passed over for a while, which doubles each time. Then it is tried again
-// without a look, after the names that were never tried, together with at most a fixed number of others a second. So names that
-// can't be claimed take no more of a processor the more there are, and a script waits for few of them. If there are more names
-// than are kept, and none of these could be claimed, the next look is for the names after them. So names that can't be claimed
-// hide no script.
+// One client at a time looks through `new`. All clients take the names that this look found, the least first, each name once. A
+// look costs as much as `new` has entries, and anybody may put entries there that can't be claimed. So no look is made while
+// `new` is unchanged, and a name that could not be claimed is passed over for a time that doubles with each failure. Then it is
+// tried again without a look, after the names that were never tried; at most a fixed number of names a second is tried again. So
+// names that can't be claimed do not take more processor time the more there are of them, and a script waits for few of them. If
+// there are more names than are kept, and none of those kept could be claimed, the next look is for the names after them. So
+// names that can't be claimed hide no script.
 
 use crate::claims::may_be_claimed;
 use crate::entries::Entry;
@@ -18,13 +18,13 @@ use std::cmp::Ordering;
 use std::mem;
 use std::time::{Duration, Instant};
 
-/// The most entries of `new` that are looked at in one go, whatever they are.
+/// At most this many entries of `new` are looked at in one go, whatever they are.
 pub const MOST_ENTRIES: usize = 1_048_576;
 
-/// The most names of a look that are kept, which are the least ones, and the most that are passed over.
+/// At most this many names of a look are kept, the least ones, and at most this many names are passed over.
 const MOST_NAMES: usize = 131_072;
 
-/// For how long a name that could not be claimed is passed over, in seconds: at first, and at most.
+/// How long a name that could not be claimed is passed over, in seconds: at first, and at most.
 const LEAST_PASS: u64 = 1;
 
 const MOST_PASS: u64 = 30;
@@ -32,27 +32,27 @@ const MOST_PASS: u64 = 30;
 /// A look is made after this many seconds even if `new` is unchanged.
 const LOOK_AGAIN: u64 = 10;
 
-/// The most names that were passed over and are tried again in one go, and the pause between two such goes, in seconds. All that
-/// are kept are tried in less than the longest pass.
+/// At most this many names that were passed over are tried again in one go; and the pause between two such goes, in seconds. All
+/// that are kept are tried again in less time than the longest pass.
 const MOST_AGAIN: usize = 5_000;
 
 const AGAIN: u64 = 1;
 
-/// The most names that are looked at to find whether a script waits.
+/// At most this many names are looked at to find whether a script waits.
 const MOST_LOOKED: usize = 64;
 
-/// How many seconds after the last change of `new` a look has to begin to see all: a change within the clock's grain has the same
-/// time.
+/// A look is sure to see everything only if it begins more than this many seconds after the last change of `new`: a change within
+/// the clock's grain has the same time.
 const GRAIN: u64 = 1;
 
-/// A look that may not have seen all is not made again for this many times as long as it took, while `new` is unchanged.
+/// While `new` is unchanged, a look that possibly missed something is made again only after this many times as long as it took.
 const REST: u32 = 16;
 
 /// A name that may be a script's.
 #[derive(Drop)]
 pub(crate) struct Candidate {
     pub(crate) name: String,
-    // For how long it was passed over the last time, in seconds: 0 if it was not.
+    // How long it was passed over the last time, in seconds: 0 if it was not.
     passed: u64,
 }
 
@@ -63,7 +63,7 @@ struct Passed {
     // names.
     key: u64,
     name: String,
-    // For how long it is passed over, in seconds, and until when.
+    // How long it is passed over, in seconds, and until when.
     pass: u64,
     until: Instant,
     // Whether the look that is being made has seen it.
@@ -74,7 +74,7 @@ struct Passed {
 #[derive(Clone, Copy, Drop)]
 struct Look {
     began: Instant,
-    // When `new` had been changed last: the seconds since 1970, and the nanoseconds after these.
+    // When `new` had last been changed: the seconds since 1970, and the nanoseconds after these.
     changed: (i64, i64),
     // Whether it kept all that it saw.
     is_all: bool,
@@ -88,13 +88,13 @@ struct Look {
 pub(crate) struct Board {
     // The names that are to be tried, the least last.
     waiting: Vec<Candidate>,
-    // Those that are passed over, ordered by key, and for one key by name.
+    // Names that were passed over for long enough, and are to be tried again now.
     again: Vec<Candidate>,
-    // Those that are passed over, in the order of their keys, and of one key in that of the names.
+    // Those that are passed over, ordered by key, and for one key by name.
     passed: Vec<Passed>,
-    // Those that came to be passed over since the last look.
+    // The names newly passed over since the last look.
     fresh: Vec<Passed>,
-    // The first moment at which one of these is to be tried again, and the last one at which some were.
+    // The first moment at which a name that is passed over is to be tried again, and the last one at which some were.
     next_try: Option<Instant>,
     tried: Option<Instant>,
     // The name after which to look, if there were more names than are kept, and none of those could be claimed.
@@ -112,7 +112,7 @@ fn key_of(name: &str) -> u64 {
 }
 
 impl Passed {
-    // Whether it comes before a name that has this key, or after it.
+    // Whether this name comes before or after a name that has this key.
     fn order(&self, key: u64, name: &str) -> Ordering {
         match self.key.cmp(&key) {
             Ordering::Equal => self.name.as_str().cmp(name),
@@ -138,12 +138,12 @@ fn first_try(passed: &[Passed]) -> Option<Instant> {
     first
 }
 
-// Brings back names that are to be tried again now, until there are this many.
+// Moves names that are to be tried again now from `passed` to `again`, until `again` has `MOST_AGAIN`.
 fn bring_back(passed: &mut Vec<Passed>, again: &mut Vec<Candidate>, alloc: Global, now: Instant) {
     for it in passed.iter_mut() {
         if again.len() < MOST_AGAIN && it.until <= now {
             let name = mem::replace(&mut it.name, String::new(alloc));
-            // If there is no memory it is found by the next look.
+            // If there is no memory for it, the next look finds it.
             let _ = again.push(Candidate {
                 name,
                 passed: it.pass,
@@ -183,8 +183,8 @@ impl Board {
         }
     }
 
-    /// Whether a script waits that can be claimed. Only a limited number of names is looked at, and the next call goes on after
-    /// them.
+    /// Whether there is a waiting script that can be claimed. Only a limited number of names is looked at, and the next call goes
+    /// on after them.
     pub(crate) fn has_claimable(&mut self, layout: &FolderLayout) -> Result<bool, Refusal> {
         let now = Instant::now(&layout.rt)?;
         for _ in 0..MOST_LOOKED {
@@ -218,7 +218,7 @@ impl Board {
         };
         let until = now.checked_add(Duration::from_secs(pass)).unwrap_or(now);
         self.next_try = earlier(self.next_try, until);
-        // If there is no memory it is tried at the next look.
+        // If there is no memory for it, it is tried at the next look.
         let _ = self.fresh.push(Passed {
             key: key_of(name.as_str()),
             name,
@@ -240,7 +240,7 @@ impl Board {
         }
     }
 
-    // Brings names back that were passed over for long enough.
+    // Brings back the names that were passed over for long enough.
     fn bring_back_if_due(&mut self, alloc: Global, now: Instant) {
         if !self.is_time_again(now) {
             return;
@@ -316,7 +316,7 @@ impl Board {
         Ok(())
     }
 
-    // Puts those that came to be passed over among the others.
+    // Puts the names newly passed over among the others.
     fn merge(&mut self) -> Result<(), Refusal> {
         if !self.fresh.is_empty() {
             self.passed.append(&mut self.fresh)?;
@@ -329,7 +329,7 @@ impl Board {
         Ok(())
     }
 
-    // Reads the entries of `new`. The result is whether there are no more.
+    // Reads the entries of `new`. The result is whether there are no more entries.
     fn read(&mut self, layout: &FolderLayout) -> Result<bool, Refusal> {
         let mut entries = layout.entries("new")?;
         for _ in 0..MOST_ENTRIES {
@@ -389,13 +389,13 @@ impl Board {
         self.waiting.truncate(MOST_NAMES);
     }
 
-    // Forgets those that are passed over and are gone, when all names were read.
+    // Forgets the names that are passed over and are gone, once all names were read.
     fn forget(&mut self) {
         self.passed.retain(|it| it.is_seen);
         self.next_try = self.first_try();
     }
 
-    // The name after which to look if none of those that wait can be claimed: none if these are all.
+    // The name after which to look if none of those that wait can be claimed; none if there are no others.
     fn last_name(&self, alloc: Global) -> Result<Option<String>, Refusal> {
         match self.waiting.last() {
             Some(last) if self.waiting.len() == MOST_NAMES => {

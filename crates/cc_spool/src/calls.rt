@@ -1,6 +1,6 @@
-// The calls of the file system that the spool makes, each by the place of a file in the folder.
+// The file system calls that the spool makes, each on a file named by its place in the folder.
 //
-// If a call is refused, its caller gets a number, which is copied, and no path.
+// If a call is refused, its caller gets only a number, which is copied, and no path.
 
 use crate::entries::Entries;
 use crate::found::Found;
@@ -57,7 +57,7 @@ pub(crate) fn is_locked(file: &File) -> Result<bool, Refusal> {
     }
 }
 
-/// Makes a file's rights these, whatever the process takes from them.
+/// Sets a file's rights to these, whatever the process's mask takes from them.
 pub(crate) fn set_file_rights(file: &File, rights: u32) -> Result<(), Refusal> {
     file.set_permissions(Permissions::from_mode(rights))?;
     Ok(())
@@ -99,7 +99,7 @@ impl FolderLayout {
         self.look_along(self.path_of(place, name))
     }
 
-    /// Whether it is known that a regular file is there, and no link to one.
+    /// Whether it is known that a regular file is there, not a link to one.
     pub(crate) fn is_file(&self, place: Place, name: &str) -> bool {
         match self.look(place, name) {
             Ok(Some(found)) => found.is_file(),
@@ -146,7 +146,7 @@ impl FolderLayout {
         self.rename_along(self.path_of(from, name), self.path_of(to, name))
     }
 
-    /// Links a script's file to another place too, under a name that it may have only there, if nothing is there.
+    /// Also links a script's file to another place, under a name that may differ from its present one, if nothing has that name.
     pub(crate) fn link(
         &self,
         from: Place,
@@ -179,7 +179,7 @@ impl FolderLayout {
         self.look_along(self.part(part))
     }
 
-    /// What has the folder's name: an existing link, and not what it leads to.
+    /// What has the folder's name: if that is a link, the link itself and not what it leads to.
     pub(crate) fn look_at_name(&self) -> Result<Option<Found>, Refusal> {
         let path = self.path.as_str().trim_end_matches('/');
         let path = if path.is_empty() { "/" } else { path };
@@ -199,7 +199,7 @@ impl FolderLayout {
         self.open_along(OpenOptions::new().read(true), self.part(part))
     }
 
-    /// Opens `lock`, which exists: no file is made along a link that has its place.
+    /// Opens `lock`, which exists: no file is made through a link in its place.
     pub(crate) fn open_lock(&self) -> Result<File, Refusal> {
         let mut how = OpenOptions::new();
         how.read(true).write(true);
@@ -234,7 +234,7 @@ impl FolderLayout {
         Ok(())
     }
 
-    /// Makes a directory that the server alone may use.
+    /// Makes a directory that only the server may use.
     pub(crate) fn make_directory(&self, part: &str) -> Result<(), Refusal> {
         let path = self.part(part)?;
         let mut how = DirBuilder::new();
@@ -243,7 +243,7 @@ impl FolderLayout {
         Ok(())
     }
 
-    /// Makes the folder, and what is above it, with 0755 if the process allows that.
+    /// Makes the folder, and the directories above it, with 0755 if the process's mask allows that.
     pub(crate) fn make_folder(&self) -> Result<(), Refusal> {
         let mut how = DirBuilder::new();
         how.recursive(true).mode(0o755);
@@ -251,7 +251,7 @@ impl FolderLayout {
         Ok(())
     }
 
-    /// Makes the rights of a part these.
+    /// Gives a part these rights.
     pub(crate) fn set_rights(&self, part: &str, rights: u32) -> Result<(), Refusal> {
         let path = self.part(part)?;
         fs::set_permissions(&self.rt, path.as_str(), Permissions::from_mode(rights))?;

@@ -45,7 +45,7 @@ impl Found {
         }
     }
 
-    /// What an open file is.
+    /// The same for an open file.
     pub(crate) fn of_file(file: &File) -> Result<Found, Refusal> {
         let told = file.metadata()?;
         Ok(Found::of(&told))
@@ -76,7 +76,7 @@ impl Found {
         self.device == other.device && self.number == other.number
     }
 
-    /// Whether a look found this file, or, on a system whose numbers belong to the paths of files, one of the same user, size and time.
+    /// Whether a look found this file, or, on a system that numbers files by their paths, one with the same user, size and time.
     pub(crate) fn is_alike(&self, other: &Found) -> bool {
         let is_of_its_time = self.seconds == other.seconds && self.nanoseconds == other.nanoseconds;
         self.is_same(other)

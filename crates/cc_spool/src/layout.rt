@@ -7,8 +7,8 @@
 //     lock    held by the server
 //     stop    asks the server to end
 //
-// Clients write to `tmp` and `new`, so anything may be there: it is looked at without following a link before it is opened, or
-// not opened at all.
+// Clients write to `tmp` and `new`, so anything may be there: each entry is looked at without following a link before it is
+// opened, or not opened at all.
 
 use crate::board::Board;
 use crate::calls::{is_locked, settle, take_lock};
@@ -30,12 +30,12 @@ const OPEN_FILE: u32 = 0o644;
 
 const GROUP_FILE: u32 = 0o660;
 
-/// How often a server tries for the lock, and the pause between two tries, in milliseconds: a second together.
+/// How many times a server tries to get the lock, and the pause between two tries, in milliseconds: one second in total.
 const LOCK_TRIES: u64 = 100;
 
 const LOCK_PAUSE: u64 = 10;
 
-/// What a client keeps, which clears nothing.
+/// The limits of a client, which clears nothing.
 const ALL: Limits = Limits {
     days: u32::MAX,
     bytes: u64::MAX,
@@ -54,25 +54,25 @@ pub struct FolderLayout {
     pub(crate) file_rights: u32,
     // The file `lock`, if this server holds it.
     held: Option<Found>,
-    // What all clients of one server know of it.
+    // What all clients of one server know about the folder.
     pub(crate) common: Arc<Common>,
 }
 
-/// What all clients of one server know of its folder. They take the board, and the log, without waiting for it.
+/// What all clients of one server know about its folder. They take the board, and the log, without waiting for either.
 #[derive(Drop)]
 pub(crate) struct Common {
     pub(crate) board: Mutex<Board>,
     pub(crate) keeping: Mutex<Keeping>,
     pub(crate) log: Mutex<Log>,
-    // How many bytes the answers in `done` are counted to take.
+    // How many bytes the answers in `done` take, by the current count.
     taken: AtomicU64,
-    // How many scripts were begun, and how many clients do one.
+    // How many scripts were begun, and how many clients are running one.
     begun: AtomicU64,
     busy: AtomicU64,
-    // How many clients have a number, and that of the one that is to end its script for one that waits: 0 if none is.
+    // How many clients have a number, and the number of the client that is to end its script for one that waits, or 0.
     numbered: AtomicU64,
     leaving: AtomicU64,
-    // How many clients there are, and for how many seconds one may do a script while others wait.
+    // How many clients there are, and how many seconds one may run a script while others wait.
     clients: u64,
     patience: u64,
     // Whether the answers in `done` that may not be removed yet take more than they may. Until they are counted, this is true.
@@ -88,12 +88,13 @@ pub struct Held {
 }
 
 impl FolderLayout {
-    /// The folder at this path, whether or not it is there, as a client has it. If others may not write to its `new`, it is a group's.
+    /// The folder at this path, whether or not it is there, as a client has it. If others may not write to its `new`, the folder is a
+    /// group's.
     pub fn new(rt: HostRuntime, alloc: Global, path: &str) -> Result<FolderLayout, AllocError> {
         FolderLayout::for_server(rt, alloc, path, ALL)
     }
 
-    /// The same, as a server with these limits has it.
+    /// The folder at this path, as a server with these limits has it.
     pub fn for_server(
         rt: HostRuntime,
         alloc: Global,
@@ -142,7 +143,7 @@ impl FolderLayout {
         Ok(layout)
     }
 
-    /// Looks which rights files get in it: if others may not write to `new`, it is a group's.
+    /// Finds out which rights files get in the folder: if others may not write to `new`, the folder is a group's.
     pub(crate) fn look_for_rights(&mut self) {
         self.file_rights = match self.look_at("new") {
             Ok(Some(found)) if found.rights() & 0o002 == 0 => GROUP_FILE,
@@ -150,7 +151,7 @@ impl FolderLayout {
         };
     }
 
-    /// Whether it is a group's.
+    /// Whether the folder is a group's.
     pub(crate) fn is_group(&self) -> bool {
         self.file_rights == GROUP_FILE
     }
@@ -213,12 +214,12 @@ impl FolderLayout {
         self.common.is_lost.store(true, Ordering::SeqCst);
     }
 
-    /// How many bytes the answers in `done` are counted to take.
+    /// How many bytes the answers in `done` take, by the current count.
     pub(crate) fn taken(&self) -> u64 {
         self.common.taken.load(Ordering::SeqCst)
     }
 
-    /// Notes that an answer was handed over that takes this many bytes.
+    /// Notes that an answer that takes this many bytes was handed over.
     pub(crate) fn note_taken(&self, bytes: u64) {
         self.common.taken.fetch_add(bytes, Ordering::SeqCst);
     }
@@ -233,7 +234,7 @@ impl FolderLayout {
         self.common.is_full.load(Ordering::SeqCst)
     }
 
-    /// Notes that.
+    /// Notes whether the answers in `done` that may not be removed yet take more than they may.
     pub(crate) fn set_full(&self, is_full: bool) {
         self.common.is_full.store(is_full, Ordering::SeqCst);
     }
@@ -243,7 +244,7 @@ impl FolderLayout {
         self.common.begun.load(Ordering::SeqCst)
     }
 
-    /// Notes that a client began one.
+    /// Notes that a client began a script.
     pub(crate) fn note_begun(&self) {
         self.common.begun.fetch_add(1, Ordering::SeqCst);
         self.common.busy.fetch_add(1, Ordering::SeqCst);
@@ -273,17 +274,18 @@ impl FolderLayout {
         self.common.leaving.load(Ordering::SeqCst) == 0
     }
 
-    /// A client is to end its script for one that waits. The caller has the board, so this is done for one client at a time.
+    /// Notes that a client is to end its script for one that waits. The caller has the board, so this is done for one client at a
+    /// time.
     pub(crate) fn leave(&self, client: u64) {
         self.common.leaving.store(client, Ordering::SeqCst);
     }
 
-    /// Whether each client does a script.
+    /// Whether every client is running a script.
     pub(crate) fn are_all_busy(&self) -> bool {
         self.common.clients <= self.common.busy.load(Ordering::SeqCst)
     }
 
-    /// For how many seconds a script may be at work while others wait.
+    /// How many seconds a script may be at work while others wait.
     pub(crate) fn patience(&self) -> u64 {
         self.common.patience
     }
@@ -296,7 +298,7 @@ impl FolderLayout {
         }
     }
 
-    /// Withdraws the request that the server ends. An `Err` if `stop` can't be removed, or the folder is no longer the one that
+    /// Withdraws the request for the server to end. An `Err` if `stop` can't be removed, or the folder is no longer the one that
     /// is held.
     pub fn unstop(&self) -> io::Result<()> {
         Ok(self.take_stop_back()?)
@@ -310,8 +312,8 @@ impl FolderLayout {
         }
     }
 
-    /// Withdraws the request that an earlier server ends: a `stop` that was made before a file of this start. One that was made
-    /// since is for this server.
+    /// Withdraws a request for an earlier server to end: a `stop` that was made before this start made the file `begun`. One that
+    /// was made since is for this server.
     pub(crate) fn take_old_stop_back(&self, begun: &Found) -> Result<(), Refusal> {
         match self.look_at("stop")? {
             Some(found) if found.is_older(begun) => self.take_stop_back(),
@@ -325,7 +327,7 @@ impl FolderLayout {
         settle(&part)
     }
 
-    /// Syncs what was claimed, and which answers are being written.
+    /// Syncs the names of the claimed scripts, and of the answers that are being written.
     pub(crate) fn sync_claims(&self) -> Result<(), Refusal> {
         self.sync_part("cur")
     }
@@ -344,8 +346,8 @@ impl FolderLayout {
         Ok(())
     }
 
-    // Whether a script is in `new` though the call that put it there was refused: over a network a call may be done and its
-    // answer lost. If its name there is gone by then, the file has its second name in `cur`: a server has claimed it.
+    // Whether a script is in `new` though the call that put it there was refused: over a network a call may succeed although its
+    // answer is lost. If its name there is gone by then, the file has its second name in `cur`: a server has claimed it.
     fn is_published(&self, written: &str, name: &str) -> bool {
         match (
             self.look(Place::Written, written),
@@ -369,7 +371,7 @@ impl FolderLayout {
         format!(in self.alloc; "{path}/{part}/{name}{ending}")
     }
 
-    /// The user who has `cur`: the server's. An `Err` if the folder is gone, or can't be looked at.
+    /// The user who owns `cur`: the server's. An `Err` if the folder is gone, or can't be looked at.
     pub(crate) fn server(&self) -> Result<u32, Refusal> {
         match self.look_at("cur")? {
             Some(found) => Ok(found.user),
@@ -377,7 +379,7 @@ impl FolderLayout {
         }
     }
 
-    /// Whether what was found is a regular file of the user who has `cur`: then the server made it.
+    /// Whether what was found is a regular file of the user who owns `cur`: then the server made it.
     pub(crate) fn is_servers(&self, found: &Found) -> Result<bool, Refusal> {
         let server = self.server()?;
         Ok(found.is_file() && found.user == server)

@@ -1,6 +1,6 @@
 //! Spools: the source of one client's scripts, and the destination of their answers.
 //!
-//! `spool` is what serving needs of a spool, `memory` a spool in memory, `folder` one in a folder in which clients of other
+//! `spool` is what serving needs from a spool, `memory` a spool in memory, `folder` one in a folder in which clients of other
 //! processes leave scripts and find their answers. `layout` has the parts of the folder, `place` the places of a script's files
 //! in them, `calls` the system's calls on these, `found` and `entries` what such a call reports, `refusal` why one is refused.
 //! `rights` makes the parts, `names` says which files are taken, `board` which of them are to be tried, `keeping` how many
@@ -9,10 +9,11 @@
 //! fault the answer reports, `framing` how a source is written in it, `fault` why one of these is refused. `log` has who did
 //! what: `script_file` has the lines of a script as it is read, `answer_words` how each was answered.
 //!
-//! It knows nothing of libraries. It uses only the history of `cc_disk`, which contracts alone read. It needs no handle but files
-//! and the clock. It exports `Spool`, `MemorySpool` and `Answered`; `FolderSpool`, `FolderLayout`, `SpoolFault`, and what a
-//! server (`take_folder`, `wide_parts`, `recover`, `clear_old`, `count_entries`) and a client (`submit`) do in a folder; how a
-//! source is written in an answer (`frame`, `source_in`, `fault_lines`); and which names are plain (`specs/`).
+//! The crate knows nothing about libraries. It uses only the history of `cc_disk`, which only contracts read. The only handles
+//! that it needs are those for files and the clock. It exports `Spool`, `MemorySpool` and `Answered`; `FolderSpool`,
+//! `FolderLayout`, `SpoolFault`, and what a server (`take_folder`, `wide_parts`, `recover`, `clear_old`, `count_entries`) and a
+//! client (`submit`) do in a folder; how a source is written in an answer (`frame`, `source_in`, `fault_lines`); and which names
+//! are plain (`specs/`).
 #![tactic(auto)]
 
 mod answer;

@@ -8,7 +8,7 @@ ghost use Rattle.cc_spool.specs.Answer.{between, in_fault, in_source, place_behi
 ghost use Rattle.cc_spool.specs.internal.Telling.{is_within, last_told};
 ghost use Rattle.cc_spool.specs.declared.lines.Place.TheVariants as place;
 
-/// How the line of a fault begins.
+/// How the line for a fault begins.
 const FAULT: [u8; 6] = *b"fault ";
 
 /// The beginning of the line after which a source comes.
@@ -20,13 +20,13 @@ const INTERRUPTED: u32 = 55;
 // The place of the next byte.
 #[derive(Clone, Copy, Drop)]
 enum Place {
-    // After this many bytes of the beginning of a fault's line. After 0 bytes it is at the beginning of any line.
+    // After this many bytes of the beginning of a fault's line. After 0 bytes, this is the beginning of any line.
     Fault(usize),
-    // In the number of a fault; this much of it is read.
+    // In the number of a fault, with this value so far.
     Number(u32),
     // After this many bytes of the beginning of a line after which a source comes.
     Source(usize),
-    // In the number of the source's bytes; this much of it is read.
+    // In the number of the source's bytes, with this value so far.
     Length(u32),
     // In a line, or a part of one, that does not matter.
     Line,
@@ -34,11 +34,11 @@ enum Place {
     Within(u32),
     // After a source: a newline comes.
     Behind,
-    // After a source, another byte was there than a newline: nothing that follows is reported.
+    // After a source that was followed by a byte other than a newline: nothing that follows is reported.
     Broken,
 }
 
-// A number with one digit more, which stops at the largest value.
+// A number with one more digit, which stops at the largest value.
 fn with_digit(number: u32, byte: u8) -> u32
     requires { (48 ≤ byte) × (byte ≤ 57) }
     ensures { result ≡ with_digit number byte }
@@ -108,7 +108,7 @@ impl Place {
     }
 }
 
-/// What was read of an answer.
+/// What was read of an answer so far.
 #[derive(Clone, Copy, Drop)]
 pub(crate) struct Lines {
     place: Place,
@@ -116,7 +116,7 @@ pub(crate) struct Lines {
 }
 
 impl Lines {
-    /// Nothing was read.
+    /// The state before anything is read.
     pub(crate) fn new() -> Lines
         ensures { result ≡ between None }
     {

@@ -4,10 +4,10 @@ use std::alloc::Global;
 use std::fs::File;
 use std::io::{self, Read};
 
-/// The most bytes that are kept of a line.
+/// At most this many bytes of a line are kept.
 const LINE_BYTES: usize = 128;
 
-/// The most lines that are kept: no server does more of a script.
+/// At most this many lines are kept: no server runs more lines of a script.
 const MOST_LINES: usize = 65_536;
 
 // What the next byte of a script belongs to.
@@ -17,9 +17,9 @@ enum Part {
     Line,
     // This many bytes after a line, at least one, and then this many others, if the line has two such parts.
     Bytes(u64, Option<u64>),
-    // The end of such a part: a newline, or the rest of a line that is no command.
+    // The end of such a part: a newline, or the first byte of the rest of a line that is no command.
     End(Option<u64>),
-    // Those bytes.
+    // The rest of a line that is no command.
     Rest,
 }
 
@@ -30,7 +30,7 @@ pub struct ScriptFile {
     part: Part,
     // The line that is being read.
     line: Vec<u8>,
-    // The lines that ended, each with a newline, and how many.
+    // The lines that ended, each with a newline, and how many there are.
     lines: Vec<u8>,
     count: usize,
     // Whether all lines so far were kept.
@@ -55,7 +55,7 @@ fn number_of(digits: Option<&[u8]>) -> Option<u64> {
     Some(number)
 }
 
-// How many bytes come after a line, and how many after these, if there are any. After a line that is no command it does not
+// How many bytes come after a line, and how many after these, if there are any. After a line that is no command this does not
 // matter.
 fn bytes_after(line: &[u8]) -> Option<(u64, Option<u64>)> {
     let mut words = line.split(|byte| *byte == b' ');
@@ -79,7 +79,7 @@ fn bytes_after(line: &[u8]) -> Option<(u64, Option<u64>)> {
     None
 }
 
-// A part of `count` bytes, and then of the other number, if there is one.
+// A part of `count` bytes, and then one of the other number, if there is one.
 fn part_of(count: u64, then: Option<u64>) -> Part {
     if count == 0 {
         Part::End(then)
@@ -89,7 +89,7 @@ fn part_of(count: u64, then: Option<u64>) -> Part {
 }
 
 impl ScriptFile {
-    /// Nothing of the script was read yet.
+    /// The state before any of the script is read.
     pub(crate) fn new(alloc: Global, file: File) -> ScriptFile {
         ScriptFile {
             file,

@@ -1,9 +1,9 @@
 // How a client leaves a script in a folder, and waits for its answer.
 //
 // The script is written to `tmp`, synced, and linked into `new`, so that it is there as a whole or not at all, and never in the
-// place of another. While it is in `new` nothing of it is done, and taking it back is one call, which finds either the script or
-// a claim. A script that was claimed is waited for: its server answers it, or the next one. If another file has its place in
-// `new`, it was claimed.
+// place of another. While it is in `new` none of it is run, and taking it back is one call, which finds either the script or a
+// claim. A script that was claimed is waited for: its server answers it, or the next one. If another file has its place in `new`,
+// the script was claimed.
 //
 // The name in `new` is that of the answer, and whoever knows it first may put a script of their own there. Everybody sees the
 // name in `tmp` while the script is written, so the name in `new` is another one: it is drawn when the script is whole, and
@@ -27,39 +27,40 @@ use std::io::{self, Read, Write};
 use std::thread;
 use std::time::{Duration, Instant};
 
-/// The most bytes of a script that are sent: one more than a script may have, so that the server sees that it is too long.
-const MOST_BYTES: u64 = 16_777_217;
+/// At most this many bytes of a script are sent: one more than a script may have, so that the server sees that it is too long.
+const SENT_SCRIPT_BYTES: u64 = 16_777_217;
 
 /// The pauses between two looks for an answer, in microseconds: each is longer by a quarter than the one before.
 const LEAST_PAUSE: u64 = 200;
 
 const MOST_PAUSE: u64 = 64_000;
 
-/// For how long no server is there, or the folder can't be used, before a client gives up, in milliseconds.
+/// How long there has to be no server, or the folder has to be unusable, before a client gives up, in milliseconds.
 const NO_SERVER: u64 = 3_000;
 
-/// The most that one look adds to that, in milliseconds: one call that hangs is no reason to give up.
+/// One look adds at most this much to that time, in milliseconds: one call that hangs is no reason to give up.
 const MOST_STEP: u64 = 100;
 
-/// When a person learns that the script waits, in milliseconds.
+/// After this many milliseconds a note for a person says that the script waits.
 const TELL: u64 = 1_000;
 
 /// What became of a script.
 #[derive(Drop)]
 pub enum Submission {
-    /// It was answered, and the answer was written on: the number of the fault that it reports last, if it reports one.
+    /// It was answered, and the answer was written out. The number is that of the fault that the answer reports last, if it
+    /// reports one.
     Answered(Option<u32>),
-    /// No server took it in time. It was taken back: nothing of it is done.
+    /// No server took it in time. It was taken back: none of it is run.
     NotTaken,
     /// It could not be read to its end, and was not left in the folder.
     Unread,
-    /// It was answered, but the answer could not be written on. It stays in `done` under this name.
+    /// It was answered, but the answer could not be written out. It stays in `done` under this name.
     Unwritten(String),
-    /// It was answered, but the answer could not be read to its end, after what was written on. It stays in `done` under this
+    /// It was answered, but the answer could not be read to its end, after what was written out. It stays in `done` under this
     /// name.
     CutShort(String, io::Error),
-    /// It was left under this name, and then the folder could not be used for three seconds, or the clock could not be read: it
-    /// is not known whether it is or will be done.
+    /// It was left under this name, and then the folder could not be used for three seconds, or the clock could not be read, or it
+    /// was taken back and that could not be synced: it is not known whether it is or will be run.
     Lost(String, io::Error),
 }
 
@@ -100,7 +101,7 @@ fn flush<W: Write>(writer: &mut W) -> Result<(), Refusal>
     Ok(())
 }
 
-// Copies the next bytes, and reads their lines. The result is how many: none at the reader's end.
+// Copies the next bytes, and reads their lines. The result is how many bytes: none at the reader's end.
 fn pass_on<S: Read, W: Write>(
     reader: &mut S,
     writer: &mut W,
@@ -152,7 +153,7 @@ fn write_script<S: Read>(
     script: &mut S,
 ) -> Result<Option<Found>, Refusal> {
     write_some(file, begin)?;
-    match copy(script, file, MOST_BYTES) {
+    match copy(script, file, SENT_SCRIPT_BYTES) {
         Ok(_) => {}
         Err(Side::Reader(_)) => return Ok(None),
         Err(Side::Writer(refusal)) => return Err(refusal),
@@ -168,7 +169,7 @@ struct Published {
     made: Found,
 }
 
-// Gives a script that is whole a name in `new`, which is drawn just now. If that is refused, the script has only its name in
+// Gives a script that is whole a name in `new`, which is drawn only now. If that is refused, the script has only its name in
 // `tmp`.
 fn publish(layout: &FolderLayout, process: u32, written: &str) -> Result<String, Refusal> {
     let name = fresh_name(&layout.rt, layout.alloc, process)?;
@@ -204,8 +205,8 @@ fn put<S: Read>(
     put
 }
 
-// The answer to a script, if it is there: a regular file of the user who has `cur`. Its name says to which script it is the
-// answer: nobody else has seen that name before the script had it.
+// The answer to a script, if it is there: a regular file of the user who owns `cur`. Its name says which script it answers: nobody
+// else had seen that name before the script had it.
 fn answer_of(layout: &FolderLayout, name: &str) -> Result<Option<File>, Refusal> {
     let Some(found) = layout.look(Place::Done, name)? else {
         return Ok(None);
@@ -220,7 +221,7 @@ fn answer_of(layout: &FolderLayout, name: &str) -> Result<Option<File>, Refusal>
     }
 }
 
-// Takes a script back. Without the sync a power cut could undo that, and the script would be done after all.
+// Takes a script back. Without the sync a power cut could undo that, and the script would be run after all.
 fn take_back(layout: &FolderLayout, name: &str) -> Result<Seen, Refusal> {
     match layout.remove(Place::Waiting, name) {
         Ok(()) => Ok(match layout.sync_part("new") {
@@ -232,7 +233,7 @@ fn take_back(layout: &FolderLayout, name: &str) -> Result<Seen, Refusal> {
     }
 }
 
-// How many scripts wait before the one of this name.
+// How many scripts wait before the one with this name.
 fn count_before(layout: &FolderLayout, name: &str) -> Result<u64, Refusal> {
     let mut count = 0u64;
     let mut entries = layout.entries(Place::Waiting.part())?;
@@ -269,9 +270,9 @@ struct Waiting {
     name: String,
     // Which file it is.
     made: Found,
-    // For how long it may wait, in milliseconds; if that is not given, as long as a server is there.
+    // How long it may wait, in milliseconds; if that is not given, as long as a server is there.
     most: Option<u64>,
-    // For how long it was not claimed, in milliseconds, and no server was there if that counts.
+    // How long it has not been claimed, in milliseconds; if `most` is not given, only the time since a server was last there counts.
     unclaimed: u64,
 }
 
@@ -299,11 +300,11 @@ impl Waiting {
         Ok(Seen::Claimed)
     }
 
-    // Counts the milliseconds after the last look, if they count.
+    // Adds the milliseconds since the last look to the time without a claim, if they count.
     fn count(&mut self, layout: &FolderLayout, since: u64) {
         self.unclaimed = match self.most {
             Some(_) => self.unclaimed.saturating_add(since),
-            // A lock that can't be tried says nothing.
+            // If the lock can't be tried, a server counts as being there.
             None if layout.is_held().unwrap_or(true) => 0,
             None => self.unclaimed.saturating_add(since.min(MOST_STEP)),
         };
@@ -335,7 +336,7 @@ impl Waiting {
         let _ = explanations.flush();
     }
 
-    // Writes an answer on, and removes it.
+    // Writes an answer out, and removes it.
     fn take_answer<W: Write>(
         self,
         layout: &FolderLayout,
@@ -348,7 +349,7 @@ impl Waiting {
         drop(file);
         match copied {
             Ok(lines) => {
-                // If `done` belongs to the server alone, the answer goes after some days.
+                // If only the server may write to `done`, this fails, and the server removes the answer after some days.
                 let _ = layout.remove(Place::Done, self.name.as_str());
                 Submission::Answered(lines.last())
             }
@@ -360,14 +361,14 @@ impl Waiting {
     }
 }
 
-// How long a script has waited, and what a person has learned of it.
+// How long a script has waited, and whether a person has learned of that.
 #[derive(Clone, Copy, Drop)]
 struct Patience {
     // The moment up to which the milliseconds are counted.
     moment: Instant,
-    // In milliseconds.
+    // How long the script has waited, in milliseconds.
     waited: u64,
-    // For how long looks have failed in a row, in milliseconds.
+    // How long looks have failed in a row, in milliseconds.
     failing: u64,
     is_told: bool,
     // The next pause, in microseconds.
@@ -385,7 +386,7 @@ impl Patience {
         })
     }
 
-    // The whole milliseconds since the last look; a part of one that is left counts at the next look.
+    // The whole milliseconds since the last look; a remaining part of one counts at the next look.
     fn pass(&mut self, rt: &HostRuntime) -> Result<u64, Refusal> {
         let now = Instant::now(rt)?;
         let since = now.duration_since(self.moment);
@@ -399,7 +400,7 @@ impl Patience {
         Ok(passed)
     }
 
-    // A look succeeded. The result is whether a person is to learn of it now.
+    // Notes that a look succeeded. The result is whether a person is to learn now that the script waits.
     fn look(&mut self) -> bool {
         self.failing = 0;
         let is_due = !self.is_told && TELL <= self.waited;
@@ -407,7 +408,7 @@ impl Patience {
         is_due
     }
 
-    // A look failed. The result is whether that has gone on for too long.
+    // Notes that a look failed. The result is whether looks have failed for too long.
     fn fail(&mut self, since: u64) -> bool {
         self.failing = self.failing.saturating_add(since.min(MOST_STEP));
         self.failing >= NO_SERVER
@@ -420,7 +421,8 @@ impl Patience {
     }
 }
 
-// Waits until a script has its answer, or was taken back: then there is none. What fails is tried again for three seconds.
+// Waits until a script has its answer, or was taken back. In the second case the result has no answer. What fails is tried again
+// for three seconds.
 fn wait_for_answer<E: Write>(
     layout: &FolderLayout,
     waiting: &mut Waiting,
@@ -450,7 +452,7 @@ fn wait_for_answer<E: Write>(
     Ok(None)
 }
 
-// Waits for the answer of a script that was left in a folder, and writes it on.
+// Waits for the answer of a script that was left in a folder, and writes it out.
 fn wait<W: Write, E: Write>(
     layout: &FolderLayout,
     mut waiting: Waiting,
@@ -489,17 +491,18 @@ fn leave<S: Read>(
     }))
 }
 
-/// Leaves a script in the folder, the bytes given and then those of the reader, waits for its answer, copies that to the writer
-/// and removes it if it may.
+/// Leaves a script in the folder: the bytes given, and then those of the reader. Then the function waits for its answer, copies
+/// that to the writer, and removes it if that is allowed.
 ///
-/// `process` is the number of this process. If `seconds` is given, a script that was not claimed for so long is taken back; else
-/// one for which no server held the folder for three seconds together. A script that was claimed is never taken back: its server
-/// answers it, or the next one does, by 55. A note that the script waits goes to `explanations` after a second.
+/// `process` is the number of this process. If `seconds` is given, a script is taken back that was not claimed for that long; if
+/// not, one is taken back when no server has held the folder for three seconds in a row. A script that was claimed is never taken
+/// back: its server answers it, or the next one does, with 55. A note that the script waits goes to `explanations` after a
+/// second.
 ///
-/// An `Err` if the script could not be left in the folder (56): nothing of it is done.
+/// An `Err` if the script could not be left in the folder (56): none of it is run.
 ///
-/// If it was answered, the writer got the answer's bytes and no other, and a fault is reported exactly if a line that is not
-/// within a source begins with `fault `, or the answer ends within one.
+/// If it was answered, the writer got exactly the answer's bytes, and a fault is reported exactly if a line that is not within a
+/// source begins with `fault `, or the answer ends within one.
 pub fn submit<S: Read, W: Write, E: Write>(
     layout: &FolderLayout,
     process: u32,

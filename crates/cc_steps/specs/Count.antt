@@ -9,7 +9,7 @@ pub record IsStepCount (source : Source) (bound : ℕ) (input : List ℕ) (count
   pub within : count ≤ bound
   -- within the count the run has the same output and result as within the bound
   pub comes : source_behavior source input count ≡ source_behavior source input bound
-  -- with fewer it is still going
+  -- with fewer steps the run is still going
   pub going : (n : ℕ) → n < count → (source_behavior source input n).stop ≡ outcome.Going
-  -- for a run that does not end it is the bound
+  -- if the run does not end within the bound, the count is the bound
   pub bound_is : (source_behavior source input bound).stop ≡ outcome.Going → count ≡ bound

@@ -14,15 +14,12 @@ use cc_answers::{Persons, Telling, explain_bad_line, explain_no_command, explain
 use cc_command_line::Submitter;
 use cc_screen::Screen;
 use cc_script::{Dialect, ScriptCommand, ScriptFault, command_of};
-use cc_sources::{Origin, join};
+use cc_sources::{MOST_READ, Origin, join};
 use cc_spool::{FolderLayout, SpoolFault, Submission, fault_lines, source_in, submit};
 use cc_task::Task;
 use cc_tasks::{perform_and_explain, perform_texts_and_explain, read_or_refuse};
 use std::alloc::{AllocError, Global};
 use std::io::{self, BufWriter, Input, Read, Write};
-
-/// The most bytes of a source that are sent: one more than a source may have, so that the server sees that it is too long.
-const MOST_SOURCE: usize = 65_537;
 
 const NO_MEMORY: &[u8] = b"fault 40 OutOfMemory\n";
 
@@ -132,7 +129,8 @@ fn source<R: Input>(rt: &R, alloc: Global, origin: Origin<'_>) -> io::Result<Vec
         Origin::Input => source_on_input(rt, alloc),
         Origin::Texts(texts) => {
             let mut source = join(alloc, texts)?;
-            source.truncate(MOST_SOURCE);
+            // One byte more than a source may have, so that the server sees that it is too long.
+            source.truncate(MOST_READ);
             Ok(source)
         }
     }
@@ -149,12 +147,12 @@ fn source_on_input<R: Input>(rt: &R, alloc: Global) -> io::Result<Vec<u8>> {
             Err(error) if error.kind() == io::ErrorKind::Interrupted => continue,
             Err(error) => return Err(error),
         };
-        if count == 0 || source.len() >= MOST_SOURCE {
+        if count == 0 || source.len() >= MOST_READ {
             break;
         }
         source.extend_from_slice(&piece[..count])?;
     }
-    source.truncate(MOST_SOURCE);
+    source.truncate(MOST_READ);
     Ok(source)
 }
 
@@ -681,7 +679,7 @@ pub fn submit_script<R: AllocGlobal + Input, A: Write + Drop, E: Write + Drop>(
         return Ok(1);
     };
     let mut was = join(alloc, found.as_slice())?;
-    was.truncate(MOST_SOURCE);
+    was.truncate(MOST_READ);
     let expected = if found.is_empty() {
         None
     } else {

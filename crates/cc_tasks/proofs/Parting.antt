@@ -6,12 +6,12 @@ use Rattle.cc_tasks.specs.Part.{IsNoPartIn, IsNoPartOn}
 use Rattle.cc_tasks.specs.declared.part.PartFault.{PartFault}
 use Rattle.cc_tasks.specs.declared.part.PartFault.TheVariants.{BadName, Absent, Library, OutOfMemory}
 
--- what holds for each answer
+-- a step from one property to another, for an answer
 pub of_ok : {A F : Type 0} {P Q : A → Type 0} → ((a : A) → P a → Q a) → (r : Result A F) → IfOk r P → IfOk r Q
 of_ok step (Ok a) p = step a p
 of_ok step (Err f) p = tt
 
--- and for each refusal
+-- a step from one property to another, for a refusal
 pub of_err : {A F : Type 0} {P Q : F → Type 0} → ((f : F) → P f → Q f) → (r : Result A F) → IfErr r P → IfErr r Q
 of_err step (Ok a) p = tt
 of_err step (Err f) p = step f p

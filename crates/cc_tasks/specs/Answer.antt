@@ -1,4 +1,4 @@
--- What the program answers of a text.
+-- What the program answers for a text.
 use Rattle.std.specs.Prelude.{ℕ, ◌≡◌, true, List, []}
 use Rattle.cc_ast.specs.Tree.{Source}
 use Rattle.cc_c_semantics.specs.Meaning.{source_behavior}
@@ -48,7 +48,7 @@ abbrev pub mode_of : Kind → Mode
 mode_of Plain = mode.Plain
 mode_of Checked = mode.Checked
 
--- what `run` answers: what an image does that agrees with the text, and follows what its program shows in the mode
+-- what `run` answers: what is done by an image that agrees with the text and follows what its program shows in the mode
 abbrev pub IsExecuted : Mode → (steps : ℕ) → (words text : List ℕ) → Answer → Type 0
 IsExecuted m steps words text (Executed done) = (image : Image) × Agree text image × AgreeIn m text image × IsRunOf image steps words done
 IsExecuted m steps words text answer = ⊥
@@ -69,7 +69,8 @@ abbrev pub IsListed : Mode → (text : List ℕ) → Answer → Type 0
 IsListed m text (Listed lines) = (image : Image) × Agree text image × AgreeIn m text image × (lines.items ≡ listing image)
 IsListed m text answer = ⊥
 
--- a text is an image as Intel HEX: its bytes at each address and nothing else, in order of address, and laid out so
+-- a text is an image as Intel HEX: it has the image's bytes at their addresses and nothing else, in the order of the addresses,
+-- laid out as `image_text` is
 pub record IsHex (text : List ℕ) (image : Image) : Type 0 where
   pub holds : Holds text image
   pub says : Says text image

@@ -1,4 +1,4 @@
-// What a person reads beside the answer: about a fault, and about a run that went wrong.
+// What a person reads besides the answer: about a fault, and about a run that went wrong.
 
 use super::fault::Fault;
 use cc_answers::{of_fault, words_of_task};
@@ -104,8 +104,8 @@ pub fn explanation_of_program(alloc: Global, text: &[u8]) -> Explanation {
     explanation
 }
 
-/// The explanation of a run of a text that goes wrong for a cause, if a task answered so: the place, the function, the values,
-/// and which calls are open. The run is repeated for that. Nothing if memory for it runs out.
+/// The explanation of a run of a text that goes wrong for a cause, if a task gave that answer: the place, the function, the
+/// values, and which calls are open. The run is repeated for that. Nothing if memory for it runs out.
 pub fn explanation_of_wrong(alloc: Global, task: &Task, text: &[u8], cause: Cause) -> Explanation {
     match task {
         Task::Interpret(steps, words) | Task::InterpretCounted(steps, words) => {
@@ -122,7 +122,7 @@ pub fn explanation_of_wrong(alloc: Global, task: &Task, text: &[u8], cause: Caus
     }
 }
 
-/// The most steps for which the program is interpreted to find where its image has stopped.
+/// At most this many steps of the program are interpreted to find where its image has stopped.
 const MOST_EXPLAINED: u64 = 100_000_000;
 
 // Why a program goes wrong on the input words within the steps. Nothing if it does not, or if it has too many open calls: no
@@ -141,8 +141,8 @@ fn stopping_cause(alloc: Global, text: &[u8], words: &[u32], steps: u64) -> Opti
 }
 
 /// The explanation of a run of an image that goes on. For a checked image it is the place at which it has stopped, if the program
-/// goes wrong within as many steps, 100,000,000 at most; otherwise it is the warnings of the text. The program is interpreted for
-/// that.
+/// goes wrong within the same number of steps, 100,000,000 at most; otherwise it is the warnings of the text. The program is
+/// interpreted for that.
 pub fn explanation_of_going(alloc: Global, task: &Task, text: &[u8]) -> Explanation {
     let (steps, words) = match task {
         Task::Run(Kind::Checked, steps, words) | Task::RunCounted(Kind::Checked, steps, words) => {
@@ -173,7 +173,7 @@ pub(crate) fn explanation_of_matter(
     }
 }
 
-// Writes each of some diagnostics.
+// Writes each of these diagnostics.
 fn write_each<W: Write>(
     alloc: Global,
     text: &[u8],
@@ -187,7 +187,7 @@ fn write_each<W: Write>(
     Ok(())
 }
 
-/// Writes the explanation of a text that comes from there.
+/// Writes the explanation of a text that comes from `origin`.
 pub fn write_explanation<W: Write>(
     alloc: Global,
     text: &[u8],

@@ -29,7 +29,7 @@ pub enum Fault {
     /// 25, 40: the pieces make no image.
     #[error(transparent)]
     Link(LinkFault),
-    /// 59: the program defines no function of the name that is asked for.
+    /// 59: the program defines no function with the name that is asked for.
     #[error("UnknownFunction")]
     UnknownFunction,
     /// 40: memory was refused as the text was read, or as an image ran.

@@ -111,7 +111,8 @@ fn slices_of(alloc: Global, names: &[Name]) -> Result<Vec<&[u8]>, AllocError> {
 }
 
 /// A part of the unit that the library on a disk keeps under this name, as `part_in` has it; the disk is handed back. Nothing is
-/// written to it. If no unit has the name, a near one is written to `explanations`; if that can't be written, it is left out.
+/// written to the disk. If no unit has the name, a near one is written to `explanations`; if that can't be written, it is left
+/// out.
 ///
 /// Refusals: first those of `Library::open`, 35, 38, 37 and 40; then those of `part_in`.
 pub fn take_out<D: Disk + Drop, E: Write>(
@@ -121,7 +122,7 @@ pub fn take_out<D: Disk + Drop, E: Write>(
     part: Part,
     explanations: &mut E,
 ) -> (Result<Vec<u8>, PartFault>, D)
-    // On an honest disk it is the part of the unit to which the disk recovers under that name.
+    // On an honest disk, the result is the part of the unit that has the name in the map to which the disk recovers.
     ensures part { IfOk result.0 (λ bytes. IsTrue D.honest → IsPartOn (D.seen disk) name.now part bytes.items) }
     // When each refusal comes.
     ensures refused { IfErr result.0 (λ fault. IsNoPartOn D.honest (D.seen disk) (D.failures disk) (D.failures result.1) name.now fault) }

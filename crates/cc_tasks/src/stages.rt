@@ -18,7 +18,7 @@ use cc_types::TypedUnit;
 use std::alloc::{AllocError, Global};
 use std::io::{self, Read, Write};
 
-// The program's fault for one of the stages.
+// The program's fault for a fault of the stages.
 fn fault_of(fault: StagesFault) -> Fault
     ensures { result ≡ fault_of_stages fault }
 {
@@ -31,8 +31,8 @@ fn fault_of(fault: StagesFault) -> Fault
     }
 }
 
-// Writes the stages of the functions of a text, or of the one of that name. If a fault comes later, what was written stays
-// written.
+// Writes the stages of the functions of a text, or of the one function with that name. If a fault comes later, what was written
+// stays written.
 fn show<W: Write>(
     alloc: Global,
     kind: Kind,
@@ -53,7 +53,7 @@ fn show<W: Write>(
     }
 }
 
-// Writes the stages, or the fault's line after what was written of them.
+// Writes the stages. If there is a fault, its line comes after what was written of them.
 fn tell<W: Write>(
     alloc: Global,
     kind: Kind,
@@ -71,7 +71,7 @@ fn tell<W: Write>(
     }
 }
 
-/// Shows the text of a reader.
+/// Shows what the compiler makes of the functions of a reader's text.
 pub(crate) fn try_stages<R: Read, W: Write>(
     alloc: Global,
     kind: Kind,
@@ -103,7 +103,7 @@ fn names_of(alloc: Global, unit: &TypedUnit) -> Result<Vec<&[u8]>, AllocError> {
     Ok(names)
 }
 
-// Writes that a text defines no function of this name, and which is near. It writes nothing if memory for that runs out.
+// Writes that a text defines no function of this name, and which one is near. It writes nothing if memory for that runs out.
 fn explain_name<W: Write>(
     alloc: Global,
     text: &[u8],
@@ -119,7 +119,7 @@ fn explain_name<W: Write>(
     }
 }
 
-/// Explains what was written of a text that comes from there.
+/// Explains what was written for a text that comes from `origin`.
 pub(crate) fn explain_stages<W: Write>(
     alloc: Global,
     function: Option<&[u8]>,
@@ -141,12 +141,12 @@ pub(crate) fn explain_stages<W: Write>(
     let _ = writer.flush();
 }
 
-/// Shows what the compiler makes of the functions of the text that `reader` has, or of the one of that name: writes the stages to
-/// `writer`, and the fault's line after them if there is a fault.
+/// Shows what the compiler makes of the functions of the text that `reader` has, or of the one with that name: writes the stages
+/// to `writer`, and the fault's line after them if there is a fault.
 ///
 /// The status is 0 if all is shown, and 1 for a fault. Faults are those of `asm`, and 59 if the text is a program that defines no
-/// function of that name; a function that is refused (22, 24) has the stages up to the one that says so. If a write fails (54),
-/// no line of it is written.
+/// function with that name; a function that is refused (22, 24) has the stages up to the one that says so. If a write fails (54),
+/// no line is written for that.
 pub fn perform_stages<H: AllocGlobal, R: Read, W: Write>(
     rt: &H,
     kind: Kind,

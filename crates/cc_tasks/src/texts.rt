@@ -103,8 +103,8 @@ pub fn perform_texts<H: AllocGlobal, W: Write>(
     done.status
 }
 
-/// Does a task as `carry_out_texts` does, and writes to `explanations` what `perform_and_explain` does, with the name of the text that a place
-/// lies in, and line and column there.
+/// Does a task as `carry_out_texts` does, and writes to `explanations` what `perform_and_explain` does, with the name of the text
+/// that a place lies in, and the line and column there.
 pub fn perform_texts_and_explain<H: AllocGlobal, W: Write, E: Write>(
     rt: &H,
     task: Task,
@@ -148,7 +148,7 @@ pub fn perform_stages_of_texts<H: AllocGlobal, W: Write>(
     status(performed)
 }
 
-/// The same, and explains as `perform_texts_and_explain` does.
+/// Shows functions as `perform_stages_of_texts` does, and explains as `perform_texts_and_explain` does.
 pub fn perform_and_explain_stages_of_texts<H: AllocGlobal, W: Write, E: Write>(
     rt: &H,
     kind: Kind,

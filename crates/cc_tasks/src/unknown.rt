@@ -15,7 +15,7 @@ fn write_shown<W: Write>(word: &[u8], writer: &mut W) -> io::Result<()> {
     Ok(())
 }
 
-// Writes the first of these names.
+// Writes the first few of these names.
 fn write_names<W: Write>(names: &[&[u8]], writer: &mut W) -> io::Result<()> {
     for (i, name) in names.iter().take(MOST_NAMES).enumerate() {
         writer.write_all(if i == 0 { b": there is '" } else { b", '" })?;
@@ -29,7 +29,7 @@ fn write_names<W: Write>(names: &[&[u8]], writer: &mut W) -> io::Result<()> {
 }
 
 /// Writes that nothing of this kind, for example no function, has the name, and which of the existing names is near; if no name
-/// is near, the first of them.
+/// is near, the first few of them.
 pub fn explain_unknown<W: Write>(
     kind: &str,
     name: &[u8],

@@ -42,7 +42,7 @@ fn write_outcome<W: Write>(outcome: &Outcome, writer: &mut W) -> io::Result<()>
     write_stop(outcome.stop, writer)
 }
 
-// Writes the line of a number of steps.
+// Writes the line for a number of steps.
 fn write_steps<W: Write>(steps: u64, writer: &mut W) -> io::Result<()>
     ensures { OnOk result (Appends (W.contents writer.old) (W.contents writer.new) (steps_text steps)) }
 {
@@ -57,7 +57,7 @@ fn write_counted_outcome<W: Write>(done: &CountedOutcome, writer: &mut W) -> io:
     write_steps(done.steps, writer)
 }
 
-/// Writes an answer: the lines that `perform` writes of it.
+/// Writes an answer: the lines that `perform` writes for it.
 pub fn write_answer<W: Write>(answer: &Answer, writer: &mut W) -> io::Result<()>
     ensures { OnOk result (Appends (W.contents writer.old) (W.contents writer.new) (answer_text answer.now)) }
 {
@@ -125,7 +125,8 @@ fn matter_of(answer: &Answer) -> Matter
     }
 }
 
-/// Writes the line of a fault of a text, and flushes the writer: the fault, or 54 if its line could not be written.
+/// Writes the line for a fault of a text, and flushes the writer. The result is the fault, or 54 if its line could not be
+/// written.
 #[tactic(auto, using(crate::proofs::Working::refused_by))]
 pub(crate) fn refused<W: Write>(fault: Fault, text: &[u8], writer: &mut W) -> Fault
     ensures { RefusesBy fault text.now (W.contents writer.old) (W.contents writer.new) result }
@@ -209,7 +210,7 @@ pub(crate) fn try_perform<R: Read, W: Write>(
     }
 }
 
-/// Explains how a task ended for a text that comes from there.
+/// Explains how a task ended for a text that comes from `origin`.
 pub(crate) fn explain<W: Write>(
     alloc: Global,
     task: &Task,
@@ -271,7 +272,7 @@ pub(crate) fn status(performed: Performed) -> u8
 pub struct Done {
     /// The status: that of the answer, and 1 for a fault.
     pub status: u8,
-    /// Whether all that was to be written is written. If it is not, that is 54, and the status is 1.
+    /// Whether all that was to be written is written. If not, the fault is 54, and the status is 1.
     pub is_written: bool,
 }
 
@@ -341,7 +342,7 @@ pub fn perform<H: AllocGlobal, R: Read, W: Write>(
 /// Does a task as `carry_out` does, and writes to `explanations` what helps a person with a fault or with a run that went wrong:
 /// the place, as editors read it, what was found there and what was expected, and the line of the text. It does the same for a
 /// checked image that has stopped in place; for another program it writes the warnings. If a write to `writer` fails, it says so.
-/// If memory for an explanation runs out, or it can not be written, there is none; the status is the same.
+/// If memory for an explanation runs out, or it cannot be written, there is none; the status is the same.
 pub fn perform_and_explain<H: AllocGlobal, R: Read, W: Write, E: Write>(
     rt: &H,
     task: Task,

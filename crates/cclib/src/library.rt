@@ -2,14 +2,14 @@
 
 ghost use Rattle.std.specs.Prelude.{◌≤◌};
 
-use cc_answers::{Persons, Telling, greet};
+use cc_answers::{Persons, greet};
 use cc_command_line::Session;
-use cc_filing::{disk_of, no_disk, tell_wide_disk};
+use cc_filing::{buffers, disk_of, no_disk, tell_wide_disk};
 use cc_session::{Gate, SessionEnd, session_and_explain_in};
 use cc_tasks::mode_of;
 use cc_watch::{AnswerProgress, FaultWatch};
 use std::alloc::AllocError;
-use std::io::{BufWriter, Input, IsTerminal, Write};
+use std::io::{Input, IsTerminal, Write};
 use std::rt::Clock;
 use std::sync::Wait;
 use std::thread::Threads;
@@ -59,12 +59,7 @@ where
     requires some { 1 ≤ asked.now.workers }
     requires few { asked.now.workers ≤ 8 }
 {
-    let (Ok(buffered), Ok(errors)) = (
-        BufWriter::new(rt.alloc(), answers),
-        BufWriter::new(rt.alloc(), errors),
-    ) else {
-        return Err(AllocError);
-    };
+    let (buffered, mut told) = buffers(rt.alloc(), answers, errors, persons.is_quiet)?;
     let is_shown = persons.is_watched && !persons.is_quiet;
     let screen = if is_shown && is_out_of_sight(files) {
         Some(files.stderr())
@@ -77,10 +72,6 @@ where
         screen,
         "lines of answers",
     );
-    let mut told = Telling {
-        errors,
-        is_quiet: persons.is_quiet,
-    };
     let disk = match disk_of(files, asked.disk.as_str(), asked.area) {
         Ok(disk) => disk,
         Err(reason) => return Ok(no_disk(reason, asked.disk.as_str(), &mut writer, &mut told)),

@@ -80,7 +80,7 @@ a negative one is written modulo 4294967296: 4294967293 for -3.
 Exit status: 0 for an answer, 1 for a fault, 2 for a command line that is refused.
 ";
 
-// Whether the command line is answered by that text, with status 0.
+// Whether the command line is answered with that text, with status 0.
 fn is_answered_by(alloc: Global, words: &'static [&'static str], wanted: &str) -> bool {
     match printed(alloc, words) {
         Some((status, text)) => status == 0 && text.as_str() == wanted,

@@ -48,7 +48,7 @@ fn repeated_parts(rt: HostRuntime) {
     }
 }
 
-// Blocks within one another, and the line that `check` writes.
+// Nested blocks, and the line that `check` writes.
 #[test]
 fn levels_of_statements(rt: HostRuntime) {
     let within = [("int main(void){", 1), ("{", 63), ("}", 64)];

@@ -5,7 +5,7 @@ use cc_task::Task;
 use cc_tasks::perform;
 use std::alloc::{AllocError, Global};
 
-// Small programs, the steps of each run, what it writes on no input and how it ends.
+// Small programs, how many steps each run may have, what it writes without input, and how it ends.
 static PROGRAMS: [(&str, u64, &str); 31] = [
     // the empty main
     ("int main(void){}", 1, "ended 0\n"),
@@ -84,7 +84,7 @@ static PROGRAMS: [(&str, u64, &str); 31] = [
         9,
         "44\n255\n8\n-16777216\n1\nended 0\n",
     ),
-    // by an index that is no constant; `-1` becomes unsigned beside `1u`, and stays `int` beside a promoted byte
+    // with an index that is no constant; `-1` becomes unsigned together with `1u`, and stays `int` together with a promoted byte
     (
         "unsigned char c[5];int main(void){int i,n=1,s=0;for(i=0;i<5;i++)c[i]=i*70;for(i=0;i<5;i++){c[i]/=2u;write_word(c[i]);s+=c[i]+((n?c[i]:1u)>-1);}write_word(s);return (n?c[4]:1)>-1;}",
         100,
@@ -229,7 +229,7 @@ fn has_fault<H: AllocGlobal>(rt: &H, text: &[u8]) -> bool {
         && is_one_line(written.as_slice())
 }
 
-// A text that ends anywhere is a program or has one fault line.
+// Wherever a text is cut off, it is a program or has one fault line.
 fn prefixes_have_faults<H: AllocGlobal>(rt: &H, text: &[u8]) -> bool {
     for end in 0..text.len() {
         if !has_fault(rt, &text[..end]) {

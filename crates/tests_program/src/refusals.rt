@@ -1,4 +1,4 @@
-// What `check` refuses, and at which place. If a text has several faults, the first one in it is answered.
+// What `check` refuses, and at which place. If a text has several faults, the first one in it is reported.
 
 use super::helpers::checks;
 use cc_link::PieceFault;

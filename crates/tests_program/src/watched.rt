@@ -37,7 +37,7 @@ static IN_JSON: [&[&str]; 14] = [
     &["cclib", "--json", "submit", "a", "add", "b"],
 ];
 
-// Command lines that are refused with the option.
+// Command lines that are refused with `--json`.
 static NO_JSON: [&[&str]; 12] = [
     &["cclib", "--json", "asm"],
     &["cclib", "--json", "image"],
@@ -104,7 +104,7 @@ fn trace_words(rt: HostRuntime) {
     );
 }
 
-// Whether runs are asked for whose inputs are in this file.
+// Whether runs are asked for with the inputs in this file.
 fn has_lines(asked: &Covered, name: &str) -> bool {
     let is_named = match &asked.lines {
         Some(lines) => lines.as_str() == name,
@@ -131,7 +131,7 @@ fn covers_lines(alloc: Global, words: &'static [&'static str], name: &str) -> bo
     }
 }
 
-// Command lines of the two that are refused.
+// Command lines of `trace` and `cover` that are refused.
 static REFUSED: [&[&str]; 11] = [
     &["cclib", "trace"],
     &["cclib", "trace", "1000000001"],

@@ -1,4 +1,4 @@
-// Records that reading ahead cuts in two: what is read at once ends within a gate's record, at each of its first bytes, and
+// Records that reading ahead cuts in two: what is read in one go ends within a gate's record, at each of its first bytes, and
 // within a body.
 
 use crate::helpers::{holds, opened};
@@ -11,7 +11,7 @@ use tests_texts::verdict::passes;
 // How many bytes are read ahead, from the beginning of an area on when it is opened.
 const AHEAD: usize = 65_536;
 
-// This many bytes, each of which shows its place.
+// This many bytes, whose values show their places.
 fn counted(alloc: Global, length: usize) -> Result<Vec<u8>, Fail> {
     let mut bytes = Vec::with_capacity(alloc, length)?;
     for i in 0..length {

@@ -34,7 +34,7 @@ fn recall(kept: &[(usize, u8)], offset: usize, buffer: &mut [u8]) {
     }
 }
 
-// Sets those that are kept.
+// Sets those of these bytes that are kept.
 fn keep(kept: &mut [(usize, u8)], offset: usize, bytes: &[u8]) {
     for (at, byte) in kept.iter_mut() {
         let i = at.wrapping_sub(offset);

@@ -35,7 +35,8 @@ pub fn store(names: &Environment<'_>, applied: Option<BinaryOperation>, name: &[
     }
 }
 
-/// The same for an element of an array, whose index is below the word.
+/// The instruction that stores a word in an element of an array, or applies an operation as `store` does; the index is below the
+/// word.
 pub fn store_element(
     names: &Environment<'_>,
     applied: Option<BinaryOperation>,

@@ -69,7 +69,7 @@ abbrev pub branch_of : Table → Step → Option Test → (steps : List Step) �
 branch_of t step None steps = None
 branch_of t step (Some v) steps = if is_last t v steps then branch_on step v else None
 
--- the same for the step that a list begins with
+-- the one branch for the step that a list begins with, and the steps after it
 abbrev pub first_branch : Table → List Step → Option Step
 first_branch t [] = None
 first_branch t (step ∷ []) = None

@@ -6,7 +6,7 @@ use Rattle.cc_spool.specs.declared.lines.Lines.{Lines}
 use Rattle.cc_spool.specs.declared.submission.Side.{Side}
 use Rattle.cc_spool.specs.declared.submission.Side.TheVariants.{Reader, Writer}
 
--- the reader gave these bytes, as many as `count` says, and the writer got them and no other; they were read; none only at the
+-- the reader gave these bytes, `count` of them, the writer got exactly these, and they were read; `count` is 0 only at the
 -- reader's end
 pub record HasPassed (held left old new : Option (List ℕ)) (before after : Lines) (count : ℕ) : Type 0 where
   pub bytes : List ℕ
@@ -21,8 +21,8 @@ PassesOn held left old new before after (Ok count) = HasPassed held left old new
 PassesOn held left old new before after (Err (Reader why)) = new ≡ old
 PassesOn held left old new before after (Err (Writer why)) = Unit {0}
 
--- the reader gave these bytes, all that it had or as many as are asked for; the writer got them and no other, and reading them
--- gives these lines
+-- the reader gave these bytes, all that it had or as many as are asked for; the writer got exactly these, and reading them gives
+-- these lines
 pub record IsCopied (most : ℕ) (held left old new : Option (List ℕ)) (lines : Lines) : Type 0 where
   pub bytes : List ℕ
   pub given : Consumes held left bytes

@@ -12,7 +12,7 @@ is_within Behind = true
 is_within Broken = true
 is_within place = false
 
--- the fault that is reported last if an answer ends here: 55 if that is within a source
+-- the fault that is reported last if an answer ends here: 55 if it ends within a source
 abbrev pub last_told : Lines → Option ℕ
 last_told lines = if is_within lines.place then Some 55 else lines.last
 

@@ -1,4 +1,4 @@
--- What the type of a pair guarantees: of the pair that was passed, and so of the guarded code.
+-- What the type of a pair guarantees holds for the pair that was passed, and so for the pair with the guarded code.
 use Rattle.std.proofs.Common.{refl}
 use Rattle.std.specs.Arc.{arc_value}
 use Rattle.cc_c_semantics.specs.declared.mode.Mode.TheVariants.{Checked}

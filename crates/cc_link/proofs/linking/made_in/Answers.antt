@@ -1,4 +1,4 @@
--- Each step's answer, by the lemma of Answering that it needs.
+-- What each step answers, by the lemma of Answering that it needs.
 use Rattle.std.proofs.Common.{◌≡◌, ◌<◌, ◌≤◌, ◌⊎◌, inl, inr, ℕ, List, [], None, Err, false, true, refl, sym, ap, subst, ◌∙◌}
 use Rattle.std.proofs.lemmas.Bool.{cases_lt}
 use Rattle.std.specs.Arc.{arc_value}
@@ -134,7 +134,7 @@ returns-clause-answer c =
     ap (λ (v : parsed.Unit). linked_in c.args.mode (source v) ps) (sym c.deref-unit.ensures)
     ∙ answer_is c.args.mode s ps c.functions.result a b c.functions.ensures os fs c.in-Ok.ensures.none o i (arc_value c.in-Ok-stored.made) few c.in-Ok-stored.ensures
 
--- it follows in the mode, and so agrees
+-- the image follows its program in the mode, and so agrees with its text
 pub returns-clause-agrees : goal.returns-clause-agrees
 returns-clause-agrees c = c.linked_units_follow.ensures.agree c.args.mode _ _ (returns-clause-follows c)
 

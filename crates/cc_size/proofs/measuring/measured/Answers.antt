@@ -1,4 +1,4 @@
--- The pieces in the order of definitions, and what the tables over them have of main.
+-- The pieces are put in the order of definitions, and the tables over them have the figures for main.
 use Rattle.std.proofs.Common.{◌≡◌, ℕ, List, length, get_or, ◌*◌, ap, ◌∙◌, subst}
 use Rattle.std.specs.Borrow.{Bor}
 use Rattle.cc_ast.specs.Source.{source}

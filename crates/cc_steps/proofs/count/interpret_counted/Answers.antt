@@ -1,4 +1,4 @@
--- A run that is still going.
+-- If the run is still going, the count is the bound.
 use Rattle.std.proofs.Common.{rules, ◌≡◌}
 use Rattle.cc_ast.specs.Source.{source}
 use Rattle.cc_c_semantics.specs.Meaning.{source_behavior}

@@ -1,4 +1,4 @@
--- The search by bisection.
+-- Bisection keeps the invariant.
 use Rattle.std.proofs.Common.{rules, arith, ◌≡◌, ◌+◌, ◌<◌, ◌≤◌, ℕ}
 use Rattle.cc_ast.specs.Source.{source}
 use Rattle.cc_c_semantics.specs.Meaning.{source_behavior}

@@ -1,4 +1,5 @@
--- The calls of the library with its history say what the core and a crash see of them; the type keeps the rest by that alone.
+-- The calls of the library with its history say what the core and a crash see of them; that is enough for all that the type
+-- keeps.
 use Rattle.std.proofs.Common.{IsTrue, List, sym, subst}
 use Rattle.cc_headline.specs.Compiling.{compiling, Keeps}
 use Rattle.cc_recorded.specs.Book.{BookView}

@@ -1,5 +1,5 @@
--- Three exits put an entry in: those with a receipt. At each the types of book and client keep what they keep, and the call is recorded,
--- all by `entering`. After the device has failed, the book keeps the change that failed.
+-- Three exits put an entry in: those with a receipt. At each of them `entering` shows that what the types of the book and the
+-- client keep still holds, and that the call is recorded. After the device has failed, the book keeps the change that failed.
 use Rattle.std.proofs.Common.{◌≡◌, ◌+◌, ◌≤◌, false, IsTrue, List, [], ◌∷◌, ◌++◌, length, refl, sym, ap, ◌∙◌, subst}
 use Rattle.cc_disk.specs.Images.{LeavesOnly}
 use Rattle.cc_library.specs.Change.{LibraryCommand}
@@ -26,7 +26,7 @@ use Rattle.cc_recorded.proofs.Committing.{entering, receipt_is, keeps_failed, do
 use Rattle.cc_recorded.proofs.recorded.RecordedLibrary.commit.Given.{Over}
 use Rattle.cc_recorded.proofs.recorded.RecordedLibrary.commit.Goals as goal
 
-exists_facts : (g : Over) (c : goal.Joined-change-3 g)
+exists_facts : (g : Over) (c : goal.Joined-change-2 g)
     → IsRecordedLibrary g.D.Disk g.N.Based.base c.enter.new.calls.total (record { base = c.self.inside.base; library = c.self.inside.library; history = c.enter.new.history.items; failed = c.self.inside.failed.items })
     × IsMember (record { number = c.client.inside.number; receipts = c.enter.new.receipts.items }) c.enter.new.share.parts c.enter.new.share.amount
     × IsRecorded (record { base = c.self.inside.base; units = c.self.inside.library.units; history = c.self.inside.history.items }) (record { number = c.client.inside.number; receipts = c.client.inside.receipts.items }) (Change c.args.command) reply.Exists
@@ -71,7 +71,7 @@ returns-in-Exists g c =
           }));
     }
 
-absent_facts : (g : Over) (c : goal.Joined-change-4 g)
+absent_facts : (g : Over) (c : goal.Joined-change-3 g)
     → IsRecordedLibrary g.D.Disk g.N.Based.base c.enter-in-Absent.new.calls.total (record { base = c.self.inside.base; library = c.self.inside.library; history = c.enter-in-Absent.new.history.items; failed = c.self.inside.failed.items })
     × IsMember (record { number = c.client.inside.number; receipts = c.enter-in-Absent.new.receipts.items }) c.enter-in-Absent.new.share.parts c.enter-in-Absent.new.share.amount
     × IsRecorded (record { base = c.self.inside.base; units = c.self.inside.library.units; history = c.self.inside.history.items }) (record { number = c.client.inside.number; receipts = c.client.inside.receipts.items }) (Change c.args.command) reply.Absent
@@ -117,10 +117,10 @@ returns-in-Absent g c =
     }
 
 done_facts : (g : Over) (c : goal.After-enter-in-Ok-change g)
-    → IsRecordedLibrary g.D.Disk g.N.Based.base c.enter-in-Ok-change.new.calls.total (record { base = c.self.inside.base; library = c.change-in-Done.new.self; history = c.enter-in-Ok-change.new.history.items; failed = c.self.inside.failed.items })
+    → IsRecordedLibrary g.D.Disk g.N.Based.base c.enter-in-Ok-change.new.calls.total (record { base = c.self.inside.base; library = c.change.new.self; history = c.enter-in-Ok-change.new.history.items; failed = c.self.inside.failed.items })
     × IsMember (record { number = c.client.inside.number; receipts = c.enter-in-Ok-change.new.receipts.items }) c.enter-in-Ok-change.new.share.parts c.enter-in-Ok-change.new.share.amount
     × IsRecorded (record { base = c.self.inside.base; units = c.self.inside.library.units; history = c.self.inside.history.items }) (record { number = c.client.inside.number; receipts = c.client.inside.receipts.items }) (Change c.args.command) reply.Done
-    (record { base = c.self.inside.base; units = c.change-in-Done.new.self.units; history = c.enter-in-Ok-change.new.history.items }) (record { number = c.client.inside.number; receipts = c.enter-in-Ok-change.new.receipts.items }) c.enter-in-Ok-change.result
+    (record { base = c.self.inside.base; units = c.change.new.self.units; history = c.enter-in-Ok-change.new.history.items }) (record { number = c.client.inside.number; receipts = c.enter-in-Ok-change.new.receipts.items }) c.enter-in-Ok-change.result
 done_facts g c =
     let before : BookView g.row.D.Denot = record { base = c.self.inside.base; library = c.self.inside.library; history = c.self.inside.history.items; failed = c.self.inside.failed.items } in
     let old : MemberView = record { number = c.client.inside.number; receipts = c.client.inside.receipts.items } in
@@ -131,11 +131,11 @@ done_facts g c =
     let replied : reply.Done ≡ reply_of_change (apply before.library.units c.args.command) = sym (ap answer_reply c.in-Done.is) ∙ c.decide-answer.ensures ∙ ap (λ (k : LibraryCommand). reply_of_change (apply before.library.units k)) c.in-Ok-change_of.ensures.change in
     let entry : o.history ≡ entry_of old (Change c.args.command) reply.Done = c.in-Ok-prepare.ensures.owners.0 ∙ (λ i. record { client = old.number; call = count i + 1; asked = Change c.args.command; reply = answered i }) in
     let r = receipt_is c.enter-in-Ok-change.result (length c.prepare.new.history.items + 1) o.history c.enter-in-Ok-change.ensures.receipt in
-    entering c.calls_are_recorded.ensures g.D.Disk g.N.Based.base c.self.inside.calls.total c.enter-in-Ok-change.new.calls.total before c.change-in-Done.new.self old c.client.inside.share.parts c.client.inside.share.amount c.enter-in-Ok-change.new.share.parts c.enter-in-Ok-change.new.share.amount
+    entering c.calls_are_recorded.ensures g.D.Disk g.N.Based.base c.self.inside.calls.total c.enter-in-Ok-change.new.calls.total before c.change.new.self old c.client.inside.share.parts c.client.inside.share.amount c.enter-in-Ok-change.new.share.parts c.enter-in-Ok-change.new.share.amount
     (Change c.args.command) reply.Done c.enter-in-Ok-change.new.history.items c.enter-in-Ok-change.new.receipts.items c.enter-in-Ok-change.result c.self.invariant c.client.invariant stood replied c.in-Ok-change_of.ensures.agrees
     (r.0 ∙ ap (λ (h : List Entry). length h + 1) c.in-Ok-prepare.ensures.history) (r.1 ∙ entry)
     (c.enter-in-Ok-change.ensures.history ∙ (λ i. c.in-Ok-prepare.ensures.history i ++ sym r.1 i ∷ [])) (c.enter-in-Ok-change.ensures.receipts ∙ ap (λ (l : List Receipt). l ++ c.enter-in-Ok-change.result ∷ []) c.in-Ok-prepare.ensures.receipts)
-    c.enter-in-Ok-change.ensures.total c.enter-in-Ok-change.ensures.parts c.enter-in-Ok-change.ensures.amount (ap (λ (v : View g.row.D.Denot). v.units) c.in-Ok-change.ensures.changed.leaves ∙ ap (λ (k : LibraryCommand). after c.self.inside.library.units k) c.in-Ok-change_of.ensures.change) (ap (λ (v : View g.row.D.Denot). v.closed) c.in-Ok-change.ensures.changed.leaves ∙ sym (sym c.is_closed.ensures ∙ c.if-is_closed.false)) (λ h image left. subst (λ (l : List LibraryCommand). RecoversTo c.change-in-Done.new.self.units l image) (sym (c.self.invariant.idle (sym c.is_closed.ensures ∙ c.if-is_closed.false))) (c.in-Ok-change.ensures.changed.kept h image left))
+    c.enter-in-Ok-change.ensures.total c.enter-in-Ok-change.ensures.parts c.enter-in-Ok-change.ensures.amount (ap (λ (v : View g.row.D.Denot). v.units) c.in-Ok-change.ensures.changed.leaves ∙ ap (λ (k : LibraryCommand). after c.self.inside.library.units k) c.in-Ok-change_of.ensures.change) (ap (λ (v : View g.row.D.Denot). v.closed) c.in-Ok-change.ensures.changed.leaves ∙ sym (sym c.is_closed.ensures ∙ c.if-is_closed.false)) (λ h image left. subst (λ (l : List LibraryCommand). RecoversTo c.change.new.self.units l image) (sym (c.self.invariant.idle (sym c.is_closed.ensures ∙ c.if-is_closed.false))) (c.in-Ok-change.ensures.changed.kept h image left))
 
 pub invariant_of-self-in-Ok-change : goal.invariant_of-self-in-Ok-change
 invariant_of-self-in-Ok-change g c = (done_facts g c).0
@@ -148,7 +148,7 @@ returns-in-Ok-change g c =
     let D = g.D.Disk in
     let before : BookView g.row.D.Denot = record { base = c.self.inside.base; library = c.self.inside.library; history = c.self.inside.history.items; failed = c.self.inside.failed.items } in
     let old : MemberView = record { number = c.client.inside.number; receipts = c.client.inside.receipts.items } in
-    let after_it : BookView g.row.D.Denot = record { base = c.self.inside.base; library = c.change-in-Done.new.self; history = c.enter-in-Ok-change.new.history.items; failed = c.self.inside.failed.items } in
+    let after_it : BookView g.row.D.Denot = record { base = c.self.inside.base; library = c.change.new.self; history = c.enter-in-Ok-change.new.history.items; failed = c.self.inside.failed.items } in
     let new : MemberView = record { number = c.client.inside.number; receipts = c.enter-in-Ok-change.new.receipts.items } in
     let idle : before.library.closed ≡ false = sym c.is_closed.ensures ∙ c.if-is_closed.false in
     let is : c.in-Ok-change_of.change ≡ c.args.command = c.in-Ok-change_of.ensures.change in
@@ -159,11 +159,11 @@ returns-in-Ok-change g c =
       asked = record { idle = idle; stands = recorded.stood; accepted = done_is_ok (apply before.library.units c.args.command) (sym replied) };
       fits = subst (λ (k : LibraryCommand). room_with before.library k ≤ before.library.area) is answers.1;
       recorded = recorded;
-      library = c.in-Ok-change.ensures.changed.leaves ∙ (λ i. record { disk = c.change-in-Done.new.self.disk; area = before.library.area; bodies = before.library.bodies ++ body_of (is i) ∷ []; units = after before.library.units (is i); closed = false });
+      library = c.in-Ok-change.ensures.changed.leaves ∙ (λ i. record { disk = c.change.new.self.disk; area = before.library.area; bodies = before.library.bodies ++ body_of (is i) ∷ []; units = after before.library.units (is i); closed = false });
       failed = refl;
     } in
     let answered : Result Receipt BookFault = Ok c.enter-in-Ok-change.result in
-    let library = c.change-in-Done.new.self in
+    let library = c.change.new.self in
     record {
       changed = subst (λ (b : BookView g.row.D.Denot). IsBookChanged D b c.args.client.now c.args.command after_it new answered) c.self.view_is
           (subst (λ (h : MemberView). IsBookChanged D before h c.args.command after_it new answered) c.client.view_is
@@ -180,15 +180,15 @@ pub invariant_of-self-in-Err-DiskFault : goal.invariant_of-self-in-Err-DiskFault
 invariant_of-self-in-Err-DiskFault g c =
     let before : BookView g.row.D.Denot = record { base = c.self.inside.base; library = c.self.inside.library; history = c.self.inside.history.items; failed = c.self.inside.failed.items } in
     let idle : before.library.closed ≡ false = sym c.is_closed.ensures ∙ c.if-is_closed.false in
-    (keeps_failed g.D.Disk g.N.Based.base c.self.inside.calls.total before c.change-in-Done.new.self c.prepare.new.history.items c.and-failing.result.items c.args.command c.in-Ok-change_of.change
-    c.self.invariant c.in-Ok-change_of.ensures.agrees c.in-Ok-prepare.ensures.history c.and-failing.ensures idle (rw c.in-Err-DiskFault.field-0-is at c.in-Err-DiskFault.ensures.changed.leaves) c.in-Ok-change_of.ensures.change (λ h image left. c.change-in-Done.ensures.changed.images h idle image left)).1
+    (keeps_failed g.D.Disk g.N.Based.base c.self.inside.calls.total before c.change.new.self c.prepare.new.history.items c.and-failing.result.items c.args.command c.in-Ok-change_of.change
+    c.self.invariant c.in-Ok-change_of.ensures.agrees c.in-Ok-prepare.ensures.history c.and-failing.ensures idle (rw c.in-Err-DiskFault.field-0-is at c.in-Err-DiskFault.ensures.changed.leaves) c.in-Ok-change_of.ensures.change (λ h image left. c.change.ensures.changed.images h idle image left)).1
 
 pub returns-in-Err-DiskFault : goal.returns-in-Err-DiskFault
 returns-in-Err-DiskFault g c =
     let D = g.D.Disk in
     let before : BookView g.row.D.Denot = record { base = c.self.inside.base; library = c.self.inside.library; history = c.self.inside.history.items; failed = c.self.inside.failed.items } in
     let old : MemberView = record { number = c.client.inside.number; receipts = c.client.inside.receipts.items } in
-    let library = c.change-in-Done.new.self in
+    let library = c.change.new.self in
     let after_it : BookView g.row.D.Denot = record { base = c.self.inside.base; library = library; history = c.prepare.new.history.items; failed = c.and-failing.result.items } in
     let new : MemberView = record { number = c.client.inside.number; receipts = c.prepare.new.receipts.items } in
     let answered : Result Receipt BookFault = Err DiskFault in
@@ -200,7 +200,7 @@ returns-in-Err-DiskFault g c =
     let leaves = rw c.in-Err-DiskFault.field-0-is at c.in-Err-DiskFault.ensures.changed.leaves in
     let fails = rw c.in-Err-DiskFault.field-0-is at c.in-Err-DiskFault.ensures.changed.disk in
     let facts = keeps_failed D g.N.Based.base c.self.inside.calls.total before library c.prepare.new.history.items c.and-failing.result.items c.args.command c.in-Ok-change_of.change
-    c.self.invariant c.in-Ok-change_of.ensures.agrees c.in-Ok-prepare.ensures.history c.and-failing.ensures idle leaves is (λ h image left. c.change-in-Done.ensures.changed.images h idle image left) in
+    c.self.invariant c.in-Ok-change_of.ensures.agrees c.in-Ok-prepare.ensures.history c.and-failing.ensures idle leaves is (λ h image left. c.change.ensures.changed.images h idle image left) in
     record {
       changed = subst (λ (b : BookView g.row.D.Denot). IsBookChanged D b c.args.client.now c.args.command after_it new answered) c.self.view_is
           (subst (λ (h : MemberView). IsBookChanged D before h c.args.command after_it new answered) c.client.view_is
@@ -214,7 +214,7 @@ returns-in-Err-DiskFault g c =
             );
             disk = λ h. subst (λ (k : LibraryCommand). ChangesDisk {T = Receipt} D k before.library library (Err DiskFault)) is (fails h);
             moments = λ h usable. subst (λ (k : LibraryCommand). LeavesOnly D.moment D.left_since before.library.disk library.disk (RecoversOneOf before.library.units (after before.library.units k))) is
-                (c.change-in-Done.ensures.changed.moments h usable);
+                (c.change.ensures.changed.moments h usable);
             kept = facts.1.images;
           }));
     }

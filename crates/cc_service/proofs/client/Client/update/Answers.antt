@@ -24,7 +24,7 @@ returns-in-Err-clause-answers g c =
     look_refused g.D.Disk before c.look.new.book.book old c.look.new.self.member c.args.name c.args.expected.now (Replace c.args.name c.args.unit) c.in-Err.fault (search rules)
     (subst (λ (n : List ℕ). LookAnswers before old (Fetch n) c.look.new.book.book c.look.new.self.member (Err c.in-Err.fault)) same c.in-Err.ensures.answers)
 
--- ---- what it leaves on the disk
+-- ---- what an update leaves on the disk
 
 pub returns-then-is_closed-clause-moments : goal.returns-then-is_closed-clause-moments
 returns-then-is_closed-clause-moments g c =

@@ -1,4 +1,4 @@
--- 32, 60, or the change.
+-- The answer is 32, 60, or that of the change.
 use Rattle.std.proofs.Common.{Err, Ok, inl, inr, refl, rules}
 use Rattle.cc_library.specs.declared.command.Change.TheVariants.{Replace}
 use Rattle.cc_service.proofs.Updating.{nothing_at_once}

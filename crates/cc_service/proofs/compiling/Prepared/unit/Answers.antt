@@ -1,4 +1,4 @@
--- The ticket is of the unit, so the pieces are those of its functions.
+-- The ticket is for the unit, so the pieces are those of its functions.
 use Rattle.std.proofs.Common.{ℕ, List, sym, subst}
 use Rattle.std.specs.Arc.{arc_value}
 use Rattle.cc_ast.specs.Source.{source}

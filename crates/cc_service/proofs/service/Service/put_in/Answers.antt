@@ -1,4 +1,4 @@
--- A text that is handed in is put as its text; one that cannot be handed in is refused as one that was not compiled.
+-- If a text is handed in, what is put is a unit of it; if it cannot be handed in, it is refused like one that was not compiled.
 use Rattle.std.proofs.Common.{ℕ, List, refl, sym, ap, subst}
 use Rattle.cc_c_semantics.specs.declared.mode.Mode.{Mode}
 use Rattle.cc_pool.specs.declared.item.Item.{Item}

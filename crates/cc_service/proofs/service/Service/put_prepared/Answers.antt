@@ -1,4 +1,4 @@
--- The unit is one of the prepared text.
+-- The unit was compiled from the prepared text.
 use Rattle.std.proofs.Common.{ℕ, List, refl, subst}
 use Rattle.cc_history.specs.Calls.{Command}
 use Rattle.cc_service.specs.Serving.{Puts}
@@ -13,11 +13,11 @@ returns-in-Ok-unit-clause-answers g c =
     let Asks : Command → Type 0 = Puts c.args.put mode name text in
     let command = c.change_of.result in
     let asked = subst (λ (n : List ℕ). Puts c.args.put mode n text command) c.in-Ok.ensures.answer (c.change_of.ensures mode text (c.in-Ok-unit.ensures.source, c.in-Ok-unit.ensures.agrees, c.in-Ok-unit.ensures.follows)) in
-    put Asks command asked c.args.client.now.member c.change.new.client.member mode name text (c.in-Ok.ensures.answers.0 refl) c.in-Ok-unit.ensures.program c.change.result c.change.ensures.answers
+    put Asks command asked c.args.client.now.member c.change-answer.new.client.member mode name text (c.in-Ok.ensures.answers.0 refl) c.in-Ok-unit.ensures.program c.change-answer.result c.change-answer.ensures.answers
 
 pub returns-in-Ok-unit-clause-past_text : goal.returns-in-Ok-unit-clause-past_text
 returns-in-Ok-unit-clause-past_text g c =
-    past_text c.change_of.result c.args.client.now.member c.change.new.client.member c.change.result c.change.ensures.answers
+    past_text c.change_of.result c.args.client.now.member c.change-answer.new.client.member c.change-answer.result c.change-answer.ensures.answers
 
 pub returns-in-Err-clause-answers : goal.returns-in-Err-clause-answers
 returns-in-Err-clause-answers g c =

@@ -4,7 +4,7 @@ use Rattle.cc_script.specs.Reading.{Between}
 use Rattle.cc_session.specs.Playing.{Grows, talk}
 use Rattle.cc_session.specs.internal.Steps.{CountsSince}
 use Rattle.cc_session.proofs.Lines.{Played}
-use Rattle.cc_session.proofs.calls.Player.play_lines.Given as goal
+use Rattle.cc_session.proofs.calls.Player.play.Given as goal
 
 abbrev pub invariant-loop-lines : goal.invariant-loop-lines
 invariant-loop-lines g l = record {

@@ -1,17 +1,18 @@
 -- The first generation, and then one more.
-use Rattle.std.proofs.Common.{zero, suc, map}
+use Rattle.std.proofs.Common.{◌∙◌, zero, suc, map, refl}
 use Rattle.cc_session.specs.Spooling.{ServingEnds, given_by}
 use Rattle.cc_session.proofs.Chains.{goes_on_by, serves_one_more, serves_still}
-use Rattle.cc_session.proofs.generations.serve_all.Goals as goal
+use Rattle.cc_session.proofs.generations.serve_on_in.Goals as goal
 
 pub returns-then-not-is_well : goal.returns-then-not-is_well
 returns-then-not-is_well g c = record {
   generations = (zero, c.serve_quietly-left.ensures.answers);
   over = λ finished. absurd (c.is_well.ensures.not c.if-not-is_well.true finished);
+  still = c.tell_end.ensures;
 }
 
 pub loop-init : goal.loop-init
-loop-init g c = (zero, c.serve_quietly-left.ensures.answers, c.is_well.ensures.well c.if-not-is_well.false)
+loop-init g c = (zero, c.serve_quietly-left.ensures.answers, c.is_well.ensures.well c.if-not-is_well.false, refl)
 
 pub loop-preserved : goal.loop-preserved
 loop-preserved g c =
@@ -27,6 +28,7 @@ loop-preserved g c =
           next.disk c.loop.left.end next.end (goes_on_by so_far.0 c.loop.left.end so_far.2 (looked.may c.if-not-goes_on.false)) looked.spools looked.disk so_far.1
           c.serve_quietly-left-in-loop.ensures.answers,
       tt,
+      so_far.3,
     )
 
 pub returns-then-not-goes_on : goal.returns-then-not-goes_on
@@ -44,4 +46,5 @@ returns-then-not-goes_on g c =
         serves_still Ends so_far.0 (map by c.args.spools.items) (map by left.spools.items) (map by now.spools.items) c.args.disk left.disk now.disk left.end now.end looked.spools looked.disk looked.end so_far.1,
       );
       over = looked.over c.if-not-goes_on.true;
+      still = λ finished. c.tell_end-then-not-goes_on.ensures finished ∙ so_far.3;
     }

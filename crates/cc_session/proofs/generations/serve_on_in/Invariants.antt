@@ -1,9 +1,9 @@
--- How the generations so far ended; one that was the first ended well.
-use Rattle.std.proofs.Common.{ℕ, map}
+-- How the generations so far ended; one that was the first ended well. Nothing is written.
+use Rattle.std.proofs.Common.{◌≡◌, ℕ, map}
 use Rattle.cc_session.specs.Generations.{ServesOn}
 use Rattle.cc_session.specs.Spooling.{ServingEnds, given_by}
 use Rattle.cc_session.proofs.Chains.{BeginsWell}
-use Rattle.cc_session.proofs.generations.serve_all.Given as goal
+use Rattle.cc_session.proofs.generations.serve_on_in.Given as goal
 
 abbrev pub invariant-loop : goal.invariant-loop
 invariant-loop g l =
@@ -12,3 +12,4 @@ invariant-loop g l =
     (earlier : ℕ)
     × ServesOn (ServingEnds l.mode D) earlier (map by l.fn.spools.items) (map by l.left.spools.items) l.fn.disk l.left.disk l.left.end
     × BeginsWell earlier l.left.end
+    × (g.W.Write.contents l.writer ≡ g.W.Write.contents l.initial.writer)
