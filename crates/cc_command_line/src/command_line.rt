@@ -1,4 +1,4 @@
-// The command line.
+// The command line: what work it asks for.
 
 ghost use Rattle.std.specs.Prelude.{IfOk};
 ghost use Rattle.cc_command_line.specs.Work.{IsAllowed};
@@ -22,9 +22,9 @@ use std::convert::AsStr;
 /// What the program is asked to do.
 #[derive(Drop)]
 pub enum Work {
-    /// A task for the text on standard input.
+    /// Perform a task for the text.
     One(Task),
-    /// Show what the compiler makes of each function of the text on standard input, or of the one of that name, for an image of this kind.
+    /// Show what the compiler makes of each function of the text, or only of the function with that name, for an image of this kind.
     Stages(Kind, Option<String>),
     /// Print the newest things that a run of the text does.
     Trace(Traced),
@@ -34,16 +34,16 @@ pub enum Work {
     TakeOut(Wanted),
     /// Look into libraries in files.
     Keep(Keeping),
-    /// The script on standard input, over a library.
+    /// Run the script on standard input over a library.
     Library(Session),
-    /// The scripts that are left in a folder, over a library.
+    /// Run the scripts that are left in a folder over a library.
     Serve(Server),
     /// Leave a script in a folder, and wait for its answer.
     Submit(Submitter),
 }
 
-/// What a command line asks for: the work, whether no fault of it is to be explained, whether all is to be printed as JSON, and the files that
-/// have its program; none if that comes on standard input.
+/// What a command line asks for: the work, whether its faults are left unexplained, whether everything is printed as JSON, and the files that
+/// have its program; no files if it comes on standard input.
 #[derive(Drop)]
 pub struct Invocation {
     pub work: Work,
@@ -90,7 +90,7 @@ fn broken_rule(work: &Work, files: usize, is_json: bool) -> Option<&'static str>
     None
 }
 
-// What the words of this command ask for, with its files and these options, if it breaks no rule.
+// What the words of this command ask for, with its files and these options, if they break no rule.
 fn invoked(
     alloc: Global,
     name: &str,
@@ -141,7 +141,7 @@ pub fn read_invocation<'a, S: AsStr>(alloc: Global, words: &'a [S]) -> Result<In
     }
 }
 
-/// The error of clap for a command line with a word that is not UTF-8. Its status is 2.
+/// Clap's error for a command line with a word that is not UTF-8. Its status is 2. `AllocError` if memory ran out.
 pub fn refused_bytes(alloc: Global) -> Result<Error, AllocError> {
     error_of(
         alloc,

@@ -1,4 +1,4 @@
-// The table of the commands, and the parser that it makes.
+// The table of the commands, and the parser that is made from it.
 
 use crate::json::JSON;
 use crate::keeping::{CALL, COPY, DIFF, LOG, RESTORE};
@@ -70,7 +70,7 @@ static CCLIB: Row = Row {
 
 const COMMANDS: usize = 19;
 
-// The commands, in the order in which help lists them. As an array they are too large a term for the prover.
+// The commands, in the order in which help lists them. As an array they would be too large a term for the prover.
 fn row_at(at: usize) -> Option<&'static Row> {
     match at {
         0 => Some(&CHECK),
@@ -116,7 +116,7 @@ pub(crate) fn command_of_all<'a>(alloc: Global) -> Result<Command<'a>, AllocErro
     Ok(whole)
 }
 
-/// The row of the command with this name; that of the whole program if there is none.
+/// The row of the command with this name; that of the whole program for any other name.
 pub(crate) fn row_of(name: &str) -> &'static Row {
     for at in 0..COMMANDS {
         match row_at(at) {

@@ -14,7 +14,7 @@ pub(crate) const FILE: Word = Word(
     "A file that has the program in place of standard input, which is `-`; several are put together in their order",
 );
 
-/// The same files as words.
+/// The same files, given as words.
 pub(crate) const FILES: Word = Word("FILE", Form::Several, "The same, without --file");
 
 const BOTH_RULE: &str = "files are given as words or by --file, and not by both";
@@ -24,7 +24,7 @@ pub(crate) const EMPTY_RULE: &str = "an empty path names no file";
 pub(crate) const NO_FILE_RULE: &str =
     "--file goes with what reads a program: not with DISK and NAME, nor with a line of a script but `add`, `replace` and `update`";
 
-// The paths that words give. None is empty, as that of a variable that was not set.
+// The paths that words give. An empty one is refused: it may come from a variable that was not set.
 fn paths_of(alloc: Global, words: &[&str]) -> Result<Vec<String>, Refused> {
     if words.iter().any(|word| word.is_empty()) {
         return Err(Refused::ByAll(EMPTY_RULE));
@@ -46,7 +46,7 @@ fn takes_source(line: &str) -> bool {
     line.starts_with("add ") || line.starts_with("replace ") || line.starts_with("update ")
 }
 
-/// Whether a work reads a program, so that it may come in files.
+/// Whether this work reads a program, which may then come in files.
 pub(crate) fn reads_program(work: &Work) -> bool {
     match work {
         Work::One(_) | Work::Stages(_, _) | Work::Trace(_) | Work::Cover(_) => true,

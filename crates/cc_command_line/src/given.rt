@@ -55,7 +55,7 @@ pub(crate) const WORKERS: Word = Word(
     "How many threads compile: 1 to 8",
 );
 
-/// The option for the room of a library. Its help is not the same for all.
+/// The option for the room of a library. Its help differs from command to command.
 pub(crate) const FORMAT: &str = "format";
 
 const LEAST_AREA: u64 = 64;
@@ -76,7 +76,7 @@ const WORKERS_RULE: &str = "N is a decimal number from 1 to 8";
 
 const PATH_RULE: &str = "an empty path names no file and no folder";
 
-/// The number that a word or an option is, between these limits. The rule is what a person is told otherwise.
+/// The number that a word or an option gives, from `least` to `most`. Anything else breaks `rule`, which is then shown.
 pub(crate) fn number_of(
     given: &ArgMatches<'_>,
     name: &str,
@@ -92,7 +92,7 @@ pub(crate) fn number_of(
     }
 }
 
-/// The same if it is given.
+/// The same number, if the word or the option is given.
 pub(crate) fn number_if_given(
     given: &ArgMatches<'_>,
     name: &str,
@@ -111,14 +111,14 @@ pub(crate) fn number_if_given(
     }
 }
 
-/// How many steps or instructions a run may take.
+/// How many steps or instructions a run may take at most.
 pub(crate) fn steps_of(given: &ArgMatches<'_>) -> Result<u64, Refused>
     ensures { IfOk result (λ steps. steps ≤ MOST_STEPS) }
 {
     number_of(given, "STEPS", 0, MOST_STEPS, STEPS_RULE)
 }
 
-// The words that texts stand for; none if one of them is no word.
+// The words that these texts write; nothing if one of them is not a word.
 fn words_in(alloc: Global, texts: &[&str]) -> Result<Option<Vec<u32>>, AllocError> {
     let mut words = Vec::new(alloc);
     for text in texts {
@@ -167,7 +167,7 @@ pub(crate) fn area_of(given: &ArgMatches<'_>) -> Result<u32, Refused>
     }
 }
 
-/// The same if it is given.
+/// The same number of bytes, if the option is given.
 pub(crate) fn area_if_given(given: &ArgMatches<'_>) -> Result<Option<u32>, Refused>
     ensures { IfOk result (λ area. IfSome area (λ a. (64 ≤ a) × (a ≤ 1073741824))) }
 {
@@ -201,7 +201,7 @@ pub(crate) fn text_of(
     String::from_str(alloc, given.get_str(name).unwrap_or(""))
 }
 
-/// The texts of words.
+/// The texts of these words.
 pub(crate) fn texts_of(alloc: Global, words: &[&str]) -> Result<Vec<String>, AllocError> {
     let mut texts = Vec::new(alloc);
     for word in words {
@@ -210,7 +210,7 @@ pub(crate) fn texts_of(alloc: Global, words: &[&str]) -> Result<Vec<String>, All
     Ok(texts)
 }
 
-/// The path that a word is. No path is empty, as that of a variable that was not set.
+/// The path that a word gives. An empty one is refused: it may come from a variable that was not set.
 pub(crate) fn path_of(
     alloc: Global,
     given: &ArgMatches<'_>,

@@ -1,4 +1,4 @@
-// Whether all is printed as JSON.
+// The option that prints everything as JSON, and the work that it goes with.
 
 use crate::command_line::Work;
 use crate::keeping::Keeping;
@@ -19,7 +19,7 @@ fn asks_text(line: &str) -> bool {
     line.starts_with("image ") || line.starts_with("source ")
 }
 
-/// Whether a work can be printed as JSON.
+/// Whether this work can be printed as JSON.
 pub(crate) fn is_told_in_json(work: &Work) -> bool {
     match work {
         Work::One(task) => !matches!(task, Task::Asm(_) | Task::Image(_)),

@@ -1,5 +1,5 @@
-// The commands that look into libraries in files, go back in one, and copy one: `call`, `diff`, `log`, `restore` and `copy`; and what they and
-// `size` ask for.
+// The commands that look into libraries in files, put back a unit of one, and copy one: `call`, `diff`, `log`, `restore` and `copy`; and what
+// they and `size` ask for.
 
 ghost use Rattle.std.specs.Prelude.{◌≤◌, IfOk};
 ghost use Rattle.cc_command_line.specs.Work.{IsAllowed};
@@ -137,7 +137,7 @@ pub(crate) static COPY: Row = Row {
     help: COPY_HELP,
 };
 
-/// A unit of the library in a file, which is to be run.
+/// A unit that is to be run. It is in the library in a file.
 #[derive(Drop)]
 pub struct Calling {
     /// The path of the file.
@@ -148,18 +148,18 @@ pub struct Calling {
     pub steps: u64,
     /// The words of the one run.
     pub words: Vec<u32>,
-    /// Whether the words of one run after the other come on standard input, in place of these.
+    /// Whether standard input has the words of a run in each line, in place of `words`.
     pub is_lines: bool,
     /// Whether the instructions are counted.
     pub is_counted: bool,
 }
 
-/// What a command of the library in a file stored, which is to be put back.
+/// What is to be put back: the unit that a command stored in the library in a file.
 #[derive(Drop)]
 pub struct Restoring {
     /// The path of the file.
     pub disk: String,
-    /// The name under which it was stored, as it was given.
+    /// The name under which the unit was stored, as it was given.
     pub name: String,
     /// The number of the command.
     pub number: u64,
@@ -181,26 +181,26 @@ pub struct Measuring {
 pub struct Copying {
     /// The path of the library's file.
     pub old: String,
-    /// The path of the new one.
+    /// The path of the new library's file.
     pub new: String,
-    /// How many bytes each of the new one's areas has: 64 to 1,073,741,824.
+    /// How many bytes each of the new library's areas has: 64 to 1,073,741,824.
     pub area: u32,
     /// Whether what an audit does not confirm is left out.
     pub is_confirmed: bool,
-    /// The names of the units that are copied, as they were given; all units if there is none.
+    /// The names of the units that are copied, as they were given; all units if no name was given.
     pub names: Vec<String>,
 }
 
-/// What is to be looked into.
+/// What `call`, `size`, `diff`, `log`, `restore` or `copy` is to do.
 #[derive(Drop)]
 pub enum Keeping {
     /// Run a unit.
     Call(Calling),
-    /// Say what a unit takes.
+    /// Say how much the image of a unit takes.
     Size(Measuring),
     /// Show the differences between the libraries in two files.
     Diff(String, String),
-    /// Say which commands a library has had, or those about one name.
+    /// Say which commands a library has had since its last compaction, or only those about one name.
     Log(String, Option<String>),
     /// Put back what a command stored.
     Restore(Restoring),
@@ -208,7 +208,7 @@ pub enum Keeping {
     Copy(Copying),
 }
 
-// The input of the one run of `call`.
+// The input of the one run of `call`. With `--lines` there must be none.
 fn call_input_of(
     alloc: Global,
     given: &ArgMatches<'_>,

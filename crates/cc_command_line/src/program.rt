@@ -1,4 +1,4 @@
-// The commands that read a program, and no more than a program: `check`, `interpret`, `run`, `asm`, `stages` and `safe`.
+// The commands that work on a program and on no library: `check`, `interpret`, `run`, `asm`, `stages` and `safe`.
 
 ghost use Rattle.std.specs.Prelude.{IfOk};
 ghost use Rattle.cc_command_line.specs.Work.{IsAllowed};

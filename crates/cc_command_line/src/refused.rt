@@ -1,4 +1,4 @@
-// Why words that the parser took ask for no work, and the error that a person sees.
+// Why words that the parser accepted ask for no work, and the error that a person sees.
 
 use crate::commands::command_of_all;
 use crate::row::{Row, command_of};
@@ -7,9 +7,9 @@ use clap::{Command, Error};
 use std::alloc::{AllocError, Global};
 
 pub(crate) enum Refused {
-    /// They break this rule of their command.
+    /// The words break this rule of their command.
     ByCommand(&'static str),
-    /// They break this rule of all commands.
+    /// The words break this rule of all commands.
     ByAll(&'static str),
     OutOfMemory(AllocError),
 }
@@ -20,12 +20,12 @@ impl From<AllocError> for Refused {
     }
 }
 
-// The error of a command, with its usage.
+// The error of a command, with the command's usage.
 fn shown<'a>(mut command: Command<'a>, rule: &'static str) -> Result<Error, AllocError> {
     command.error(ErrorKind::ValueValidation, rule)
 }
 
-/// The error for words of this command that are refused so. Its status is 2.
+/// The error for words of this command that were refused for this reason. Its status is 2. `AllocError` if memory ran out.
 pub(crate) fn error_of(
     alloc: Global,
     row: &'static Row,

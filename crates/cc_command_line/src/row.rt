@@ -6,11 +6,11 @@ use std::alloc::{AllocError, Global};
 /// What a word of a command is.
 #[derive(Clone, Copy)]
 pub(crate) enum Form {
-    /// It may be left out.
+    /// A word that may be left out.
     Optional,
-    /// It has to be given.
+    /// A word that has to be given.
     Required,
-    /// It has to be given and is a number: -1 is such a word, and not an option.
+    /// A number that has to be given: -1 is such a word, and not an option.
     Number,
     /// Any number of words.
     Several,
@@ -20,13 +20,13 @@ pub(crate) enum Form {
     Flag,
     /// `--NAME`, before the name of a command or after it.
     Global,
-    /// `--NAME VALUE`. Help calls the value so.
+    /// `--NAME VALUE`, with the name by which help calls the value.
     Value(&'static str),
-    /// The same, and it has to be given.
+    /// The same for an option that has to be given.
     RequiredValue(&'static str),
-    /// The same, with the value that it has if it is not given.
+    /// The same, with the value that counts if the option is not given.
     Default(&'static str, &'static str),
-    /// The same as often as one likes, and by one letter too.
+    /// The same for an option that may be given any number of times, also as `-` and this letter.
     Values(&'static str, char),
 }
 
@@ -41,11 +41,11 @@ pub(crate) struct Word(
 /// A command.
 pub(crate) struct Row {
     pub(crate) name: &'static str,
-    /// The name after that of the program.
+    /// The program's name, followed by the command's.
     pub(crate) whole: &'static str,
     pub(crate) about: &'static str,
     pub(crate) words: &'static [Word],
-    /// The end of its help.
+    /// What its help ends with.
     pub(crate) help: &'static str,
 }
 

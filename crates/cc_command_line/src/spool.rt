@@ -15,22 +15,22 @@ use cc_task::Kind;
 use clap::ArgMatches;
 use std::alloc::{AllocError, Global};
 
-/// The most clients of a server: scripts that are done at a time.
+/// A server has at most this many clients: scripts that are run at a time.
 const MOST_CLIENTS: u64 = 64;
 
-/// The most days for which a server keeps answers.
+/// A server keeps answers for at most this many days.
 const MOST_DAYS: u64 = 3650;
 
-/// The fewest bytes of answers that a server keeps before it lets old ones go: 1 MiB.
+/// A server keeps answers up to a number of bytes before it removes old ones. The number is at least this: 1 MiB.
 const LEAST_DONE: u64 = 1_048_576;
 
-/// The most: 1 TiB.
+/// That number is at most this: 1 TiB.
 const MOST_DONE: u64 = 1_099_511_627_776;
 
-/// The most seconds for which a script may be at work while others wait.
+/// A script may be at work for at most this many seconds while others wait.
 const MOST_PATIENCE: u64 = 86_400;
 
-/// The most seconds for which a script waits for a server.
+/// A script waits for a server for at most this many seconds.
 const MOST_WAIT: u64 = 86_400;
 
 const CLIENTS_RULE: &str = "N is a decimal number from 1 to 64";
@@ -63,7 +63,7 @@ Example:
   cclib serve units.disk spool --format 1048576";
 
 // ORDER ScriptCommand
-// The same for `submit`.
+// What a person reads below the options of `submit`.
 const SUBMIT_HELP: &str = "\
 Without a COMMAND the script comes on standard input. A COMMAND is one line of a script:
   add NAME           the source comes on standard input
@@ -156,7 +156,7 @@ pub(crate) static SUBMIT: Row = Row {
     help: SUBMIT_HELP,
 };
 
-/// A server: it does the scripts that are left in a folder, over the library in a file.
+/// A server: it runs the scripts that are left in a folder over the library in a file.
 #[derive(Drop)]
 pub struct Server {
     /// The path of the file.
@@ -169,14 +169,14 @@ pub struct Server {
     pub workers: usize,
     /// How the images of the server are compiled.
     pub kind: Kind,
-    /// How many scripts are done at a time: 1 to 64.
+    /// How many scripts are run at a time: 1 to 64.
     pub clients: usize,
     /// For how many days answers that nobody took away are kept: 1 to 3,650.
     pub keep: u32,
     /// How many bytes of answers are kept before the oldest go: 1 MiB to 1 TiB.
     pub done: u64,
-    /// For how many seconds a script may be at work while others wait for a client, or the end of a generation or of the server waits for it: 1 to
-    /// 86,400.
+    /// For how many seconds a script may be at work while other scripts wait for a client, or while the end of a generation or of the server
+    /// waits for it: 1 to 86,400.
     pub patience: u32,
 }
 
@@ -198,7 +198,7 @@ pub struct Submitter {
     pub wait: Option<u32>,
 }
 
-// The limits of a server, which have values of their own if they are not given.
+// The limits of a server. Each has a default.
 struct Limits {
     clients: usize,
     keep: u32,
@@ -249,7 +249,7 @@ pub(crate) fn serve_of(alloc: Global, given: &ArgMatches<'_>) -> Result<Work, Re
     }))
 }
 
-// For how many seconds a script waits.
+// For how many seconds a script waits, if that is given.
 fn wait_of(given: &ArgMatches<'_>) -> Result<Option<u32>, Refused>
     ensures { IfOk result (λ wait. IfSome wait (λ seconds. (1 ≤ seconds) × (seconds ≤ 86400))) }
 {
@@ -275,7 +275,7 @@ fn are_words(words: &[&str]) -> bool {
     true
 }
 
-// The words with a space between two.
+// The line that these words make, with a space between two.
 fn line_of(alloc: Global, words: &[&str]) -> Result<String, AllocError> {
     let mut line = String::new(alloc);
     for word in words {
@@ -287,7 +287,7 @@ fn line_of(alloc: Global, words: &[&str]) -> Result<String, AllocError> {
     Ok(line)
 }
 
-// Whether the first of some words is this one.
+// Whether `first` is the first of these words.
 fn begins_with(words: &[&str], first: &str) -> bool {
     match words.first() {
         Some(word) => *word == first,
@@ -295,7 +295,7 @@ fn begins_with(words: &[&str], first: &str) -> bool {
     }
 }
 
-// The file with the source that a line `update` is to replace. That line takes it, and no other one.
+// The path of the file with the source that a line `update` is to replace. Such a line needs it, and no other line takes it.
 fn was_of(
     alloc: Global,
     given: &ArgMatches<'_>,
@@ -316,7 +316,7 @@ struct Sent {
     input: Option<String>,
 }
 
-// What these words ask to be sent.
+// What is sent for these words.
 fn sent_by(alloc: Global, words: &[&str]) -> Result<Sent, AllocError> {
     if words.is_empty() {
         return Ok(Sent {

@@ -100,7 +100,7 @@ pub(crate) static SOURCE: Row = Row {
     help: SOURCE_HELP,
 };
 
-/// A part of a unit of the library in a file.
+/// Which part of which unit is wanted from the library in a file.
 #[derive(Drop)]
 pub struct Wanted {
     /// The path of the file.
@@ -149,7 +149,7 @@ fn broken_rule(given: &ArgMatches<'_>, is_earlier: bool) -> Option<&'static str>
     }
 }
 
-/// What `image` asks for: a task for a program if it has no word, else the image of a unit.
+/// What `image` asks for: the image of a unit if DISK is given, else a task for a program.
 pub(crate) fn image_of(alloc: Global, given: &ArgMatches<'_>) -> Result<Work, Refused>
     ensures { IfOk result IsAllowed }
 {
@@ -171,7 +171,7 @@ pub(crate) fn source_of(alloc: Global, given: &ArgMatches<'_>) -> Result<Work, R
     wanted_of(alloc, given, Part::Source, at)
 }
 
-/// What `size` asks for: a task for a program if it has no word, else what the image of a unit takes.
+/// What `size` asks for: what the image of a unit takes if DISK is given, else a task for a program.
 pub(crate) fn size_of(alloc: Global, given: &ArgMatches<'_>) -> Result<Work, Refused>
     ensures { IfOk result IsAllowed }
 {

@@ -11,7 +11,7 @@ use crate::row::{Form, Row, Word};
 use clap::ArgMatches;
 use std::alloc::Global;
 
-/// The most things that a trace keeps.
+/// A trace keeps at most this many things.
 const MOST_LAST: u64 = 1_000_000;
 
 const LAST_RULE: &str = "N is a decimal number from 1 to 1000000";
@@ -52,25 +52,25 @@ pub(crate) static COVER: Row = Row {
     help: "The program comes on standard input: cclib cover 1000 < examples/quotient.c",
 };
 
-/// A run whose newest things are wanted.
+/// A run. The newest things that it does are wanted.
 #[derive(Drop)]
 pub struct Traced {
-    /// How many steps it has at most.
+    /// How many steps the run takes at most.
     pub steps: u64,
-    /// Its input.
+    /// The input of the run.
     pub words: Vec<u32>,
     /// How many things are kept: 1 to 1,000,000.
     pub last: u32,
 }
 
-/// Runs that are asked how often they reach each line.
+/// Runs. How often they reach each line is wanted.
 #[derive(Drop)]
 pub struct Covered {
-    /// How many steps each has at most.
+    /// How many steps each run takes at most.
     pub steps: u64,
-    /// The input of the one run.
+    /// The input of the one run, if there is only one.
     pub words: Vec<u32>,
-    /// The file that has an input in each line, if there are several.
+    /// The path of the file that has the input of a run in each line, if one is named.
     pub lines: Option<String>,
 }
 
@@ -94,7 +94,7 @@ pub(crate) fn trace_of(alloc: Global, given: &ArgMatches<'_>) -> Result<Work, Re
     Ok(Work::Trace(Traced { steps, words, last }))
 }
 
-// The rule that the option for lines breaks, if it breaks one.
+// The rule that `--lines` breaks, if it breaks one.
 fn broken_by_lines(given: &ArgMatches<'_>) -> Option<&'static str> {
     match given.get_str("lines") {
         Some("") => Some(EMPTY_RULE),
