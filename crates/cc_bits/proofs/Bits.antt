@@ -76,7 +76,7 @@ removed_at row at i w r small read lt =
     of : (64 * at + i) % 64 ≡ i
     of = omega (arith, small)
 
--- a number past the row's end need not be taken out
+-- a number past the row's end need not be removed
 pub removed_past : (row : List ℕ) (s r : ℕ) → length row ≤ s / 64 → holds row r ≡ (holds row r && not (s == r))
 removed_past row s r past = elim (cases_eq s r) [
   | inl same ↦ holds-past row r (subst (λ x. length row ≤ x / 64) same past) ∙ gone row s r same
@@ -85,7 +85,7 @@ removed_past row s r past = elim (cases_eq s r) [
 
 -- ---- one number replaced by another
 
--- if the number is in, it is taken out and the other one is put in
+-- if the number is in the set, it is removed and the other one is added
 pub moved_on : (from to : ℕ) (old mid new : ℕ → Bool) → old from ≡ true → ((k : ℕ) → mid k ≡ (old k && not (from == k))) → ((k : ℕ) → new k ≡ (to == k || mid k))
     → (k : ℕ) → new k ≡ moved from to old k
 moved_on from to old mid new there takes puts k = puts k ∙ (ap (λ b. to == k || b) (takes k) ∙ here (to == k))
@@ -192,7 +192,7 @@ all_put start from now n past h r = elim (cases_lt (r / 64) n) [
   | inr ge ↦ h.rest r ge ∙ (or_false (holds start r) ∙ ap (λ b. holds start r || b) (sym (holds-past from r (omega arith))))
 ]
 
--- ---- a whole word taken out or put in
+-- ---- a whole word removed or added
 
 pub word_cleared : (row : List ℕ) (at i : ℕ) → at < length row → holds (set row at 0) i ≡ (holds row i && not (at == i / 64))
 word_cleared row at i lt = elim (cases_eq (i / 64) at) [
@@ -200,7 +200,7 @@ word_cleared row at i lt = elim (cases_eq (i / 64) at) [
   | inr far ↦ holds_elsewhere row at 0 i far ∙ (and_true (holds row i) ∙ ap (λ b. holds row i && not b) (sym (ne_eqb at (i / 64) (λ e. far (sym e)))))
 ]
 
--- a word past the row's end need not be taken out
+-- a word past the row's end need not be removed
 pub word_cleared_past : (row : List ℕ) (at i : ℕ) → length row ≤ at → holds row i ≡ (holds row i && not (at == i / 64))
 word_cleared_past row at i past = elim (cases_eq at (i / 64)) [
   | inl near ↦ (let out = holds-past row i (subst (λ x. length row ≤ x) near past) in out ∙ sym (ap (λ b. b && not (at == i / 64)) out))

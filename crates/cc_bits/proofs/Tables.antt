@@ -144,7 +144,7 @@ risen_bit w n mine theirs few k there out =
     let is : key w r c ≡ k = b.4 in
     (r, c, and_from (nat_lt c (64 * w)) (holds theirs (key w r c)) (below c (64 * w) lt) (ap (holds theirs) is ∙ there), ap (λ x. nat_lt c (64 * w) && x) (ap (holds mine) is ∙ out) ∙ and_false (nat_lt c (64 * w)))
 
--- a row whose words are all 0 has no bit; a word that is not 0 has one
+-- a row whose words are all 0 has no bit set; a word that is not 0 has one set
 pub words_empty : (w : ℕ) (words : List ℕ) (r : ℕ) → ((i : ℕ) → i < w → get_or words (w * r + i) 0 ≡ 0) → (c : ℕ) → (nat_lt c (64 * w) && holds words (key w r c)) ≡ false
 words_empty w words r zero c = elim (cases_lt c (64 * w)) [
   | inr ge ↦ past_columns w words r c ge

@@ -28,7 +28,7 @@ or_same : (b : Bool) → (b || b) ≡ b
 or_same true = refl
 or_same false = refl
 
--- a bit of this word is taken out at its old place and put in at the new one
+-- a bit of this word is removed at its old place and added at the new one
 one_bit : (own there held from to : Bool) → (from ≡ true → held ≡ own) → (to ≡ true → there ≡ own)
     → ((own && not (from && true)) || ((to && true) && held)) ≡ (if to then there || held else own && not from)
 one_bit own there held true true h i = ap (λ b. b || held) (and_false own) ∙ (h refl ∙ sym (ap (λ b. b || held) (i refl) ∙ (ap (λ b. own || b) (h refl) ∙ or_same own)))

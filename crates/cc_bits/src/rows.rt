@@ -210,7 +210,7 @@ impl BitRows {
         Ok(())
     }
 
-    /// Whether a row has no bit.
+    /// Whether no bit is set in a row.
     pub fn is_row_empty(&self, r: usize) -> bool
         requires { r < most_rows }
         ensures empty { IsTrue result → (c : ℕ) → has self.now r c ≡ false }
@@ -224,7 +224,7 @@ impl BitRows {
         true
     }
 
-    /// Whether a column has no bit.
+    /// Whether no bit is set in a column.
     pub fn is_column_empty(&self, c: usize) -> bool
         ensures empty { IsTrue result → (r : ℕ) → has self.now r c ≡ false }
         ensures held { IsFalse result → (r : ℕ) × IsTrue (has self.now r c) }

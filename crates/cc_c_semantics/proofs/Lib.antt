@@ -9,7 +9,7 @@
 pub mod Lasting
 -- this holds for each part of a program
 pub mod Steps
--- an answer takes exactly the steps that it spends
+-- a call that answers needs no more steps than it spends, and gives the same answer with any number more
 pub mod Exact
 -- a checked program compared with its source
 pub mod Checked
@@ -27,7 +27,7 @@ pub mod Arrays
 pub mod Scoped
 -- the functions of a typed unit, and the scope of each body
 pub mod Bodies
--- functions and objects have the numbers of their names
+-- functions and objects are numbered as their names are
 pub mod Numbers
 -- a call in the tree is the effect of its function
 pub mod Effects

@@ -1,4 +1,4 @@
--- Functions and objects have the numbers of their names.
+-- Functions and objects are numbered as their names are.
 use Rattle.std.proofs.Common.{◌≡◌, ℕ, suc, ◌+◌, ◌<◌, Bool, true, false, true≢false, ◌||◌, if◌then◌else◌, List, [], ◌∷◌, length, map, Option, Some, slice_get, unwrap_or, option_map, refl, sym, ap, ◌∙◌, arith}
 use Rattle.std.proofs.lemmas.List.{length-map}
 use Rattle.std.proofs.lemmas.Option.{slice_get-map}

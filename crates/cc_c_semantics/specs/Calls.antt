@@ -94,7 +94,7 @@ BodiesKeepObjects = (unit : List External) (n opened f : ℕ) (ws : List ℕ) (h
 
 -- ---- names and numbers
 
--- functions and objects have the numbers of their names
+-- functions and objects are numbered as their names are
 abbrev pub FunctionsAreNumbered : Type 0
 FunctionsAreNumbered = (unit : List External) → map (λ (g : Function). g.name) (functions unit) ≡ (layout_of unit).functions
 

@@ -37,7 +37,7 @@ pub fn calls_keep_objects()
     ensures bodies { BodiesKeepObjects }
 {}
 
-/// Shows that functions and objects have the numbers of their names, and that in a typed unit each object has the size that the
+/// Shows that functions and objects are numbered as their names are, and that in a typed unit each object has the size that the
 /// layout gives it.
 pub fn names_have_numbers()
     ensures functions { FunctionsAreNumbered }

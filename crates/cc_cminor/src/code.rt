@@ -6,8 +6,8 @@
 
 use cc_words::{Binary, Unary, Width};
 
-/// An expression. It has no effect. Its value is a word, or it has none: if an operator has no value, an index is outside its
-/// object, or the object's elements have another width.
+/// An expression. It has no side effects. Its value is a word, or it has none: if an operator has no value, an index is outside
+/// its object, or the object's elements have another width.
 #[derive(Drop)]
 pub enum Expression {
     /// A word.

@@ -1,9 +1,9 @@
 // A value that code takes: an expression of Cminor, and the code before it if there is some.
 //
-// An expression in which C prescribes no order (without a call, `&&`, `||` or `?:`) has no effect. It becomes one expression of
-// Cminor, with no code before it. Every other value waits in a variable k, after the code that puts it there. If one of two
-// operands has code before it, the left one waits in a variable of its own. So C's order, from left to right, is the order of the
-// statements.
+// An expression in which C prescribes no order (one without a call, `&&`, `||` or `?:`) has no side effects. It becomes one
+// expression of Cminor, with no code before it. Every other value waits in a variable k, after the code that puts it there. If
+// one of two operands has code before it, the left one waits in a variable of its own. So C's order, from left to right, is the
+// order of the statements.
 
 ghost use Rattle.std.specs.Prelude.{◌≡◌, false, IfOk};
 ghost use Rattle.cc_types.specs.Operators.{binary_type, common_type, unary_type, working_type};

@@ -1,4 +1,4 @@
-// What a node reads, what it writes, where it leads, and how often it may be executed.
+// What a node reads, what it writes, where it leads, and an estimate of how often it is executed.
 //
 // Nodes are known by their places in the list of a function's nodes, from 0 on.
 
@@ -33,7 +33,7 @@ impl Shape<'_> {
         }
     }
 
-    /// How often a node may be executed.
+    /// An estimate of how often a node is executed.
     pub fn weight(&self, node: usize) -> u32 {
         self.weights.get(node).copied().unwrap_or(1)
     }
@@ -151,7 +151,7 @@ pub fn operands(node: &Node) -> [Option<u32>; 2] {
     }
 }
 
-/// How often each node may be executed: 1, and ten times as often for each loop around it, up to four loops. A loop is everything from a
+/// An estimate of how often each node is executed: 1, times 10 for each loop around it, up to four loops. A loop is everything from a
 /// node to the last node after it that leads back to it. Err: memory ran out.
 pub fn weights(alloc: Global, next: &[Next]) -> Result<Vec<u32>, AllocError> {
     let mut weights = vec![in alloc; 1; next.len()]?;

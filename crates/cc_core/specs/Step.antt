@@ -132,14 +132,14 @@ phase_after commit left.SyncAll = Rewriting commit left.WriteArea
 phase_after commit left.WriteArea = Rewriting commit left.SyncArea
 phase_after commit left.SyncArea = Idle
 
--- the device step of a rewrite that is due is done; the map and the order stay the same
+-- the device step that is due in a rewrite is done; the map and the order stay the same
 pub record RewriteAdvances (due : RewriteDue) (old : Core) (reply : Option Reply) (new : Core) : Type 0 where
   pub commit : Commit
   pub rewriting : old.phase ≡ Rewriting commit due
   pub silent : reply ≡ None
   pub new_is : new ≡ record old { store = rewrite_stepped due commit old.store; phase = phase_after commit due }
 
--- the device step of a rewrite that is due fails: no job is in commit that could end, so there is no reply, and no further device
+-- the device step that is due in a rewrite fails: no job is in commit that could end, so there is no reply, and no further device
 -- step is made
 pub record RewriteFails (old : Core) (reply : Option Reply) (new : Core) : Type 0 where
   pub commit : Commit
@@ -263,7 +263,7 @@ module _ {P : Type 0} where
     pub jobs : new.jobs ≡ remove old.jobs client.number
     pub workers : new.workers ≡ old.workers
 
-  -- the device step of a commit that is due fails, and the job in commit ends
+  -- the device step that is due in a commit fails, and the job in commit ends
   abbrev pub FailsJob : Contents P → Option Reply → Contents P → Type 0
   FailsJob old reply new = (client : ClientId) × EndsJob client (Fails client) old reply new
 

@@ -35,7 +35,7 @@ pub enum Event<P> {
     WriteArea,
     /// The fourth: that gate is synced.
     SyncArea,
-    /// The device step of a commit or of a rewrite that is due fails.
+    /// The device step that is due in a commit or in a rewrite fails.
     Fail,
     /// The reply is given to the client whose command is in commit, after all four steps.
     Ack(ClientId),

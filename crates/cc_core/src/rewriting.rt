@@ -78,7 +78,7 @@ pub(crate) fn sync_area(core: &mut Core) -> Answer
     Ok(None)
 }
 
-// The device step of a rewrite that is due fails. If it is a write, all its bytes have reached the disk, unsettled.
+// The device step that is due in a rewrite fails. If it is a write, all its bytes have reached the disk, unsettled.
 fn fail_rewrite(core: &mut Core) -> Answer
     requires { IsReady core.old }
     ensures { Answers (RewriteFails core.old) result core.old core.new }

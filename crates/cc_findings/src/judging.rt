@@ -75,7 +75,7 @@ fn number_before_bracket(digits: &[u8]) -> Option<u32> {
     None
 }
 
-// Whether the text has, as the index of an element, a number that is within the array.
+// Whether the index of the element is written in the text as a number, and is within the array.
 fn is_fixed(text: &[u8], element: Element<'_>) -> bool {
     let name = element.array.bytes.len();
     let Some(from) = element.array.at.checked_add(name) else {

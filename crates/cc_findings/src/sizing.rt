@@ -35,7 +35,7 @@ pub struct CyclicCall {
     pub called: Vec<u8>,
 }
 
-/// What an image takes: the whole, and each function with its name and its place, in the order of definitions.
+/// How much memory an image takes: the whole, and each function with its name and its place, in the order of definitions.
 #[derive(Drop)]
 pub struct Measure {
     pub functions: Vec<SizedFunction>,

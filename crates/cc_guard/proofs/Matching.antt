@@ -319,7 +319,7 @@ module _ (effect : ℕ → Question → Effect) (Related : Config → Config →
         (x.k, j, (x.same ∙ p.0, omega arith))
     kept_on rate n k j (Failed o) c d rel p = (0, 0, tt)
 
-    -- a run of the code that breaks is kept by the guarded code, at any rate but 0
+    -- at every rate above 0, the guarded code keeps up with a run of the code, if that run breaks
     pub broken_on : (rate n : ℕ) (e : Effect) (c d : Config) → Related c d → BreaksAt cminor_move cminor_output effect e c → IsKept (suc rate) n e d
     broken_on rate n (Gives a left) c d rel p = absurd p
     broken_on rate n (Unfinished o) c d rel p = let y = hung p.moves p.steps o c d rel p.breaks n in (y.k, p.steps, (y.same, enough rate n (works y.k p.steps d) y.paid))

@@ -72,7 +72,7 @@ fn mark_all(marks: &mut Vec<bool>, all: &[Statement])
     }
 }
 
-// `first` marks; no mark is set yet.
+// As many marks as `first` says, none of them set.
 fn unmarked(alloc: Global, first: usize) -> Result<Vec<bool>, AllocError>
     ensures long { IfOk result (λ marks. length marks.items ≡ first) }
     ensures none { IfOk result (λ marks. (x : ℕ) → get_or marks.items x false ≡ false) }

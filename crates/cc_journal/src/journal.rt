@@ -108,7 +108,7 @@ impl<D: Disk> Journal<D> {
         ensures untouched { IfErr result (λ e. e ≢ JournalFault.DiskFault → self.new ≡ self.old) }
         ensures closes { IsErrOf result JournalFault.DiskFault → self.new.closed ≡ true }
 
-        // A crash at any moment of the call leaves the old records, or the old and the new one.
+        // A crash at any moment of the call leaves the old records, or those and the new one.
         ensures moments { IsTrue D.honest → self.old.closed ≡ false
             → LeavesOnly D.moment D.left_since self.old.disk self.new.disk (HoldsOldOrNew self.old.area self.old.bodies body.now) }
     {
@@ -139,7 +139,7 @@ impl<D: Disk> Journal<D> {
         ensures untouched { IfErr result (λ e. e ≢ JournalFault.DiskFault → self.new ≡ self.old) }
         ensures closes { IsErrOf result JournalFault.DiskFault → self.new.closed ≡ true }
 
-        // A crash at any moment of the call leaves the old records, or the old and the new one.
+        // A crash at any moment of the call leaves the old records, or those and the new one.
         ensures moments { IsTrue D.honest → self.old.closed ≡ false
             → LeavesOnly D.moment D.left_since self.old.disk self.new.disk (HoldsOldOrNew self.old.area self.old.bodies body) }
     {

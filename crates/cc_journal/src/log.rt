@@ -160,7 +160,7 @@ impl<D: Disk> Log<D> {
     ///
     /// Refusals, in this order: 36 if the log is closed; 34 if the record does not fit: it takes 5 bytes and its body, besides
     /// the records and the closed gate; 40 if memory ran out. These three make no device call and change nothing. Last, 35 if the
-    /// device failed in the call: the log is then closed, and its disk has the old records, or the old and the new one. Every
+    /// device failed in the call: the log is then closed, and its disk has the old records, or those and the new one. Every
     /// refusal drops the body.
     pub fn append(&mut self, alloc: Global, body: Body) -> Result<Body, JournalFault>
         ensures answers { AppendAnswers self.old.closed self.old.area self.old.bodies body (D.failures self.old.disk) (D.failures self.new.disk) result }
@@ -192,7 +192,7 @@ impl<D: Disk> Log<D> {
         ensures untouched { IfErr result (λ e. e ≢ JournalFault.DiskFault → self.new ≡ self.old) }
         ensures closes { IsErrOf result JournalFault.DiskFault → self.new.closed ≡ true }
 
-        // A crash at any moment of the call leaves the old records, or the old and the new one.
+        // A crash at any moment of the call leaves the old records, or those and the new one.
         ensures moments { IsTrue D.honest → self.old.closed ≡ false
             → LeavesOnly D.moment D.left_since self.old.disk self.new.disk (HoldsOldOrNew self.old.area self.old.bodies body) }
     {

@@ -10,7 +10,7 @@ use cc_tasks::{PartFault, mode_of};
 use std::alloc::{AllocError, Global};
 use std::io::Write;
 
-// What the image of the unit takes.
+// How much memory the image of the unit takes.
 fn size_of<E: Write>(
     alloc: Global,
     files: &HostRuntime,
@@ -24,7 +24,7 @@ fn size_of<E: Write>(
     size
 }
 
-// Writes what an image takes, or what an audit says about the unit. The result is the status.
+// Writes how much memory an image takes, or what an audit says about the unit. The result is the status.
 fn answer<W: Write, E: Write>(name: &[u8], size: &StoredSize, writer: &mut W, told: &mut E) -> u8 {
     match size {
         StoredSize::Confirmed(measure) => {

@@ -103,7 +103,7 @@ is_layer arity code = record {
   resumes = λ c q resume e. (does_calls arity code c.items c.locations c.world c.words q resume e).1;
 }
 
--- code that keeps up with the source, at any rate, follows it
+-- code that keeps up with the source, at whatever rate, follows it
 pub follows_of : (mode : Mode) (unit : List External) (f slots : ℕ) (code : List LinearItem) → KeepsUp mode unit f slots code → FollowsFunction mode unit f slots code
 follows_of mode unit f slots code (rate, keeps_up) meaning is opened below ws h call =
     all_follow meaning (linear_move meaning.arity code) linear_output (is_layer meaning.arity code) f rate (linear_start slots code) (keeps_up meaning is) opened below ws h call

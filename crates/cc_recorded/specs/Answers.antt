@@ -62,7 +62,7 @@ module _ {D : Type 0} where
     pub library : after.library ≡ before.library
     pub failed : after.failed ≡ before.failed
 
-  -- the library with the command's record, done
+  -- the library once the command is done, with its record added
   abbrev pub done_in : View D → Command → D → View D
   done_in library command disk =
       record { disk = disk; area = library.area; bodies = library.bodies ++ body_of command ∷ []; units = after library.units command; closed = false }

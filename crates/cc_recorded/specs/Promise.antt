@@ -67,8 +67,8 @@ pub record IsSound {Disk : Type 0} (D : Ghosts Disk) (base : Units) (from : ℕ)
   pub ordered : IsTrue D.honest → IsInOrder D book
 
 -- What is left of a service that was given up with these clients: its book was on this disk, and each client has receipts of its own calls,
--- in their order. If the answer is that these are all its clients, every receipt of theirs is in its history, and every entry has one; if
--- the answer is that they are not, this shows why.
+-- in order. If the answer is that these are all its clients, every receipt of theirs is in its history, and every entry has one; if the
+-- answer is that they are not, this shows why.
 pub record IsGivenUp {Disk : Type 0} (D : Ghosts Disk) (failures : ℕ) (base : Units) (from : ℕ) (left : List ℕ → Type 0) (clients : List MemberView) (are_all : Bool) (disk : Disk) : Type 0 where
   pub book : BookView Disk
   pub disk_is : book.library.disk ≡ disk

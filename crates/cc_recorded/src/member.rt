@@ -20,7 +20,7 @@ pub trait HasReceipts {
     fn number(&self) -> u64
         ensures { result ≡ (member self.now).number };
 
-    /// The receipts so far, which are of its own calls, in their order. It takes no memory.
+    /// The receipts of its own calls so far, in order. It takes no memory.
     fn receipts(&self) -> &[Receipt]
         ensures answer { result.now ≡ (member self.now).receipts }
         ensures own { IsOwn (member self.now) };

@@ -54,7 +54,7 @@ rtl_layer nodes = record {
     at_label : (c : Configuration) → Layered (rtl_output c) (graph_move nodes c)
     at_label c = tried_case (rtl_output c) (nodes c.label) _ (λ n. layered n c.registers c.world)
 
--- a run that keeps up follows, at any rate
+-- a run that keeps up, at whatever rate, follows
 pub follows_of : (mode : Mode) (unit : List External) (f : ℕ) (r : Rtl) → KeepsUp mode unit f r → FollowsFunction mode unit f r
 follows_of mode unit f r (rate, keeps) meaning is opened below ws h call =
     tracks_follow meaning (graph_move (node_at r.nodes)) rtl_output (rtl_layer (node_at r.nodes)) f rate (rtl_start r) (keeps meaning is) opened below ws h call

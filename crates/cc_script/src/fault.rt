@@ -8,7 +8,7 @@ use thiserror::Error;
 /// Why a script ends before its last line, or why a line of it is not executed.
 #[derive(Clone, Copy, Debug, Drop, Error)]
 pub enum ScriptFault {
-    /// 50: a line that is no command, or a byte other than a newline after a source.
+    /// 50: a line that is not a command, or a byte other than a newline after a source.
     #[error("BadLine")]
     BadLine,
     /// 51: the script ends within a source.

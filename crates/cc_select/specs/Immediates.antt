@@ -50,7 +50,7 @@ apply_immediate o a w = applied (is_exchanged o) (operator_of o) a w
 
 -- ---- which words it can have
 
--- whether an instruction's immediate can be the word: -2048 to 2047 in two's complement
+-- whether the word fits in an instruction's immediate: -2048 to 2047 in two's complement
 abbrev pub is_short : (word : ℕ) → Bool
 is_short w = nat_lt ((w + 2 ^ 11) % 2 ^ 32) (2 ^ 12)
 

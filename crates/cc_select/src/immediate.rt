@@ -6,7 +6,7 @@ ghost use Rattle.cc_select.specs.Immediates.{is_short, has_word, is_power, immed
 use crate::step::WordOperator;
 use cc_words::{Binary, add, sub};
 
-// Whether an instruction's immediate can be the word: -2048 to 2047.
+// Whether the word fits in an instruction's immediate: -2048 to 2047.
 fn is_short(word: u32) -> bool
     ensures { result ≡ is_short word }
 {

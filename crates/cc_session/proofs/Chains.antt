@@ -7,7 +7,7 @@ use Rattle.cc_session.specs.Spooling.{Given, given_by}
 use Rattle.cc_session.specs.declared.end.SessionEnd.{SessionEnd}
 use Rattle.cc_session.specs.declared.end.SessionEnd.TheVariants.{Finished, Fault}
 
--- two spools that took the same scripts and were handed the same answers have given the same
+-- two spools that took the same scripts and were handed the same answers have the same `Given`
 pub same_given : {S : Type 0} (taken : S → List Taken) (ended : S → List Delivered) (x y : S) → taken x ≡ taken y → ended x ≡ ended y
     → given_by taken ended x ≡ given_by taken ended y
 same_given taken ended x y one two = λ i. record { taken = one i; ended = two i }

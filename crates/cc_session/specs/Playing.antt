@@ -208,7 +208,7 @@ pub record IsPlayedInPart (mode : Mode) (dialect : Dialect) (most : Option ℕ) 
 
 -- ---- scripts that a fault ends
 
--- this many bytes are there, with a newline or the end after them, and this holds for what is left then
+-- this many bytes are there, with a newline or the end after them, and `Holds` is true of what is left then
 abbrev pub IsAfter : (count : ℕ) (Holds : List ℕ → Type 0) (rest : List ℕ) → Type 0
 IsAfter count Holds rest =
     (source : List ℕ) × (between : List ℕ) × (behind : List ℕ) × (rest ≡ source ++ between) × (length source ≡ count) × IsLine between [] behind × Holds behind
@@ -225,7 +225,7 @@ IsCutShort (Some (Update name expected count)) rest = IsShortOfTwo expected coun
 IsCutShort (Some (Call name steps count)) rest = length rest < count
 IsCutShort asked rest = ⊥
 
--- the next line is such a line: the script ends within its source
+-- the script ends within a source of its next line
 pub record EndsInSource (dialect : Dialect) (before : List ℕ) : Type 0 where
   pub line : List ℕ
   pub rest : List ℕ
@@ -248,7 +248,7 @@ HasUnended (Some (Update name expected count)) rest = IsUnendedOfTwo expected co
 HasUnended (Some (Call name steps count)) rest = IsUnended count rest
 HasUnended asked rest = ⊥
 
--- the next line is such a line
+-- a source of the script's next line is followed by another byte than a newline
 pub record EndsNoSource (dialect : Dialect) (before : List ℕ) : Type 0 where
   pub line : List ℕ
   pub rest : List ℕ
@@ -297,7 +297,7 @@ abbrev pub CutsLine : Option ScriptRequest → (old new : Talk) → Type 0
 CutsLine (Some (Run name steps)) old new = CutsRun name steps old new
 CutsLine asked old new = ⊥
 
--- the next line is such a line
+-- the same for the script's next line
 pub record CutsNext (dialect : Dialect) (before : List ℕ) (old new : Talk) : Type 0 where
   pub line : List ℕ
   pub rest : List ℕ

@@ -47,7 +47,7 @@ HaveCalled mode script before after end clients (Fault number) =
     ⊎ ((fault : ScriptFault) × IsEnding None fault × (number ≡ faults.fault_number fault) × HasCalled script before after (Fault number) end clients (IsEndedBy mode Plain None fault))
 
 -- What is left of a service that was opened: its library, with the history of its calls, which begins at the map to which the
--- bytes recover. Its clients have receipts of their own calls, in their order, and this holds for the history and for them.
+-- bytes recover. Its clients have receipts of their own calls, in order, and `Holds` is true of the history and the clients.
 -- Whatever a crash then leaves of the disk recovers to that library's map, or to that map without or with the change in which the
 -- device failed. So it holds each change that was acknowledged, in order. Whatever a crash left since this moment was already
 -- left before the opening, or it recovers to the first map with the changes of the first calls, or with the failed change too.

@@ -130,8 +130,8 @@ impl<N: Named + Send + Sync + 'static> Hints<N> {
         None
     }
 
-    // Hands the sources of the next commands to the workers, for a script that was read up to here. `held` is what is already
-    // there of the rest.
+    // Hands the sources of the next commands to the workers, for a script that was read up to here. `held` is the part of the
+    // rest that has been read already.
     pub(crate) fn look_ahead<H: Wait, D: Disk>(
         &mut self,
         rt: &H,

@@ -1,5 +1,5 @@
--- A run that keeps up with a bounded meaning, at any rate, follows it; for all lists of unknown words too, by cuts with the same
--- limits.
+-- A run that keeps up with a bounded meaning, at whatever rate, follows it; for all lists of unknown words too, by cuts with the
+-- same limits.
 use Rattle.std.proofs.Common.{◌≡◌, ℕ, zero, suc, ◌+◌, ◌-◌, ◌*◌, ◌<◌, ◌≤◌, List, refl, sym, ap, ◌∙◌, subst, ◌⊎◌, inl, inr, arith}
 use Rattle.std.proofs.Math.Nat.{mul-le-mul_left}
 use Rattle.std.proofs.lemmas.Bool.{cases_lt}

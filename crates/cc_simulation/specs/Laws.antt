@@ -28,7 +28,7 @@ CutsAreComparable C =
     (meaning : Meaning) (move : C → Move C) (output : C → List ℕ) → IsLayer move output → (opened k l i j : ℕ) (c : C)
     → Comparable (run move output (call_effect meaning opened) k i c) (work move (call_effect meaning opened) k i c) (run move output (call_effect meaning opened) l j c) (work move (call_effect meaning opened) l j c)
 
--- a run that keeps up with the source follows it, at any rate
+-- a run that keeps up with the source, at whatever rate, follows it
 abbrev pub TrackedFollows : (C : Type 0) → Type 0
 TrackedFollows C =
     (meaning : Meaning) (move : C → Move C) (output : C → List ℕ) → IsLayer move output → (f rate : ℕ) (start : List ℕ → World → C) → Tracks meaning f rate move output start

@@ -17,9 +17,9 @@ enum Part {
     Line,
     // This many bytes after a line, at least one, and then this many others, if the line has two such parts.
     Bytes(u64, Option<u64>),
-    // The end of such a part: a newline, or the first byte of the rest of a line that is no command.
+    // The end of such a part: a newline, or the first byte of the rest of a line that is not a command.
     End(Option<u64>),
-    // The rest of a line that is no command.
+    // The rest of a line that is not a command.
     Rest,
 }
 
@@ -55,8 +55,8 @@ fn number_of(digits: Option<&[u8]>) -> Option<u64> {
     Some(number)
 }
 
-// How many bytes come after a line, and how many after these, if there are any. After a line that is no command this does not
-// matter.
+// How many bytes come after a line, and how many after these, if there are any. If the line is not a command, the result does
+// not matter.
 fn bytes_after(line: &[u8]) -> Option<(u64, Option<u64>)> {
     let mut words = line.split(|byte| *byte == b' ');
     let verb = words.next()?;

@@ -108,7 +108,7 @@ Prints fetches (Some (CutShort name why)) old new is_written status = (status �
 Prints fetches (Some (Lost name why)) old new is_written status = (status ≡ 1) × SaysRefused is_written old new []
 Prints fetches None old new is_written status = (status ≡ 1) × SaysRefused is_written old new []
 
--- for a line that is no command the status is 2, and nothing is sent or printed
+-- for a line that is not a command the status is 2, and nothing is sent or printed
 abbrev pub EndsAs : (is_command fetches : Bool) (old new : Option (List ℕ)) → Ended → Type 0
 EndsAs false fetches old new ended = (ended.status ≡ 2) × (ended.came ≡ None) × (new ≡ old)
 EndsAs true fetches old new ended = Prints fetches ended.came old new ended.is_written ended.status

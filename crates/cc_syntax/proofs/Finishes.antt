@@ -41,7 +41,7 @@ of k = record { kind = k; text = []; at = 0 }
 abbrev mark : Punctuator → TokenKind
 mark p = kind.Punctuator p
 
--- if some tokens lead to the end of a unit after one more token, some do before it
+-- if a unit can be finished after one more token, it can be finished before that token
 by : (s m : State) (k : TokenKind) → step s (of k) ≡ Some m → Finishes m → Finishes s
 by s m k h f = record { rest = standing s (of k) m ∷ f.rest; tree = f.tree; unit = f.unit; runs = (m, h, refl, refl, f.runs) }
 

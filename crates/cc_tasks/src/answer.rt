@@ -36,7 +36,7 @@ pub enum Answer {
     Listed(Vec<u8>),
     /// The program's image as Intel HEX.
     Image(Vec<u8>),
-    /// What the program's image takes.
+    /// How much memory the program's image takes.
     Sized(Measure),
     /// What may go wrong in the program, unless it is shown that nothing may.
     Judged(Vec<Unsure>),
@@ -150,7 +150,7 @@ fn in_hex(alloc: Global, mode: Mode, text: &[u8]) -> Result<Answer, Fault>
     }
 }
 
-// What the program's image takes.
+// How much memory the program's image takes.
 fn sized(alloc: Global, mode: Mode, text: &[u8]) -> Result<Answer, Fault>
     ensures answer { IfOk result (λ answer. IsMeasured mode text.now answer) }
     ensures refused { IfErr result (λ fault. HasNoImage mode text.now fault) }

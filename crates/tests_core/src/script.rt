@@ -60,7 +60,7 @@ pub trait Scripted: Build {
     fn piece(alloc: Global, source: &str, part: u32) -> Result<Self::Piece, Fail>;
 }
 
-/// The name of one letter.
+/// The name that consists of this letter.
 pub fn name_of(letter: u8) -> Result<Name, Fail> {
     Ok(Name::new(&[letter])?)
 }

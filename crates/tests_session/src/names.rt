@@ -1,5 +1,5 @@
-// The name of a fault in its line comes from one table, by the fault's number. Here it is compared, for every fault, with the
-// name that the fault itself has.
+// Fault lines take the fault's name from one table, by its number. Here that name is compared, for every fault, with the name
+// that the fault itself has.
 
 use cc_answers::name_of;
 use cc_library::{LibraryFault, NameFault};

@@ -85,7 +85,7 @@ fn load(standing: Option<Standing<'_>>) -> Instruction<'_> {
     }
 }
 
-// The instruction that calls a name, once its arguments are pushed.
+// The instruction that calls a name, once its arguments have been pushed.
 fn call_of<'a>(standing: Option<Standing<'_>>, name: &'a Identifier) -> Instruction<'a> {
     match standing {
         None => Instruction::Constant(0),

@@ -51,7 +51,7 @@ pub fn store_element(
     }
 }
 
-/// The instruction that calls a function whose arguments are pushed.
+/// The instruction that calls a function whose arguments have already been pushed.
 pub fn call_instruction(names: &Environment<'_>, name: &[u8]) -> Instruction
     ensures { result ≡ call_of names.now name.now }
 {

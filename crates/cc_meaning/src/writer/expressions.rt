@@ -69,7 +69,7 @@ fn element(
     Ok(names.element_type(name.bytes.as_slice()))
 }
 
-// Writes a call whose arguments are pushed.
+// Writes a call whose arguments have already been pushed.
 fn call(
     names: &Environment<'_>,
     code: &mut Emitter,

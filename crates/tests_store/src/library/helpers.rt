@@ -45,7 +45,7 @@ pub fn word_unit(alloc: Global, word: u32) -> Result<Arc<StoredUnit>, Fail> {
     Ok(Arc::new(alloc, unit(alloc, &[], word)?)?)
 }
 
-/// The name with one letter.
+/// The name that consists of this letter.
 pub fn name(letter: u8) -> Result<Name, Fail> {
     Ok(Name::new(&[letter])?)
 }

@@ -10,7 +10,7 @@ use std::alloc::Global;
 use std::test::Fail;
 use tests_texts::verdict::passes;
 
-// Three calls of opening an empty library, four of each change and of `compact`.
+// Three device calls to open an empty library, and four for each change and for `compact`.
 const CALLS: u64 = 23;
 
 const STEPS: [Step; 5] = [
