@@ -55,7 +55,9 @@ fn linked(
     pieces: &[Piece],
     places: &[usize],
 ) -> Result<CompiledUnit, LinkFault> {
-    let lent = lent(alloc, pieces, places)?;
+    let Ok(lent) = lent(alloc, pieces, places) else {
+        return Err(LinkFault::OutOfMemory);
+    };
     let made = link_lent(alloc, unit, lent.as_slice());
     drop(lent);
     made
