@@ -1,13 +1,17 @@
 #!/usr/bin/env python3
-"""Scripts of many `add`s, by this program and by one that was built before: BEFORE names that one, CCLIB another one than this repository's.
+"""Compares how this program and an earlier build run scripts of many `add`s: BEFORE names the earlier build, CCLIB a program other than this
+repository's.
 
-ahead.py adds [FOLDER]            adds a second by `library`: 2,000 units of one function, and 500 of the programs of bench/programs and examples, with 1, 2
-                                  and 4 workers, in turn, ROUNDS times (5); the best of each counts, by the wall clock, less a session of no command
-ahead.py fuzz [FOLDER [COUNT]]    COUNT (10,000) scripts with good and faulty commands, odd lengths and cut ends: the same answers, status and bytes of
-                                  the file by `library`, fed at once (every second one) or in pieces, and the same answers by `serve` and the same
-                                  list afterwards
+ahead.py adds [FOLDER]            adds a second with `library`: 2,000 units of one function, and 500 of the programs of bench/programs and examples,
+with 1, 2
+                                  and 4 workers, in turn, ROUNDS times (5); the best of each counts, by the wall clock, minus a session without a
+                                  command
+ahead.py fuzz [FOLDER [COUNT]]    COUNT (10,000) scripts with good and faulty commands, odd lengths and cut ends: the answers, the status and the
+bytes of
+                                  the file have to be the same with `library`, fed at once (every second script) or in pieces, and the answers with
+                                  `serve` and the list afterwards too
 
-The file lies in FOLDER (this one)."""
+The file is put into FOLDER (this one)."""
 
 import glob
 import os
@@ -36,7 +40,7 @@ def fresh(program, path, area):
 
 
 def real_texts():
-    """The texts of the repository's programs that are units."""
+    """The texts of those programs of the repository that are units."""
     found = []
     for path in sorted(glob.glob(f"{TOP}/bench/programs/**/*.c", recursive=True) + glob.glob(f"{TOP}/examples/*.c")):
         with open(path, encoding="utf-8") as file:
@@ -80,7 +84,7 @@ BAD = ["int main(void){return 1 2}", "int main(void)\n{x;}", "", "int", "int f(v
 
 
 def command(draw):
-    """A command of a script, of which some are faulty."""
+    """A command of a script; some commands are faulty."""
     name = draw.choice(["a", "b", "c", "d", "long_name_" * 2, "A", "9", "q"])
     kind = draw.randrange(20)
     if kind < 13:
@@ -126,7 +130,7 @@ def by_server(program, work, texts):
     done, stop = os.path.join(spool, "done"), os.path.join(spool, "stop")
 
     def until(is_so):
-        """Runs the server until this is so; returns its status."""
+        """Runs the server until this is true; returns its status."""
         server = subprocess.Popen(words, stdin=subprocess.DEVNULL, stdout=subprocess.DEVNULL, stderr=subprocess.DEVNULL)
         while server.poll() is None and not is_so():
             time.sleep(0.01)

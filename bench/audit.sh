@@ -1,10 +1,10 @@
 #!/usr/bin/env bash
-# What an audit costs. Times are the processor's, and ratios are within one run: the best of ROUNDS rounds (5) of each counts, asked in turn.
-# First a unit of 64 functions, TIMES (20) in a library, audited by a session of `cclib library` without its start, by as many compilations of
-# its text: at most 1 is asked for.
-# Then certificates that somebody hostile might hand in (bench/hostile.py), and how many bytes the record of a unit has on the disk, for the
-# programs of bench/programs and for the unit of 64 functions: before there were certificates, and with its own.
-# The programs have to be built (./prove-below bench, ./cclib), or BENCH and CCLIB name some that are.
+# What an audit costs. Times are processor times, and ratios are within one run: both are measured in turn, ROUNDS times (5), and the best of each
+# counts. First the audit of a unit of 64 functions that is in a library TIMES (20) times, by a session of `cclib library`, not counting its start,
+# divided by the same number of compilations of its text: the goal is at most 1.
+# Then certificates that an attacker might submit (bench/hostile.py); and how many bytes a unit's record takes on disk, without and with its
+# certificate, for the programs of bench/programs and for the unit of 64 functions. Build the programs first (./prove-below bench, ./cclib), or set
+# BENCH and CCLIB to built ones.
 set -eu
 # shellcheck source=bench/words.sh
 . "$(dirname "$0")/words.sh"
@@ -25,14 +25,14 @@ sixty_four() {
     printf 'int main(void)\n{\n    return f62(1, 2);\n}\n'
 }
 
-# library FILE SCRIPT [OPTION..]: does the script over that file
+# library FILE SCRIPT [OPTION..]: runs the script over that file
 library() {
     local disk=$1 script=$2
     shift 2
     "$cclib" library "$disk" --quiet --workers 1 "$@" < "$script"
 }
 
-# add NAME TEXT: the command that adds it
+# add NAME TEXT: the command that adds TEXT under NAME
 add() { printf 'add %s %d\n' "$1" "$(wc -c < "$2")"; cat "$2"; echo; }
 
 sixty_four > "$work/unit.c"
@@ -54,6 +54,6 @@ python3 "$top/bench/hostile.py" audit
 
 for text in "$top"/bench/programs/*.c "$work/unit.c"; do add "$(basename "$text" .c)" "$text"; done > "$work/script"
 library "$work/disk" "$work/script" --format 1000000 > "$work/added"
-python3 "$top/bench/records.py" sizes "$work/disk" | awk '
+python3 "$top/tools/records.py" sizes "$work/disk" | awk '
     { printf "%s: %d bytes without a certificate, %d with, ratio %.2f\n", $1, $2, $3, $3 / $2; sum += log($3 / $2) }
     END { printf "geometric mean of the ratios: %.2f\n", exp(sum / NR) }'

@@ -1,13 +1,14 @@
 #!/usr/bin/env bash
-# The quality of the code: how many instructions each program of bench/programs executes, and how many words its code has. Of three kinds, each
-# with a mean of its own: the eleven in bench/programs, the fourteen of firmware/ (state in global scalars, tables, arrays of bytes), and the four
-# of untuned/, which were written before the code was made better and are not looked at when it is. Some read a word of input: bench/programs/inputs.
-# bench/code.sh [--gp] [SIMULATOR COMPILER..]: where the command of a plain simulator of the machine and of a C compiler for it are given, the
-# compiler's words run there, unoptimised (LEVEL=-Og for another level), and the ratio is our count by the compiler's: less than 1 is better than
-# it, as in bench/code.sh './rv32sim -d' clang --target=riscv32 or bench/code.sh --gp './rv32sim -d' riscv64-unknown-elf-gcc
-# --gp: the peer's own linker makes accesses to the first 4 KiB of globals relative to gp, which start code sets: the harder peer. Else it is
-# linked by lld (LINKER).
-# A count is exact, so other work on the machine changes nothing: it is the least number of steps with which `run` ends.
+# The quality of the code: how many instructions each program of bench/programs executes, and how many words its code has. There are three
+# kinds, each with a mean of its own: the eleven in bench/programs, the fourteen of firmware/ (state in global scalars, tables, arrays of
+# bytes), and the four of untuned/, which were written before the generated code was tuned, and which nobody looks at while tuning it. Some read words
+# of input: bench/programs/inputs.
+# bench/code.sh [--gp] [SIMULATOR COMPILER..]: if the command of a plain simulator of the machine and of a C compiler for it are given,
+# that compiler's code runs there, unoptimised (LEVEL=-Og for another level), and the ratio is our count / the compiler's: less is better.
+# For example: bench/code.sh './rv32sim -d' clang --target=riscv32, or bench/code.sh --gp './rv32sim -d' riscv64-unknown-elf-gcc
+# --gp: the compiler's own linker makes accesses to the first 4 KiB of globals relative to gp, which start code sets: this makes the
+# comparison harder. Otherwise lld links the program (LINKER).
+# A count is exact, so other work on the machine does not change it: it is the least number of steps with which `run` comes to an end.
 set -eu
 # shellcheck source=bench/words.sh
 . "$(dirname "$0")/words.sh"
@@ -22,20 +23,20 @@ simulator=${1:-}
 [ $# -eq 0 ] || shift
 compiler=("$@")
 
-# The most steps that `run` takes.
+# `run` takes at most this many steps.
 most=1000000000
 
-# input PROGRAM: the words that it reads
+# input PROGRAM: the words that the program reads
 input() { sed -n "s/^$(basename "$1" .c) //p" "$top/bench/programs/inputs"; }
 
-# goes_on PROGRAM STEPS: whether it has not ended by then
+# goes_on PROGRAM STEPS: whether the program has not ended after that many steps
 goes_on() {
     # shellcheck disable=SC2046
     "$cclib" --quiet run "$2" $(input "$1") < "$1" > "$work/out" || fail "$1: $(tail -n 1 "$work/out")"
     [ "$(tail -n 1 "$work/out")" = going ]
 }
 
-# executed PROGRAM: how many instructions it executes
+# executed PROGRAM: how many instructions the program executes
 executed() {
     local low=0 high=1024 middle
     while goes_on "$1" $high; do

@@ -1,21 +1,21 @@
 #!/usr/bin/env python3
-"""Shows by ratios within one run that names chosen to collide make no text slow: the processor time of `check` over a text of 64 KiB
-whose names have one place in a table by the pack's `FoldHasher`, against the same text with another last letter in each name, so that the
-names begin alike as often, in the same order, and have no pattern by the hash.
+"""Shows by ratios within one run that names chosen to collide make no text slow. It compares the processor time of `check` over a text of 64 KiB
+whose names would all have the same place in a table with the pack's `FoldHasher`, with the time over the same text with another last letter in each
+name: there the same number of names begin alike, in the same order, and their hashes show no pattern.
 
     bench/collide.py [PROGRAM]
 
-A name has six letters. Those that collide have the same low eleven bits of their hash, so they begin at one group of any table of as
-many groups or fewer, and the same high byte of it, so each of them has to be compared. `objects` declares each name once; `uses` declares
-half of them and then uses all, so half are faults; `locals` declares them in functions of 256. The program has to be built (./cclib
---help); gcc makes what looks for the names, some seconds long."""
+A name has six letters. Those that collide have the same low eleven bits of their hash, so they begin at the same group in any table of up to that
+many groups, and the same high byte, so each of them has to be compared. `objects` declares each name once; `uses` declares half of them and then uses
+all, so half are faults; `locals` declares them in functions of 256. Build the program first (./cclib --help). gcc compiles the search for the names,
+which takes some seconds."""
 import os, random, resource, subprocess, sys, tempfile
 
 TOP = os.path.dirname(os.path.dirname(os.path.abspath(__file__)))
 PROGRAM = [sys.argv[1] if sys.argv[1:] else os.path.join(TOP, "crates/cclib/out/cclib"), "check"]
 SIZE = 65536
 
-# The hash of a slice of bytes: its length as eight bytes, and then each byte, one write each.
+# The hash of a slice of bytes: its length as eight bytes, and then each byte, with one write for each.
 SEARCH = r"""
 #include <stdint.h>
 #include <stdio.h>
@@ -54,7 +54,8 @@ def colliding(folder, count):
 
 
 def plain(names):
-    """The same names with another last letter each: names that begin alike cost longer comparisons, which is no matter of the hash."""
+    """The same names with another last letter each: names that begin alike cost longer comparisons, which has nothing to do with the
+    hash."""
     random.seed(1)
     letters = "abcdefghijklmnopqrstuvwxyzABCDEFGHIJKLMNOPQRSTUVWXYZ_"
     taken, others = set(names), []

@@ -1,8 +1,9 @@
 #!/usr/bin/env bash
-# What of a commit is not the device's, within one run: commit_in_memory.sh [FOLDER] (this one). COUNT commits (500) of a unit of 16 KiB (8,192 bytes of
-# source and 2,048 words of code): `compact` of a library that has it alone, in a session of `cclib library`, on a file in memory (MEMORY,
-# /dev/shm) by as many on a file in FOLDER; ROUNDS times (10), the best of both without a start that does nothing. By the wall clock,
-# since the device is waited for. What the file in memory takes is in the first. The program has to be built (./cclib), or CCLIB names one that is.
+# What a commit costs apart from the device, within one run: commit_in_memory.sh [FOLDER] (this one). COUNT commits (500) of a unit of 16 KiB (8,192
+# bytes of source and 2,048 words of code) are made in a session of `cclib library`: each is a `compact` of a library that has only this unit. The
+# ratio is the time on a file in memory (MEMORY, /dev/shm) / the time on a file in FOLDER: both ROUNDS times (10), the best of each, not counting a
+# start that does nothing. Times are by the wall clock, since both wait for the device. The first includes what the file in memory takes. Build the
+# program first (./cclib), or set CCLIB to a built one.
 set -eu
 # shellcheck source=bench/words.sh
 . "$(dirname "$0")/words.sh"
@@ -15,7 +16,7 @@ session() { "$cclib" library "$1/disk" --quiet --workers 1 < "$work/$2"; }
 
 : > "$work/nothing"
 for ((n = 0; n < count; n++)); do echo compact; done > "$work/script"
-for folder in "$memory" "$work"; do python3 "$top/bench/records.py" make "$folder/disk" 1 8192 2048 > /dev/null; done
+for folder in "$memory" "$work"; do python3 "$top/tools/records.py" make "$folder/disk" 1 8192 2048 > /dev/null; done
 for _ in $(seq "${ROUNDS:-10}"); do
     for what in nothing script; do
         timed memory.$what session "$memory" $what

@@ -1,5 +1,5 @@
-/* What a commit of the library asks of the system, and nothing else: commits FILE COUNT LENGTH writes COUNT times LENGTH bytes
-   one after the other, syncs, writes the byte in front of them, and syncs. The file has to be long enough. */
+/* Does what a commit of the library asks of the system, and nothing else: commits FILE COUNT LENGTH writes, COUNT times, LENGTH bytes
+   after those before, syncs, writes the byte before them, and syncs. The file has to be long enough. */
 #include <fcntl.h>
 #include <stdio.h>
 #include <stdlib.h>

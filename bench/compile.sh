@@ -1,9 +1,9 @@
 #!/usr/bin/env bash
-# How fast texts are compiled: lines a second of processor time, for the programs of bench/programs and for texts of 8 to 60 KiB, and how that grows.
-# bench/compile.sh [COMPILER..]: where the command of a C compiler is given, it compiles the same texts to objects, unoptimised, and the
-# ratio is our lines a second by its, net of the start of both on an empty main: more than 1 is faster. So bench/compile.sh gcc.
-# Each is done ROUNDS times (3), in turn, and the best counts. The program of crates/bench has to be built (./prove-below bench), or BENCH names one
-# that is.
+# How fast texts are compiled: lines a second of processor time, for the programs of bench/programs and for texts of 8 to 60 KiB, and how the speed
+# changes as texts grow. bench/compile.sh [COMPILER..]: if the command of a C compiler is given, it compiles the same texts to objects, unoptimised,
+# and the ratio is our lines a second / its lines a second, not counting the time that each takes for an empty main: more is better. For example:
+# bench/compile.sh gcc. Each text is compiled ROUNDS times (3), in turn, and the best time counts. Build the program of crates/bench first
+# (./prove-below bench), or set BENCH to a built one.
 set -eu
 # shellcheck source=bench/words.sh
 . "$(dirname "$0")/words.sh"
@@ -12,7 +12,7 @@ room
 echo 'int main(void){}' > "$work/empty.c"
 echo 'void write_word(int); int read_word(void);' > "$work/services.h"
 
-# text KIB: functions of ten lines each, 63 at most, the last of them called; the lines are as long as it takes
+# text KIB: at most 63 functions of ten lines each, of which the last is called; the lines are as long as the size requires
 text() {
     python3 - "$1" <<'P'
 import sys
@@ -25,7 +25,7 @@ sys.stdout.write(body + "int main(void)\n{\n    return f0(1, 2);\n}\n")
 P
 }
 
-# net COMMAND..: the least seconds of some runs of the command over $text, without those over an empty main
+# net COMMAND..: the least seconds that the command takes over $text in some runs, minus those over an empty main
 net() {
     rm -f "$work"/time.*
     for _ in $(seq "${ROUNDS:-3}"); do

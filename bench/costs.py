@@ -1,10 +1,11 @@
 #!/usr/bin/env python3
-"""What a checked image costs beside a plain one: executed instructions, words of code, and the time to compile.
+"""What a checked image costs compared with a plain one: executed instructions, words of code, and the time to compile.
 
-costs.py [FILE..]: of each C program (without FILE: bench/programs) the instructions that the run of each image executes, which is the least
-number of steps with which `run` ends, its words, and the processor's seconds of ROUNDS (20) times `image`; then the ratios, checked / plain, the
-geometric means and the worst. A program reads the words that bench/programs/inputs has for its name, or those of a file NAME.words beside it.
-The program has to be built (./cclib --help), or CCLIB names one that is. The status is 1 where the two images write different words."""
+costs.py [FILE..]: for each C program (without FILE: those of bench/programs) prints how many instructions the run of each image executes (the least
+number of steps with which `run` comes to an end), how many words the image has, and the processor seconds of `image`, ROUNDS (20) times; then the
+ratios, checked / plain, with the geometric means and the worst. A program reads the words that bench/programs/inputs has for its name, or those of a
+file NAME.words next to it. Build the program first (./cclib --help), or set CCLIB to a built one. The status is 1 if the two images write different
+words."""
 import math
 import os
 import pathlib
@@ -12,6 +13,7 @@ import resource
 import subprocess
 import sys
 
+sys.path.insert(0, os.path.join(os.path.dirname(os.path.abspath(__file__)), "../tests/outside"))
 import compare
 
 TOP = pathlib.Path(__file__).resolve().parent.parent
@@ -20,7 +22,7 @@ ROUNDS = int(os.environ.get("ROUNDS", "20"))
 
 
 def inputs():
-    """The words that each program of bench/programs reads, by its name."""
+    """The words that each program of bench/programs reads, by the program's name."""
     lines = (TOP / "bench/programs/inputs").read_text(encoding="utf-8").splitlines()
     return {line.split()[0]: line.split()[1:] for line in lines if line.strip()}
 
@@ -50,7 +52,7 @@ def executed(text, words, *mode):
 
 
 def seconds(text, *mode):
-    """The processor's seconds of compiling a text often."""
+    """The processor seconds that it takes to compile a text many times."""
     before = resource.getrusage(resource.RUSAGE_CHILDREN)
     for _ in range(ROUNDS):
         ask(text, "image", *mode)

@@ -1,11 +1,10 @@
 #!/usr/bin/env bash
-# Shows by ratios within one run, of processor time, that `check` is linear in the text's length and that a turn of a loop has
-# one price: 64 KiB of text against 8 KiB (8 is linear), and 10 million turns against 1 million (10 is linear). Then how fast
-# `check` is where `gcc -fsyntax-only -w` is 1 (more is faster), over 64 KiB of each kind, without the starts of both programs, the two
-# in turn and each the best of ROUNDS runs (40); and the most memory of `check`, in bytes for each byte of text, without that of an
-# empty text; and what initialisers of an array of bytes cost by those of an array of words. `check` is `--quiet check`, since gcc does not
-# warn either; how much longer it takes where it warns is told last.
-# The program has to be built (./cclib), or CCLIB names one that is.
+# Shows, by ratios of processor times within one run, that `check` is linear in the text's length and that each turn of a loop costs the same: 64 KiB
+# of text / 8 KiB (8 is linear), and 10 million turns / 1 million (10 is linear). Then the speed of `check` / that of `gcc -fsyntax-only -w` (more is
+# better), over 64 KiB of each kind, not counting the start of either program; the two run in turn, and the best of ROUNDS runs (40) of each counts.
+# Then the largest amount of memory that `check` takes, in bytes for each byte of text, minus that for an empty text; and the cost of initialisers of
+# an array of bytes / that of an array of words. `check` runs as `--quiet check`, since gcc does not warn either; how much longer it takes with
+# warnings is printed last. Build the program first (./cclib), or set CCLIB to a built one.
 set -eu
 # shellcheck source=bench/words.sh
 . "$(dirname "$0")/words.sh"
@@ -25,7 +24,7 @@ units = {
     "nested": lambda i: "{" * 62 + "}" * 62,
     "comments": lambda i: "/* a comment */a=1;",
     "names": lambda i: "a=a+a+a+a+a+a+a+a;",
-    # at most 65,536 words of objects, at most 64 functions, at most 256 locals in each
+    # at most 65,536 words of objects, and at most 64 functions with at most 256 locals each
     "objects": lambda i: f"int g{i:05}=-{i}+1;",
     "functions": lambda i: f"int f{i}(int x){{int " + ",".join(f"v{k}=x" for k in range(90)) + ";" + "".join(f"v{k}+=v{89-k};" for k in range(60)) + f"return {'f%d(v9)' % (i - 1) if i else 0};}}",
 }
@@ -62,7 +61,7 @@ for kind in statements blocks comments names objects functions; do
   echo "check, $kind: 8 KiB $s ms, 64 KiB $l ms; without the start of the program the ratio is $(python3 -c "print(round(($l-$base)/max(1,$s-$base),1))")"
 done
 for kind in statements blocks comments names objects functions nested; do text "$kind" 65536 > "$work/$kind.c"; done
-# A process counts the memory of the one that it is made of, so a small one starts the program, and tells the most that it took.
+# The memory of a process includes what its parent had, so a small process starts the program, and prints the most that it took.
 gcc -O1 -o "$work/peak" "$top/bench/peak.c"
 python3 - "$program" "$work" <<'P'
 import math, os, subprocess, sys

@@ -1,25 +1,25 @@
 #!/usr/bin/env python3
-"""Runs the gate and tells where its time goes.
+"""Runs the gate and reports where its time goes.
 
-    bench/gate.py [FOLDER]          in that clone of the repository, or a fresh one of what is committed here
+    bench/gate.py [FOLDER]          in that clone of the repository, or in a fresh clone of what is committed here
     bench/gate.py --chain           runs nothing: prints the sums and the longest chain by tools/costs.txt, which docs/GATE.md has to have
     bench/gate.py --table           runs nothing: prints tools/costs.txt as a table
 
 The gate is `rt ci`, as `.ci/run` has it; it should be the only thing that the machine does. While it runs, this script looks
 four times a second at the toolchain's processes and adds up the processor seconds of each. Then it prints a row for each
-crate, in seconds of processor, and if the run passed it writes the same to tools/costs.txt (of the repository that the script is in):
+crate, in processor seconds, and if the run passed, the same is written to tools/costs.txt (of the repository that the script is in):
 
     lines   of src/, proofs left out
     P       a whole proof from scratch
-    tests   the proof of its tests, where it has some, and their build
+    tests   the proof of its tests, if it has any, and their build
     first   its first must-fail edit, which is a whole check again
     e       each further edit, on average
     n       a check that changes nothing, which the gate makes after the edits
     sum     all of these
 
 and after them the sum of all, the wall clock's time, and the longest chain: the proofs of crates that wait for one another,
-and the tests and edits of the last of them. The gate takes no less than its longest chain, nor than the sum by the number of
-processors; whether a cut of a crate would shorten it shows the chain in crates.txt as it is now."""
+and the tests and edits of the last of them. The gate takes at least as long as its longest chain, and at least the sum divided by the number of
+processors. The chain of crates.txt as it is now shows whether splitting a crate would shorten it."""
 import os
 import re
 import shutil
@@ -32,14 +32,14 @@ from datetime import date
 TOP = os.path.dirname(os.path.dirname(os.path.abspath(__file__)))
 TICK = os.sysconf("SC_CLK_TCK")
 
-# What each crate costs, by which ./prove-below schedules too.
+# What each crate costs; ./prove-below uses it too, for its schedule.
 COSTS = f"{TOP}/tools/costs.txt"
 
 # The crates that are linked as programs.
 PROGRAMS = ("cclib", "bench")
 
 class Cost:
-    """A line of tools/costs.txt: what the gate spends on one crate; a number is 0 where there is none."""
+    """A line of tools/costs.txt: what the gate spends on one crate; a number is 0 if there is no such part."""
 
     def __init__(self, name, *cells):
         self.name = name
@@ -64,13 +64,13 @@ def costs():
 
 
 def table(found):
-    """Returns the lines of the table of these costs."""
+    """Returns the lines of a table of these costs."""
     head = ["| crate                |  lines |    P | tests | edits | first |    e |    n |   sum |", "|---|---|---|---|---|---|---|---|---|"]
     return head + [it.row() for it in found]
 
 
 def write(found):
-    """Puts costs in place of those of tools/costs.txt."""
+    """Replaces the costs in tools/costs.txt with these."""
     with open(COSTS, encoding="utf-8") as file:
         comments = [line for line in file if line.startswith("#")]
     with open(COSTS, "w", encoding="utf-8") as file:
@@ -88,7 +88,7 @@ class Process:
 
 
 def read(pid):
-    """Returns the words, the folder and the seconds of a process, or None where it is not the toolchain's or has ended."""
+    """Returns the words, the folder and the seconds of a process, or None if it is not the toolchain's or has ended."""
     try:
         with open(f"/proc/{pid}/stat", "rb") as file:
             name, fields = re.match(rb"\d+ \((.*)\) (.*)", file.read(), re.S).groups()
@@ -139,7 +139,7 @@ def count_lines(folder):
 
 
 def longest(names, proof, last):
-    """Returns the seconds and the crates of the longest chain, by those of each proof and of what comes behind the last one."""
+    """Returns the seconds and the crates of the longest chain, given the seconds of each proof and of what comes after the last one."""
     chains = {}
 
     def chain(name):
@@ -153,7 +153,7 @@ def longest(names, proof, last):
 
 
 def sums(names, found):
-    """Returns the sum of what the gate spends, and its parts, with what each is."""
+    """Returns the sum of what the gate spends, and its parts, each with what it is."""
     own = [found[it] for it in names if it in found]
     kinds = {"test crates": [], "the two programs": [], "the libraries' own proofs": []}
     for it in own:
@@ -166,7 +166,7 @@ def sums(names, found):
 
 
 def tell_chain():
-    """Prints what tools/costs.txt says of the crates of today."""
+    """Prints what tools/costs.txt says about today's crates."""
     names, found = below(TOP), {it.name: it for it in costs()}
     unknown = sorted(set(names) - set(found))
     proof = lambda it: found[it].proof if it in found else 0

@@ -1,17 +1,18 @@
 #!/usr/bin/env python3
-"""LTL that somebody hostile might hand in, in a certificate: what the validator and an audit take over it.
+"""LTL in a certificate that somebody hostile might hand in: what the validator and an audit spend on it.
 
-hostile.py validate    a value that is equal to 495 slots, written in 1,000 blocks and in 2,000 (the goal is at most 2.5 times the time); a loop of
-                       1,000 blocks of which one turns 495 slots (the goal is 10 seconds), for one value and for 64, and with 60,000 moves more in
-                       ten of its blocks; and where the highest slots are used, 256 locals and 8 parameters alive. The most memory of each
-hostile.py audit       certificates of half a million bytes, a million and two, with an image that is another one: many moves in front of many
-                       writes, straight on, in a loop over one value and in a loop over 64, which the validator refuses in the end. Twice the bytes
-                       may take 2.5 times the time at most. Of the last, which takes minutes, there are two rounds
+hostile.py validate    a value that equals 495 slots, written in 1,000 blocks and in 2,000 (the goal is at most 2.5 times the time);
+                       a loop of 1,000 blocks, one of which turns 495 slots (the goal is 10 seconds), for one value and for 64, and with
+                       60,000 more moves in ten of its blocks; and, with the highest slots in use, 256 locals and 8 parameters live. Prints
+                       the largest amount of memory of each, too
+hostile.py audit       certificates of half a million, one million and two million bytes, with another program's image: many moves before many
+                       writes, in straight code, in a loop over one value and in a loop over 64, which the validator refuses in the end.
+                       Twice the bytes may take at most 2.5 times the time. The last, which takes minutes, has two rounds
 
-The LTL is what the compiler makes of a text, with a slot in place of each register, and then changed; FORMATS.md has its bytes. What judging a
-function once takes is the time of `bench judge` (from making its RTL on), what an audit takes that of `cclib library`, without their starts:
-the processor's seconds, the least of ROUNDS rounds (3). The programs have to be built (./prove-below bench, ./cclib), or BENCH and
-CCLIB name some that are. Needs a C compiler, for peak.c."""
+The LTL is what the compiler makes of a text, with a slot in place of each register, and then changed; FORMATS.md has its bytes. The cost of judging a
+function once is the time of `bench judge` (from making its RTL on), and that of an audit is the time of `cclib library`, not counting their starts:
+processor seconds, the least of ROUNDS rounds (3). Build the programs first (./prove-below bench, ./cclib), or set BENCH and CCLIB to built ones. A C
+compiler is needed, for peak.c."""
 
 import os
 import struct
@@ -19,6 +20,7 @@ import subprocess
 import sys
 import tempfile
 
+sys.path.insert(0, os.path.join(os.path.dirname(os.path.abspath(__file__)), "../tools"))
 import records
 
 HERE = os.path.dirname(os.path.abspath(__file__))
@@ -26,14 +28,14 @@ BENCH = os.environ.get("BENCH") or os.path.join(HERE, "../crates/bench/out/bench
 CCLIB = os.environ.get("CCLIB") or os.path.join(HERE, "../crates/cclib/out/cclib")
 ROUNDS = int(os.environ.get("ROUNDS", 3))
 SLOTS = 495
-# Registers that hold nothing between two operations, and the one in which a word is read, written and returned.
+# Registers that hold nothing between two operations, and the one through which a word is read, written and returned.
 OVER, AGAIN, WORD = 28, 29, 10
 
 # ---- LTL
 
 BETWEEN, RELOAD, SPILL = range(3)
 MOVES = {BETWEEN: "<BB", RELOAD: "<BH", SPILL: "<HB"}
-# The fields of an operation, and which of them are registers that are written and read.
+# The fields of each operation, and which of them are registers that it writes or reads.
 NOP, CONST, UNARY, BINARY, LOAD, STORE, CALL, READ, WRITE, BRANCH, RETURN = range(11)
 OPERATIONS = {
     NOP: ("<I", [], []), CONST: ("<BII", [0], []), UNARY: ("<BBBI", [1], [2]), BINARY: ("<BBBBI", [1], [2, 3]), LOAD: ("<BIBBI", [2], [3]),
@@ -42,7 +44,7 @@ OPERATIONS = {
 
 
 class Block:
-    """A block: its label, the moves in front of its operation, the operation with its fields, and the moves behind it."""
+    """A block: its label, the moves before its operation, the operation with its fields, and the moves after it."""
 
     def __init__(self, label, before, operation, fields, after):
         self.label, self.before, self.operation, self.fields, self.after = label, before, operation, fields, after
@@ -92,8 +94,8 @@ class Function:
         return b"".join(made)
 
     def spill(self):
-        """Gives each register a slot of its own, to which parameters go first, from which it comes in front of an operation and to which it goes
-        behind it."""
+        """Gives each register a slot of its own. Parameters go there first; a register is loaded from its slot before an operation and
+        stored to it afterwards."""
         first = self.slots
 
         def slot(register):
@@ -112,7 +114,7 @@ class Function:
         self.slots = SLOTS
 
     def turn_down(self):
-        """Uses the slots from the top down."""
+        """Uses the slots from the highest one down."""
         def turned(kind, to, from_):
             return (kind, SLOTS - 1 - to if kind == SPILL else to, SLOTS - 1 - from_ if kind == RELOAD else from_)
 
@@ -134,7 +136,7 @@ def back_and_forth(pairs):
 
 
 def equal(ltl, pairs=0):
-    """Each word that is written comes from the next of equal slots, behind so many pairs of moves."""
+    """Each word that is written comes from the next one of some equal slots, after this many pairs of moves."""
     ltl.spill()
     ltl.spread()
     for number, it in enumerate(ltl.of(WRITE)):
@@ -142,7 +144,7 @@ def equal(ltl, pairs=0):
 
 
 def turning(ltl, writes=0, pairs=0):
-    """Behind the first write the words of all slots turn; in front of so many writes behind it stand pairs of moves more."""
+    """After the first write the words of all slots rotate; before this many of the later writes there are more pairs of moves."""
     ltl.spill()
     ltl.spread()
     first, *others = ltl.of(WRITE)
@@ -180,14 +182,14 @@ def wide(writes):
 
 
 class Room:
-    """A folder with a text, its LTL so changed, and a library of both."""
+    """A folder with a text, its LTL changed in this way, and a library of both."""
 
     def __init__(self, work):
         self.work, self.text, self.ltl, self.disk, self.script = work, f"{work}/text.c", f"{work}/ltl", f"{work}/disk", f"{work}/script"
         subprocess.run([os.environ.get("CC", "cc"), "-O1", "-o", f"{work}/peak", f"{HERE}/peak.c"], check=True)
 
     def make(self, text, change, *more):
-        """The bytes of the certificate of the text's first function, so changed."""
+        """The bytes of the certificate for the text's first function, changed in this way."""
         with open(self.text, "w") as file:
             file.write(text)
         ran = subprocess.run([CCLIB, "library", self.disk, "--format", str(1 << 22), "--quiet"], input=f"add a {len(text)}\n{text}\n", capture_output=True, text=True)
@@ -206,7 +208,7 @@ class Room:
         return struct.pack("<II", 1, len(made)) + made
 
     def seconds(self, words, script=""):
-        """The processor's seconds of one run, and what it prints."""
+        """The processor seconds of one run, and what it prints."""
         with open(self.script, "w") as file:
             file.write(script)
         with open(self.script) as source, open(f"{self.work}/said", "w+") as said:
@@ -216,7 +218,7 @@ class Room:
             return used.ru_utime + used.ru_stime, said.read()
 
     def judged(self, wanted, turns=1):
-        """The least seconds of judging the LTL once, which the validator has to accept, or to refuse; and the most MB."""
+        """The least seconds that it takes to judge the LTL once, which the validator has to accept, or to refuse; and the largest number of MB."""
         words, least, start = [BENCH, "judge", self.text], float("inf"), float("inf")
         for _ in range(ROUNDS):
             start = min(start, self.seconds([*words, "0", self.ltl])[0])
@@ -228,7 +230,7 @@ class Room:
         return (least - start) / turns, memory
 
     def audited(self, certificate, turns, rounds):
-        """The least seconds of an audit, of a unit with this certificate and an image that is another one."""
+        """The least seconds of an audit of a unit with this certificate and another program's image."""
         with open(self.text, "rb") as file:
             records.write(self.disk, [records.body("a", file.read(), b"\x13\0\0\0", b"", certificate)])
         least = {}
@@ -256,7 +258,7 @@ def validate(room):
     print(f"256 locals and 8 parameters live, where the highest slots are used: {room.judged(True)[1]} MB")
 
 
-# How many bytes of a certificate each write has in front, about, and how many pairs of moves that are.
+# About how many bytes of a certificate come before each write, and how many pairs of moves that is.
 PART, PAIRS = 2048, 250
 
 

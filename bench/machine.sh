@@ -1,12 +1,11 @@
 #!/usr/bin/env bash
 # The simulator's speed: three endless loops (arithmetic; loads and stores; calls), each for 300 million instructions, in
 # millions of instructions a processor second.
-# bench/machine.sh [SIMULATOR [COMPILER..]]: where a plain simulator's command is given, it runs the same words, as
-# `SIMULATOR CODE GLOBALS STEPS`, and the ratio is our speed by its speed, so 1.0 or more is as fast. Where the command of a C
-# compiler is given too, its words of the programs of bench/programs, unoptimised, run on both:
-# bench/machine.sh './rv32sim -d' clang --target=riscv32, or with riscv64-unknown-elf-gcc
+# bench/machine.sh [SIMULATOR [COMPILER..]]: if a plain simulator's command is given, it runs the same words, as `SIMULATOR CODE GLOBALS
+# STEPS`, and the ratio is our speed / its speed: 1.0 is as fast, and more is faster. If the command of a C compiler is given too, its code for the
+# programs of bench/programs, unoptimised, runs on both: bench/machine.sh './rv32sim -d' clang --target=riscv32, or with riscv64-unknown-elf-gcc
 # The two run in turn, and the best of ROUNDS runs (5) counts. Ours is `run` in a session over a library with a unit of these words, which
-# bench/records.py writes; its time is that without a run. The program has to be built (./cclib), or CCLIB names one that is.
+# tools/records.py writes; the time of a session without a run is subtracted. Build the program first (./cclib), or set CCLIB to a built one.
 set -eu
 # shellcheck source=bench/words.sh
 . "$(dirname "$0")/words.sh"
@@ -18,7 +17,7 @@ simulator=${1:-}
 compiler=("$@")
 : > "$work/nothing"
 
-# The words, in hexadecimal, as little-endian bytes.
+# The words, given in hexadecimal, as little-endian bytes.
 hexadecimal() {
     for w in "$@"; do
         printf "\\x${w:6:2}\\x${w:4:2}\\x${w:2:2}\\x${w:0:2}"
@@ -42,7 +41,7 @@ ours() { "$cclib" library "$work/disk" --quiet --workers 1 < "$work/$1"; }
 both() {
     rm -f "$work"/time.*
     peer=
-    python3 "$top/bench/records.py" image "$work/disk" "$1" "$2"
+    python3 "$top/tools/records.py" image "$work/disk" "$1" "$2"
     echo "run image $3" > "$work/run"
     for _ in $(seq "${ROUNDS:-5}"); do
         timed start ours nothing
@@ -54,7 +53,7 @@ both() {
     [ -z "$simulator" ] || cmp -s "$work/said.run" "$work/theirs" || fail "$1: other words"
 }
 
-# speed SECONDS: in millions of instructions a second
+# speed SECONDS: the speed in millions of instructions a second
 speed() {
     awk -v steps=$steps -v s="$1" 'BEGIN { printf "%.1f", steps / s / 1e6 }'
 }

@@ -1,9 +1,10 @@
 #!/usr/bin/env python3
-"""Many small units in one library: adding, opening, listing, replacing one and compacting, with the times and the most memory of each.
+"""Many small units in one library: adding them, opening, listing, replacing one and compacting, with the time and the largest amount of memory of
+each.
 
-million.py [UNITS] [AREA] [FOLDER]: so many units (1,000,000), in areas of AREA bytes (512 MiB), on a file in that folder (this one). A
-script has at most 16,777,216 bytes, so they are added by as many runs of `cclib library` as that takes. PROGRAM names a program that is
-built elsewhere than by ./cclib."""
+million.py [UNITS] [AREA] [FOLDER]: UNITS units (1,000,000), in areas of AREA bytes (512 MiB), on a file in FOLDER (this one). A script has at most
+16,777,216 bytes, so the units are added by as many runs of `cclib library` as that takes. PROGRAM names a program other than the one that ./cclib
+builds."""
 
 import os
 import subprocess
@@ -19,7 +20,7 @@ OTHER = "int main(void){return 1;}"
 
 
 def run(path, script, *options):
-    """Does a script: the lines of its answer, the seconds, and the most memory in MiB."""
+    """Runs a script. Returns the lines of its answer, the seconds, and the largest amount of memory in MiB."""
     with tempfile.TemporaryFile("w+") as given, tempfile.TemporaryFile("w+") as answer:
         given.write(script)
         given.seek(0)
@@ -36,7 +37,7 @@ def run(path, script, *options):
 
 
 def scripts(units):
-    """Scripts of adds, each as long as one may be."""
+    """Scripts of adds, each as long as a script may be."""
     script = []
     size = 0
     for number in range(units):

@@ -1,4 +1,4 @@
-/* peak PROGRAM WORD..: runs a program, its output dropped, and prints the most memory that it took, in MB. */
+/* peak PROGRAM WORD..: runs a program, drops its output, and prints the largest amount of memory that it took, in MB. */
 #include <fcntl.h>
 #include <stdio.h>
 #include <sys/resource.h>

@@ -1,9 +1,9 @@
 #!/usr/bin/env bash
-# What a pool of workers gains, by clock: `add`s of a unit of 64 functions of about 250 tokens each in a session of `cclib library` with 1, 2 and
-# 4 workers, beside what the machine itself gains when as many processes compile the same text at once, on one thread each.
-# Each is the mean of TIMES turns (10) without a start that does none, and the best of ROUNDS rounds (5) counts, in which all are done in turn.
-# The programs have to be built (./prove-below bench, ./cclib), or BENCH and CCLIB name some that are.
-# That no thread waits for ever where memory is refused, with one client and with more: bench/memory.sh session and server.
+# What a pool of workers gains, by the clock: the time to `add` a unit of 64 functions of about 250 tokens each, in a session of `cclib library` with
+# 1, 2 and 4 workers, compared with what the machine itself gains when the same number of processes compile the same text at once, on one thread each.
+# Each time is the mean of TIMES turns (10), not counting a start that does nothing. The best of ROUNDS rounds (5) counts; in each round all are
+# measured in turn. Build the programs first (./prove-below bench, ./cclib), or set BENCH and CCLIB to built ones. tests/outside/memory.sh
+# session and server check that no thread waits for ever if memory is refused, with one client and with more.
 set -eu
 # shellcheck source=bench/words.sh
 . "$(dirname "$0")/words.sh"
@@ -12,7 +12,7 @@ cclib
 room
 rounds=${ROUNDS:-5} count=${TIMES:-10}
 
-# 64 functions, the last of which is `main`, with a loop of 13 lines each
+# 64 functions with a loop of 13 lines each; the last one is `main`
 python3 - > "$work/text.c" <<'P'
 loop = "".join("        s += (a * %d + b) ^ (s >> %d);\n" % (n + 3, n % 31) for n in range(13))
 part = "int f%d(int a, int b)\n{\n    int i;\n    int s = 0;\n    for (i = 0; i < a; i++) {\n%s    }\n    return s;\n}\n"
@@ -30,7 +30,7 @@ done > "$work/script"
 session() {
     "$cclib" library "$work/disk" --quiet --format $((count * 200000)) --workers "$1" < "$work/$2"
 }
-# at_once COUNT TIMES: so many processes, each of which compiles the text so often
+# at_once COUNT TIMES: COUNT processes at once, each of which compiles the text TIMES times
 at_once() {
     local n
     for n in $(seq "$1"); do "$bench" compile "$work/text.c" "$2" > "$work/words.$n" & done

@@ -1,11 +1,11 @@
 #!/usr/bin/env bash
-# What a service does under its lock to see that a client's last receipt stands, by what a commit of the same unit takes, within one
-# run: receipt_look.sh [FOLDER] (this one). Number, client and call tell most entries apart; where they agree the entries are compared whole, and so
-# the bytes of their units. A `run` of no step answers with the unit, and the next call looks at that receipt: so what 16 KiB are looked at for
-# is the time of TIMES `run`s (20,000) of a unit with so many bytes of source, without that of as many of the same unit with none. The commit
-# is `compact` of a library that has the first one alone, COUNT times (500), on a file in FOLDER. All in sessions of `cclib library`, ROUNDS
-# times (10) in turn, the best without that of a start that does nothing: the processor's time, and of the commits also the wall clock's.
-# The program has to be built (./cclib), or CCLIB names one that is.
+# What it takes a service, under its lock, to check a client's last receipt, divided by what a commit of the same unit takes, within one run:
+# receipt_look.sh [FOLDER] (this one). The number, the client and the call distinguish most entries; if they agree, the whole entries are compared,
+# and so the bytes of their units. A `run` of 0 steps answers with the unit, and the next call looks at that receipt. So the cost of looking at 16 KiB
+# is the time of TIMES `run`s (20,000) of a unit with that many bytes of source, minus that of the same number of `run`s of the same unit with no
+# source. The commit is `compact` of a library that has only the first unit, COUNT times (500), on a file in FOLDER. All of this is done in sessions
+# of `cclib library`, ROUNDS times (10) in turn, and the best counts, minus a start that does nothing: processor time, and for the commits also
+# wall-clock time. Build the program first (./cclib), or set CCLIB to a built one.
 set -eu
 # shellcheck source=bench/words.sh
 . "$(dirname "$0")/words.sh"
@@ -17,8 +17,8 @@ session() { "$cclib" library "$work/$1" --quiet --workers 1 < "$work/$2"; }
 : > "$work/nothing"
 yes 'run u1000000 0' | head -n "$times" > "$work/runs"
 yes compact | head -n "$count" > "$work/commits"
-python3 "$top/bench/records.py" make "$work/large" 1 16384 1 > /dev/null
-python3 "$top/bench/records.py" make "$work/small" 1 0 1 > /dev/null
+python3 "$top/tools/records.py" make "$work/large" 1 16384 1 > /dev/null
+python3 "$top/tools/records.py" make "$work/small" 1 0 1 > /dev/null
 for _ in $(seq "${ROUNDS:-10}"); do
     timed large session large runs
     timed small session small runs

@@ -1,14 +1,14 @@
 #!/usr/bin/env bash
-# How many commits a second a service makes for clients at the same time, by how many sqlite makes for as many: service.sh [FOLDER] (this one).
-# For 1, 4 and 16 clients, CALLS calls (4,800) in all. By `withdraw` each call withdraws a unit of a text of 70 bytes, and sqlite deletes a row of
-# as many bytes as that unit has on the disk: a commit and nothing else. By `put` each call puts that text under the client's own name, which
-# compiles it first (4 workers), and sqlite puts as many bytes as the unit has. Our commit writes twice and syncs twice; sqlite's (sqlite.c: WAL,
-# synchronous FULL, a connection a thread) writes its log and syncs once.
-# The service is that of `cclib serve`: each client is one script of all its calls, which waits in the folder when the server starts; its time is
-# from the server's start to the last answer, without that for scripts of one `list`. So what it takes to read a line and write an answer
-# is in it. Both lie in FOLDER and are asked in turn, ROUNDS times (5); the best of each counts, by the wall clock, since the device is
-# what both wait for. The ratio is ours by sqlite's, more is better.
-# The program has to be built (./cclib), or CCLIB names one that is, and libsqlite3-dev has to be there.
+# How many commits a second a service makes for several clients at once, divided by how many sqlite makes for the same number: service.sh [FOLDER]
+# (this one). For 1, 4 and 16 clients, CALLS calls (4,800) in all. With `withdraw`, each call withdraws a unit whose text has 70 bytes, and sqlite
+# deletes a row of as many bytes as that unit has on the disk: a commit and nothing else. With `put`, each call puts that text under the client's own
+# name, after compiling it (4 workers), and sqlite puts as many bytes as the unit has. Our commit writes twice and syncs twice; sqlite's (sqlite.c:
+# WAL, synchronous FULL, a connection a thread) writes its log and syncs once.
+# The service is that of `cclib serve`: each client is one script with all its calls, which waits in the folder when the server starts. Its time is
+# from the server's start to the last answer, minus the time for scripts of one `list`; so it includes what it takes to read a line and write an
+# answer. Both work in FOLDER and are measured in turn, ROUNDS times (5); the best of each counts, by the wall clock, since both wait for the device.
+# The ratio is ours / sqlite's: more is better.
+# Build the program first (./cclib), or set CCLIB to a built one; libsqlite3-dev has to be installed.
 set -eu
 # shellcheck source=bench/words.sh
 . "$(dirname "$0")/words.sh"
@@ -29,7 +29,7 @@ nothing() { echo list; }
 add() { for ((n = 0; n < $2; n++)); do printf 'add %s %d\n%s\n' "$1$n" ${#text} "$text"; done; }
 names() { local all=(a b c d e f g h i j k l m n o p); echo "${all[@]:0:$1}"; }
 
-# served KIND CLIENTS COUNT: the seconds that a server takes for so many clients, who make COUNT calls each
+# served KIND CLIENTS COUNT: the seconds that a server takes for CLIENTS clients that make COUNT calls each
 served() {
     local name answers=() begin end server
     rm -rf "$work/spool"
@@ -52,10 +52,10 @@ served() {
     less "$end" "$begin"
 }
 
-# took NAME SECONDS: keeps the least
+# took NAME SECONDS: keeps the least seconds for that name
 took() { echo "$(least "$2" "$(cat "$work/least.$1" 2> /dev/null || true)")" > "$work/least.$1"; }
 
-# An empty folder of a server.
+# An empty folder for a server.
 "$cclib" library "$work/disk" --quiet --format 1000000 < /dev/null
 "$cclib" serve "$work/disk" "$work/empty" --quiet > /dev/null &
 until [ -d "$work/empty/done" ]; do sleep 0.1; done
@@ -64,7 +64,7 @@ touch "$work/empty/stop"
 wait $!
 # How many bytes the unit has on the disk.
 put a 1 | "$cclib" library "$work/disk" --quiet > /dev/null
-unit=$(python3 "$top/bench/records.py" sizes "$work/disk" | awk '{ print $3 }')
+unit=$(python3 "$top/tools/records.py" sizes "$work/disk" | awk '{ print $3 }')
 
 for task in withdraw put; do
     theirs=put

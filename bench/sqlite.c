@@ -1,6 +1,6 @@
-/* Commits of sqlite with the same number of writers: sqlite TASK FILE WRITERS CALLS LENGTH has WRITERS threads, each with a connection of its
-   own, make CALLS calls each, every one a transaction (WAL, synchronous FULL). By put each call puts LENGTH bytes into the writer's own row;
-   by delete each call deletes a row of that many bytes, all of which were inserted before. Prints how many calls were acknowledged and the
+/* Commits of sqlite with the same number of writers: sqlite TASK FILE WRITERS CALLS LENGTH lets WRITERS threads, each with its own connection, make
+CALLS calls each; every call is a transaction (WAL, synchronous FULL). With put, each call puts LENGTH bytes into the writer's own row;
+   with delete, each call deletes a row of that many bytes; all rows were inserted before. Prints how many calls were acknowledged and the
    time from the first to the last in nanoseconds. */
 #include <pthread.h>
 #include <sqlite3.h>
@@ -23,7 +23,7 @@ static sqlite3 *opened(void) {
 
 struct writer { pthread_t thread; sqlite3 *base; char name; long done; };
 
-/* The name of a writer's row with that number. */
+/* The name of the row with that number of a writer. */
 static int name_of(const struct writer *self, long number, char *name) { return sprintf(name, "%c%04ld", self->name, number); }
 
 static sqlite3_stmt *prepared(struct writer *self, const char *text) {
@@ -58,7 +58,7 @@ static void *called(void *given) {
     return 0;
 }
 
-/* The rows that are deleted, in one transaction. */
+/* Inserts the rows that will be deleted, in one transaction. */
 static void fill(struct writer *self) {
     sqlite3_exec(self->base, "begin", 0, 0, 0);
     sqlite3_stmt *made = prepared(self, PUT);

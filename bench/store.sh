@@ -1,13 +1,13 @@
 #!/usr/bin/env bash
-# What the library costs over the file that it lies in, by ratios within one run: store.sh [FOLDER] (this one).
-# Durable commits, COUNT (500) in a session of `cclib library`, and a program in C (commits.c) that makes the same two writes and two syncs so
-# often on a file of the same length, in turn, ROUNDS times (20): `withdraw`, which appends a record of 16 bytes, and `compact` of a library of one
-# unit, which writes its record of 628 bytes or 12,028 anew. Neither compiles. The ratio is its time by ours, the best of each without the
-# best of a start that does nothing: 1.0 is as fast; by the wall clock, and by the processor, which others on the machine disturb less, in
-# steps of a millisecond. Where others use the device, more rounds of fewer commits find a quiet moment.
-# Opening: a library of UNITS units (1,000) as `cclib source` opens it, without a start over a library of one, against reading its file by one
-# call, in turn; by the wall clock, the least of ROUNDS of each. The file has both areas, of which opening reads one, and opening also syncs
-# twice. The program has to be built (./cclib), or CCLIB names one that is.
+# What the library costs in addition to the file in which it lies, by ratios within one run: store.sh [FOLDER] (this one).
+# First durable commits: COUNT (500) in a session of `cclib library`, and a program in C (commits.c) that makes the same two writes and two syncs the
+# same number of times on a file of the same length, in turn, ROUNDS times (20). The commits are `withdraw`, which appends a record of 16 bytes, and
+# `compact` of a library of one unit, which writes the unit's record of 628 or 12,028 bytes again. Neither compiles. The ratio is its time / ours, the
+# best of each minus the best of a start that does nothing: 1.0 is as fast. Times are by the wall clock, and by the processor, which other work on the
+# machine disturbs less, in steps of a millisecond. If others use the device, more rounds of fewer commits find a quiet moment. Then opening: a
+# library of UNITS units (1,000) is opened by `cclib source`, minus a start over a library of one unit; this is compared with reading the library's
+# file with one call, in turn, by the wall clock, and the least of ROUNDS times of each counts. The file has two areas, and opening reads one of them;
+# opening also syncs twice. Build the program first (./cclib), or set CCLIB to a built one.
 set -eu
 # shellcheck source=bench/words.sh
 . "$(dirname "$0")/words.sh"
@@ -18,10 +18,10 @@ gcc -O2 -o "$work/plain" "$top/bench/commits.c"
 : > "$work/nothing"
 
 # make FILE COUNT SOURCE WORDS: a library of such units, in $work; prints how many bytes a body has
-make() { python3 "$top/bench/records.py" make "$work/$1" "$2" "$3" "$4"; }
+make() { python3 "$top/tools/records.py" make "$work/$1" "$2" "$3" "$4"; }
 session() { "$cclib" library "$work/ours" --quiet --workers 1 < "$work/$1"; }
 
-# commits NAME LENGTH: the script does them over $work/fresh, whose records have LENGTH bytes each
+# commits NAME LENGTH: runs the script over $work/fresh; the record of each commit has LENGTH bytes
 commits() {
     local name=$1 length=$2 ours plain ours_busy plain_busy
     rm -f "$work"/time.*
@@ -30,7 +30,7 @@ commits() {
         truncate -s $((length * count + 64)) "$work/file"
         timed ours.start session nothing
         timed plain.start "$work/plain" "$work/file" 0 "$length"
-        # Each is the first in every second round.
+        # Each of the two comes first in every second round.
         [ $((round % 2)) = 1 ] || timed plain "$work/plain" "$work/file" "$count" "$length"
         timed ours session script
         [ $((round % 2)) = 0 ] || timed plain "$work/plain" "$work/file" "$count" "$length"
@@ -43,7 +43,7 @@ commits() {
     echo "$name, records of $length bytes: $(ratio "$count" "$ours") commits a second, plain $(ratio "$count" "$plain"); ratio $(ratio "$plain" "$ours"), by processor $(ratio "$plain_busy" "$ours_busy")"
 }
 
-# opening SOURCE WORDS: of units with so many bytes of source and words of code
+# opening SOURCE WORDS: opens a library of units with SOURCE bytes of source and WORDS words of code
 opening() {
     local length ours reading
     rm -f "$work"/time.*

@@ -1,20 +1,20 @@
 #!/usr/bin/env python3
-"""What a server's clients wait for, and what it takes: times and memory of `serve` and `submit`, as processes.
+"""How long a server's clients wait, and what a server takes: times and memory of `serve` and `submit`, run as processes.
 
-submits.py memory [SECONDS [SUBMITTERS [UNITS]]]  for so long (600), so many submitters (24) replace, run and list units, small and large, in a
-                                           library of UNITS others (1,000): the server's resident memory each second; the most of the second half
-                                           has to be 1.1 times that of the first at most, and below 512 MiB
+submits.py memory [SECONDS [SUBMITTERS [UNITS]]]  for SECONDS (600), SUBMITTERS submitters (24) replace, run and list units, small and large, in a
+                                           library of UNITS others (1,000): the server's resident memory each second; the maximum of the second half
+                                           has to be at most 1.1 times that of the first, and below 512 MiB
 submits.py waiting [COUNT]                 COUNT scripts (10,000) wait when the server begins: how long it takes until all are answered
-submits.py rates [COUNT]                   scripts of one `add` a second, COUNT (480) by 1, 4 and 16 submitters, by those of `library` that is fed
-                                           the same commands, and by the commits of sqlite (sqlite.c: WAL, synchronous FULL) with as many clients
-                                           and bytes; three rounds in turn, the best of each. Needs libsqlite3-dev
+submits.py rates [COUNT]                   scripts of one `add` a second, COUNT (480) from 1, 4 and 16 submitters, divided by those of a `library`
+                                           that is fed the same commands, and by the commits of sqlite (sqlite.c: WAL, synchronous FULL) with the same
+                                           number of clients and bytes; three rounds in turn, the best of each. libsqlite3-dev has to be installed
 submits.py latency [COUNT]                 what one `submit add` takes, COUNT times (100), when the server is idle, and when four other submitters
-                                           keep it busy; by one `add` of `library`, and by a process that does nothing
+                                           keep it busy; divided by the time of one `add` of `library`, and by that of a process that does nothing
 submits.py ends [COUNT [UNITS]]            a library of UNITS units (1,000) and 16 submitters of small scripts, until COUNT generations (3) ended, each
-                                           behind 4,096 scripts: the longest that one waits. Then the same while a script is done that runs a unit
-                                           three times for 10^9 steps: the others wait for its end where a generation is over
+                                           after 4,096 scripts: the longest time that one of them waits. Then the same while a script runs a unit
+                                           three times for 10^9 steps: when a generation is over, the others wait for the end of that script
 
---program PROGRAM takes another program than crates/cclib/out/cclib, --folder FOLDER another place than the system's for temporary files. All
+--program PROGRAM takes a program other than crates/cclib/out/cclib, --folder FOLDER a place other than the system's for temporary files. All commands
 print the load of the machine."""
 
 import os
@@ -27,6 +27,7 @@ import sys
 import threading
 import time
 
+sys.path.insert(0, os.path.join(os.path.dirname(os.path.abspath(__file__)), "../tests/outside"))
 import serve
 import session
 
@@ -52,7 +53,7 @@ def ended(place, server):
 
 
 def at_once(count, work):
-    """So many threads, each of which does that with its number."""
+    """Runs this many threads, each of which does the work with its own number."""
     faults = []
 
     def done(number):
@@ -71,7 +72,7 @@ def at_once(count, work):
 
 
 def put_unit(place, name, text):
-    """Puts a unit under a name; where there is no room, a compaction comes before."""
+    """Puts a unit under a name; if there is no room, the library is compacted first."""
     for _ in range(10):
         done = place.submit("replace", name, script=text)
         if done.stdout == "fault 32 Absent\n":
@@ -102,7 +103,7 @@ def memory(seconds=600, submitters=24, units=1000):
         put_unit(place, name, UNIT)
         while time.time() < end:
             texts = [LARGE if chance.random() < 0.5 else UNIT for _ in range(2)]
-            # In the history a list has its names, so it fills a generation soonest.
+            # The history keeps the names of each list, so lists fill a generation soonest.
             script = "list\n" * 10 + "".join(f"replace {name} {len(it)}\n{it}\nrun {name} 100000\n" for it in texts)
             said = place.submit(script=script).stdout.split("\n")[:-1]
             others = [it for it in said if not re.fullmatch(r"ok \d+|unit \w+|-?\d+|exited -?\d+|going|trapped|fault 34 Full", it)]
@@ -157,7 +158,7 @@ def waiting(count=10_000):
 
 
 def submit_rate(count, submitters):
-    """Scripts of one `add` a second. A shell sends them, since a process of Python's takes longer to begin than a script to be done."""
+    """Scripts of one `add` a second. A shell sends them, since a Python process takes longer to start than a script takes to run."""
     place, server = begun(1000 * count, "--clients", "16")
     each = count // submitters
     source = f"{place.work}/unit.c"
@@ -198,7 +199,7 @@ def sqlite_rate(program, count, clients, length):
 def rates(count=480):
     work = serve.Place()
     program = f"{work.work}/sqlite"
-    subprocess.run(["gcc", "-O2", "-pthread", "-o", program, os.path.join(serve.HERE, "sqlite.c"), "-lsqlite3"], check=True)
+    subprocess.run(["gcc", "-O2", "-pthread", "-o", program, os.path.join(os.path.dirname(os.path.abspath(__file__)), "sqlite.c"), "-lsqlite3"], check=True)
     best = {}
     for _ in range(3):
         fed, length = library_rate(count)
@@ -269,7 +270,7 @@ def latency(count=100):
 
 
 def ask(place, name, text):
-    """What who has no `cclib` does: leaves a script, waits for its answer and takes it away."""
+    """What somebody without `cclib` does: leaves a script, waits for its answer, and removes the answer."""
     serve.put(place, name, text)
     path = place.file("done", name)
     while not os.path.exists(path):
@@ -281,7 +282,8 @@ def ask(place, name, text):
 
 
 def watched(place, until, submitters):
-    """How long a small script takes while others send such scripts too, until that is so: how many there were, and the longest waits."""
+    """Measures how long a small script takes while others send such scripts too, until `until` holds. Returns how many there were, and the longest
+    waits."""
     times, ended = [[] for _ in range(submitters)], threading.Event()
 
     def work(number):

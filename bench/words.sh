@@ -1,9 +1,9 @@
-# Sourced by the other scripts: the programs that they run, a folder of their own, times, kinds of texts, and words of C programs for the machine.
+# Sourced by the other scripts. Has the programs that they run, a folder of their own, times, kinds of texts, and the machine code of C programs.
 
 top=$(cd "$(dirname "${BASH_SOURCE[0]}")/.." && pwd)
 script=$(basename "$0")
 
-# cclib, bench: the built program, in $cclib, and that of crates/bench, in $bench; CCLIB and BENCH name others
+# cclib, bench: set $cclib to the built program, and $bench to that of crates/bench; CCLIB and BENCH name others
 cclib() {
     cclib=${CCLIB:-$top/crates/cclib/out/cclib}
     [ -x "$cclib" ] || fail "build the program first: ./cclib check < examples/quotient.c"
@@ -27,7 +27,7 @@ room() {
 
 # ---- times
 
-# timed NAME COMMAND..: adds the seconds of the clock, and the processor's two, to that file, and keeps what the command prints in said.NAME
+# timed NAME COMMAND..: appends the wall-clock seconds and the user and system seconds to time.NAME, and keeps the output of the command in said.NAME
 timed() {
     local name=$1 TIMEFORMAT='%U %S' status=0 begin end
     shift
@@ -38,7 +38,7 @@ timed() {
     echo "$(less "$end" "$begin") $(cat "$work/busy")" >> "$work/time.$name"
 }
 
-# best NAME [clock]: the least of the processor's seconds, or of the clock's
+# best NAME [clock]: the least processor seconds, or the least wall-clock seconds
 best() {
     awk -v clock="${2:-}" '{ t = clock ? $1 : $2 + $3 } NR == 1 || t < low { low = t } END { printf "%.6f", low }' "$work/time.$1"
 }
@@ -50,7 +50,7 @@ seconds() {
     { time "$@" > "$output" 2> /dev/null; } 2>&1 | awk '{ print $1 + $2 }'
 }
 
-# least A [B], less A B, ratio A B, part_of A COUNT: the last with all digits
+# least A [B], less A B, ratio A B, part_of A COUNT: the minimum, the difference, the ratio, and a part with all digits
 least() { awk -v a="$1" -v b="${2:-$1}" 'BEGIN { print a < b ? a : b }'; }
 less() { awk -v a="$1" -v b="$2" 'BEGIN { printf "%.6f", a - b }'; }
 ratio() { awk -v a="$1" -v b="$2" 'BEGIN { printf "%.3f", a / b }'; }
@@ -58,7 +58,7 @@ part_of() { awk -v a="$1" -v n="$2" 'BEGIN { printf "%.9f", a / n }'; }
 
 # ---- texts of C
 
-# times COUNT TEXT: the text so often
+# times COUNT TEXT: the text COUNT times
 times() { for ((n = 0; n < $1; n++)); do printf '%s' "$2"; done; }
 
 # Texts of $1 parts: straight code, nested loops, locals that all stay live, and copies of eight locals round a loop.
@@ -88,8 +88,8 @@ moves() {
     printf 'write_word(a+b+c+d+e+f+g+h);}return 0;}\n'
 }
 
-# sized KIND NODES: makes $work/text.c of that kind, with NODES nodes of RTL or a few less, and prints how many it has: it is seen from a short
-# and a longer text how many nodes one part has
+# sized KIND NODES: makes $work/text.c of that kind, with NODES nodes of RTL or a few fewer, and prints how many it has; a short and a longer text
+# show how many nodes one part has
 sized() {
     local one two parts
     one=$("$1" 1 > "$work/text.c"; nodes_of) two=$("$1" 2 > "$work/text.c"; nodes_of)
@@ -100,8 +100,8 @@ sized() {
 }
 nodes_of() { "$bench" rtl "$work/text.c" 1; }
 
-# steps KIND NODES WORK STEP..: prints how many nodes the text of that kind has, and the microseconds that each step of $bench takes without the
-# one before it, the first left out: the best of ROUNDS (3), each so often in one process that WORK nodes are done
+# steps KIND NODES WORK STEP..: prints how many nodes the text of that kind has, and the microseconds that each step of $bench except the first takes,
+# minus the one before it: the best of ROUNDS (3), each repeated in one process until WORK nodes are handled
 steps() {
     local kind=$1 nodes turns step before=
     nodes=$(sized "$kind" "$2")
@@ -122,7 +122,7 @@ steps() {
     echo
 }
 
-# told KIND NAME..: the lines of that kind, from the shortest text on, with the names of the steps and how each grows
+# told KIND NAME..: the lines for that kind, from the shortest text on, with the names of the steps and how each of them grows
 told() {
     local kind=$1 IFS=,
     shift
@@ -142,12 +142,12 @@ told() {
         }'
 }
 
-# ---- the machine's words, by a C compiler in the array $compiler, as (clang --target=riscv32) or (riscv64-unknown-elf-gcc)
+# ---- machine code made by the C compiler in the array $compiler, such as (clang --target=riscv32) or (riscv64-unknown-elf-gcc)
 
-# Where it is set, the start sets the pointer to globals, and the compiler's own linker makes accesses near it relative to it.
+# If $gp is set, the start code sets gp, the pointer to globals, and the compiler's own linker makes accesses near it relative to it.
 gp=
 
-# The machine's start, its services, and where code and globals lie.
+# The start code, the services of the machine, and the places of code and globals.
 machine() {
     {
         echo '.section .text.start'
@@ -179,7 +179,7 @@ S
     echo 'void write_word(int); int read_word(void);' > "$work/services.h"
 }
 
-# part SECTION: that section of the program as bytes, in $work/bytes
+# part SECTION: writes the bytes of that section of the program to $work/bytes
 part() {
     local copy
     for copy in llvm-objcopy riscv64-unknown-elf-objcopy; do
@@ -190,7 +190,7 @@ part() {
     fail "needs llvm-objcopy or riscv64-unknown-elf-objcopy"
 }
 
-# words PROGRAM NAME: its code and globals, in $work/NAME.code and $work/NAME.globals; LEVEL is the compiler's level, -O0 where it isn't given
+# words PROGRAM NAME: writes the program's code and globals to $work/NAME.code and $work/NAME.globals; LEVEL is the compiler's level, by default -O0
 words() {
     local linker=()
     case ${compiler[0]} in *clang*) LINKER=${LINKER:-lld} ;; esac

@@ -1,10 +1,10 @@
 #!/usr/bin/env python3
-"""The repository's own rules, to which .ci/run holds it before any proof.
+"""The repository's own rules, which .ci/run checks before any proof.
 
-    tools/rules              every rule: says what breaks one, and ends with 1 where something does
+    tools/rules              every rule: says what breaks one, and ends with 1 if something does
     tools/rules RULE         this one
     tools/rules --planted    puts something that breaks a rule into a copy of the tree, for each rule and each kind of break, and ends with 1
-                             where the rule does not see it: a rule that reads nothing any more is as quiet as one that is kept
+                             if the rule does not see it: a rule that no longer reads anything is as quiet as one that is kept
 """
 import os
 import shutil
@@ -59,7 +59,7 @@ def changed(path, *pairs, more=""):
 
 
 def edit_files(crate, many):
-    """So many must-fail edits more in a crate."""
+    """This many must-fail edits more in a crate."""
     return {f"crates/{crate}/must-fail/planted_{number}.edit": "" for number in range(many)}
 
 
@@ -73,12 +73,12 @@ LONG = f"\nfn planted() -> u32\n    ensures {{ result ≡ {' + '.join(['1'] * 40
 # Words that docs/STYLE.md advises against, more often than any page has them.
 MANY = 400
 PRIVATE = "It stands behind.\n" * MANY
-# A word that no source has, this one among them.
+# A word that no source has, not even this one.
 NOWHERE = "planted" + "nowhere"
 
 
 def plants():
-    """Returns them: a rule, the new texts of files, and what it then says among other things."""
+    """Returns what is planted: a rule, the new texts of files, and what the rule then reports among other things."""
     laws = changed(WORDS, ("\nuse ", "\nuse Rattle.cc_words.proofs.Laws.{planted_law}\nuse "), more="\nplanted : ℕ\nplanted = planted_law\n")
     code = changed(WORDS_CODE, more=f"\nghost use Rattle.cc_words.specs.Words.{{planted}};\n\n{FUNCTION}")
     arrows = "".join(f"use {it}::planted;\n" for it in ("cc_disk", "cc_hex", "cc_screen", "cc_descriptors", "cc_earlier"))
@@ -98,7 +98,7 @@ def plants():
         ("drawn_map", changed("docs/ARCHITECTURE.md", ("| 1 | `cc_words` |", "| 2 | `cc_words` |")), "cc_words: layer and arrows"),
         ("drawn_map", changed("docs/ARCHITECTURE.md", ("| 1 | `cc_words` |", "| 1 | `cc_planted` |")), "cc_planted is no crate"),
         ("drawn_map", changed("crates/cc_link/src/lib.rt", more=arrows), "cc_link: more than 7 arrows"),
-        ("version", {"VERSION": "9.9.9\n"}, "VERSION and command_line.rt"),
+        ("version", {"VERSION": "9.9.9\n"}, "VERSION and commands.rt"),
         ("help_texts", changed("docs/help.txt", ("\n\n", "\n\nplanted\n\n")), "./cclib --help"),
         ("help_texts", changed("cclib", ('echo "cclib $(cat', 'echo "cclib 9$(cat')), "./cclib --version"),
         ("programs", changed("bench/programs/crc.c", more="/* planted */\n"), "bench/programs/crc.c"),
@@ -152,7 +152,7 @@ def kept(names):
 
 
 def seen_in(copy, rule, texts, words):
-    """Puts texts into the copy, has the rule read it, and takes them out again. Returns whether it said these words."""
+    """Puts texts into the copy, has the rule read it, and takes them out again. Returns whether it reported these words."""
     for path, text in texts.items():
         os.makedirs(os.path.dirname(f"{copy}/{path}"), exist_ok=True)
         with open(f"{copy}/{path}", "w", encoding="utf-8") as file:

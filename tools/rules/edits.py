@@ -3,11 +3,11 @@ import glob
 import os
 
 TOP = os.path.dirname(os.path.dirname(os.path.dirname(os.path.abspath(__file__))))
-A_CRATE, IN_ALL = 12, 125
+A_CRATE, IN_ALL = 8, 80
 
 
 def budget():
-    """At most 12 must-fail edits a crate, 125 in all."""
+    """At most 8 must-fail edits a crate, 80 in all."""
     count = {}
     for path in glob.glob(f"{TOP}/crates/*/must-fail/*.edit"):
         crate = path.split("/")[-3]

@@ -1,4 +1,4 @@
-"""What stands in two places is the same in both: texts that the program, its script, its tests and its documents have each for itself."""
+"""What is in two places is the same in both: texts that the program, its script, its tests and its documents each have for themselves."""
 import os
 import re
 import subprocess
@@ -14,7 +14,7 @@ def read(path):
 
 
 def said(*words):
-    """Returns what a command of the repository says."""
+    """Returns what a command of the repository prints."""
     return subprocess.run([f"{TOP}/{words[0]}", *words[1:]], check=True, stdout=subprocess.PIPE, text=True).stdout
 
 
@@ -35,7 +35,7 @@ def differ(where, one, other):
 
 
 def help_texts():
-    """What ./cclib says of itself without a build is what a test of tests_program holds the program to."""
+    """What ./cclib says about itself without a build is what a test of tests_program requires of the program."""
     test = read("crates/tests_program/src/help.rt")
     wrong = differ("./cclib --help and HELP of tests_program", said("cclib", "--help"), found(r'^static HELP: &str = "\\\n(.*?)^";$', test))
     return wrong + differ("./cclib --version and VERSION", said("cclib", "--version"), found(r'^static VERSION: &str = "(.*?)^";$', test))
@@ -43,8 +43,8 @@ def help_texts():
 
 def version():
     """The version is in VERSION; the program and what ./cclib says without a build have the same."""
-    code = read("crates/cc_command_line/src/command_line.rt")
-    return differ("VERSION and command_line.rt", read("VERSION").strip(), found(r'^        \.version\("(.*?)"\)$', code))
+    code = read("crates/cc_command_line/src/commands.rt")
+    return differ("VERSION and commands.rt", read("VERSION").strip(), found(r'^        \.version\("(.*?)"\)$', code))
 
 
 def programs():
@@ -62,7 +62,8 @@ def in_help(name, file):
 
 
 def commands():
-    """The commands of a script stand in one list: what reads a line, the help of two commands and the table of docs/FORMATS.md have these."""
+    """The commands of a script are in one list: what reads a line, the help of two commands and the table of docs/FORMATS.md have
+    these."""
     text = read(COMMANDS)
     listed = re.findall(r'^    b"(.*)",$', found(r"^pub const COMMANDS(.*?)^\];$", text), re.M)
     plain = int(found(r"^pub const PLAIN_COMMANDS: usize = (\d+);$", text))

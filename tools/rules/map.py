@@ -1,9 +1,8 @@
 #!/usr/bin/env python3
 """The map of the crates by what their code uses: computed, and compared with the table "The map of the crates" of docs/ARCHITECTURE.md.
 
-A crate uses another where its `src/` names it outside comments, contracts and lines that begin with `ghost`; tests and bench are left
-out. An arrow is left out of the map where a longer way leads to the same crate. A crate's layer is one above the highest of those that it
-uses.
+A crate uses another if its `src/` names it outside comments, contracts and lines that begin with `ghost`; tests and bench are left out.
+An arrow is left out of the map if a longer way leads to the same crate. A crate's layer is one above the highest of those that it uses.
 
     tools/rules/map.py --print    write the map
     tools/rules/map.py --write    put layers and arrows into the rows that the page has
@@ -15,7 +14,7 @@ import sys
 TOP = pathlib.Path(__file__).resolve().parent.parent.parent
 PAGE = TOP / "docs" / "ARCHITECTURE.md"
 ROW = re.compile(r"^\| (\d*) ?\| `(cc\w+)` \| ((?:`\w+` ?)*)\| ", re.M)
-MOST_ARROWS = 7  # cc_link, where the passes, the front end and the unit meet
+MOST_ARROWS = 7  # cc_link, in which the passes, the front end and the unit meet
 
 
 def product():
@@ -44,7 +43,7 @@ def all_below(crate, uses):
 
 
 def reduced(uses):
-    """Returns the arrows, without those to what a longer way leads to."""
+    """Returns the arrows, without those to crates that a longer way leads to."""
     below = {crate: all_below(crate, uses) for crate in uses}
     return {crate: {one for one in there if not any(one in below[other] for other in there)} for crate, there in uses.items()}
 

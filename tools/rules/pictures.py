@@ -1,4 +1,4 @@
-"""The pictures of README.md and docs/ARCHITECTURE.md are what the pages and the sources say."""
+"""The pictures of README.md and docs/ARCHITECTURE.md show what the pages and the sources say."""
 import importlib.util
 import pathlib
 

@@ -4,11 +4,11 @@
     tools/rules/rooms.py CRATE FUNCTION [CLAUSE..]    what that function's contract rests on, or these clauses of it: the pages in
                                                       reading order, with how many of their lines, and how many lines in all
 
-As rules: definitions directly in specs/ on which no public contract rests and no type's model; definitions of specs/internal/ on which a
+As rules: definitions directly in specs/ on which neither a public contract nor a type's model rests; definitions of specs/internal/ on which a
 contract or a public type's model does; contracts that rest on something of proofs/; clauses of more than 100 characters that are word for
-word in more than three contracts of the product; names in the crates' READMEs and eight documents that nothing has any more.
+word in more than three contracts of the product; names in the crates' READMEs and eight documents that no longer exist.
 
-It reads the text alone: names in clauses, followed through the `use` lines of the pages. What a Rust type is (`declared`)
+It reads only the text: names in clauses, followed through the `use` lines of the pages. What a Rust type is (`declared`)
 counts as code, and std's words are taken as known."""
 import functools
 import glob
@@ -107,7 +107,7 @@ def reading_order(crate):
 
 
 def handed_on(crate):
-    """Returns the pages of crates below that a crate hands on, by the name that they have there, each with its own module."""
+    """Returns the pages of lower crates that a crate passes on, by the name that they have there, each with its own module."""
     with open(f"{TOP}/crates/{crate}/specs/Lib.antt", encoding="utf-8") as file:
         lines = re.findall(r"^pub use (Rattle\.[\w.]+?)(?: as (\w+))?$", file.read(), re.M)
     return {short or module.rpartition(".")[2]: module for module, short in lines}
@@ -123,7 +123,7 @@ class Repository:
         self.handed_on = {crate: handed_on(crate) for crate in self.crates}
 
     def page(self, module):
-        """Returns the page of a module's whole name, if it is one of this repository: its own, or one that a crate hands on."""
+        """Returns the page of a module's whole name, if it is one of this repository: its own, or one that a crate passes on."""
         found = re.match(r"Rattle\.(\w+)\.specs\.(.+)", module)
         while found and found[2] in self.handed_on.get(found[1], {}):
             found = re.match(r"Rattle\.(\w+)\.specs\.(.+)", self.handed_on[found[1]][found[2]])
@@ -164,7 +164,7 @@ class Repository:
         return taken
 
     def handed_out(self, crate):
-        """Returns the modules that a crate hands out whole, and the names that it hands out one by one; None of a program, all of whose
+        """Returns the modules that a crate exports whole, and the names that it exports one by one; None for a program, all of whose
         functions count."""
         if not os.path.isfile(f"{TOP}/crates/{crate}/src/lib.rt"):
             return None, None
@@ -174,8 +174,8 @@ class Repository:
         return set(re.findall(r"^pub mod (\w+);", text, re.M)), set(re.findall(r"\w+", names))
 
     def contracts(self, crate, function=None, types=False, clauses=(), views=False):
-        """Returns the definitions that the public contracts of a crate name: of its functions, or of one, or of these clauses of
-        it; what its types are seen as and keep, if that is asked for; or what its public types are seen as."""
+        """Returns the definitions that the public contracts of a crate name: of its functions, or of one, or of these clauses of it; what
+        its types are seen as and keep, if that is asked for; or what its public types are seen as."""
         found, (modules, handed) = set(), self.handed_out(crate)
         for at, _, files in os.walk(f"{TOP}/crates/{crate}/src"):
             for file in files:
@@ -244,7 +244,7 @@ def clauses_of(path):
 
 
 def repeated_clauses():
-    """Returns the long clauses that stand in too many contracts of the product's crates, with their places."""
+    """Returns the long clauses that are in too many contracts of the product's crates, with their places."""
     places = {}
     for at, _, files in os.walk(f"{TOP}/crates"):
         for file in sorted(it for it in files if it.endswith(".rt") and "/crates/cc" in at and "/src" in at and "/out" not in at):
@@ -266,7 +266,8 @@ def read_all():
 
 
 def rooms():
-    """A definition directly in specs/ is one on which a public contract or a type's model rests; one of specs/internal/ or specs/rows/ is none."""
+    """A definition directly in specs/ is one on which a public contract or a type's model rests; a definition of specs/internal/ or
+    specs/rows/ is not."""
     repository, used, seen, kept = read_all()
     wrong = []
     for crate in repository.crates:

@@ -3,7 +3,7 @@
 
     tools/rules/trace.py --left    which wrong bodies and test modules no row of docs/TRACE.md names
 
-As a rule: of docs/TRACE.md each row, and of all pages what they cite as `call` of `crate` (`clause`). Each promise of README.md has a number,
+As a rule: each row of docs/TRACE.md, and what all pages cite as `call` of `crate` (`clause`). Each promise of README.md has a number,
 and docs/TRACE.md a row for each number. A row without a clause says `tested only` or `argued only`."""
 import pathlib
 import re
@@ -33,7 +33,7 @@ def clauses_of(crate):
 
 
 def not_cited(text, known):
-    """Yields what a text cites of a crate that the crate has not."""
+    """Yields what a text cites from a crate and the crate does not have."""
     for call, crate, clauses in CITED.findall(text):
         if crate not in known:
             known[crate] = clauses_of(crate) if (CRATES / crate).is_dir() else {}
@@ -45,7 +45,7 @@ def not_cited(text, known):
 
 
 def is_word_of(crate, name):
-    """Returns whether a crate's code or pages have that name, as a type or a definition, of which no clause is asked."""
+    """Returns whether a crate's code or pages have that name, as a type or a definition; no clause is asked for then."""
     files = [*(CRATES / crate / "src").rglob("*.rt"), *(CRATES / crate / "specs").rglob("*.antt")]
     return any(re.search(rf"\b{name}\b", it.read_text()) for it in files)
 
@@ -64,7 +64,7 @@ def not_in_row(row):
         yield f"a clause of '{promise}'"
     for crate, modules in NAMED.findall(tests):
         yield from (f"{crate}: `{it}`" for it in QUOTED.findall(modules) if not (CRATES / crate / "src" / f"{it}.rt").is_file())
-    yield from (it for it in re.findall(r"`(bench/[\w.]+)`", tests) if not (TOP / it).is_file())
+    yield from (it for it in re.findall(r"`((?:bench|tests/outside|tools)/[\w.]+)`", tests) if not (TOP / it).is_file())
     for crate, names in NAMED.findall(edits):
         yield from (f"{crate}: `{it}`" for it in QUOTED.findall(names) if not (CRATES / crate / "must-fail" / f"{it}.edit").is_file())
 

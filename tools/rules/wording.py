@@ -2,8 +2,8 @@
 """How often pages, comments and messages use the words that docs/STYLE.md advises against, and how long the pages are.
 
     tools/rules/wording.py FILE..    each place in these files
-    tools/rules/wording.py --lower   puts today's figures into tools/words.txt if they are lower; files that are new or gone too
-    tools/rules/wording.py --merged  puts today's figures there, also higher ones: for who merges two branches
+    tools/rules/wording.py --lower   puts today's figures into tools/words.txt if they are lower; also for files that are new or gone
+    tools/rules/wording.py --merged  puts today's figures there, also higher ones: for a merge of two branches
 
 As rules: no page, and no crate in its comments and messages, uses such words more often than tools/words.txt allows, and no group of pages has
 more words than it allows. A page or a crate that the file does not name may use none. In pages code between backquotes does not count. In
@@ -27,7 +27,7 @@ LISTED = {
     "of which": r"\bof\s+(?:which|whom)\b",
 }
 WORD = re.compile("|".join(LISTED.values()), re.I)
-# A sentence that begins with what it says something of. "That is", "that means" begin with their subject.
+# A sentence that begins with its topic. "That is", "that means" begin with their subject.
 SENTENCE = re.compile(r"(?:^|[.:;|] |- )((?:Of|That) (?!is\b|means\b|was\b|does\b|has\b|can\b|leaves\b))", re.M)
 STRING = re.compile(r'"((?:[^"\\]|\\.)*)"', re.S)
 NEW = ("CHANGELOG.md", "CONTRIBUTING.md", "SECURITY.md", "docs/FIT.md", "docs/JSON.md", "docs/STYLE.md", "docs/TRACE.md")
@@ -64,7 +64,7 @@ def of_definitions(text):
 
 
 def of_script(path, text):
-    """Returns the comments of a script, and of one in Python what it says of itself."""
+    """Returns the comments of a script, and the docstrings of one in Python."""
     if path.suffix != ".py":
         return "\n".join(line if line.lstrip().startswith("#") else "" for line in text.split("\n"))
     there, after = [], tokenize.INDENT
@@ -92,10 +92,10 @@ def pages():
 
 
 def sources():
-    """Returns the files with comments, by the folder that has a budget: each crate, the scripts of bench and tools."""
+    """Returns the files with comments, by the folder that has a budget: each crate, the scripts of bench, tests/outside and tools."""
     crates = {f"crates/{it.name}": it for it in sorted((TOP / "crates").iterdir()) if it.is_dir()}
     found = {name: [file for room in ("src", "specs", "proofs") for end in ("rt", "antt") for file in sorted((it / room).rglob(f"*.{end}"))] for name, it in crates.items()}
-    for name in ("bench", "tools"):
+    for name in ("bench", "tests/outside", "tools"):
         found[name] = [file for end in ("py", "sh") for file in sorted((TOP / name).rglob(f"*.{end}"))]
     return found
 

@@ -1,4 +1,5 @@
-// The compiler's passes over a function, as far as a step. A step does those before it too, so what one costs is the difference of two.
+// The compiler's passes over a function, up to a step. A step includes those before it, so what it costs is the difference
+// between two steps.
 
 use cc_link::{Allocation, Mode, Seen, Watch, compile, compile_watched_in};
 use cc_ltl::read_ltl;
@@ -15,20 +16,20 @@ pub enum Step {
     Rtl,
     /// RTL without the nodes that nobody needs, and its live sets.
     Live,
-    /// LTL by registers.
+    /// LTL with values in registers.
     Colour,
-    /// The validator on that.
+    /// The validator on the LTL of `Colour`.
     Check,
     /// LTL with a slot for each value.
     Spill,
-    /// The validator on that.
+    /// The validator on the LTL of `Colour`.
     Validate,
     /// The validator on LTL that was handed in.
     Judge,
 }
 
 impl Step {
-    /// The step of that name.
+    /// The step with that name.
     pub fn named(name: &str) -> Option<Step> {
         match name {
             "rtl" => Some(Step::Rtl),
@@ -42,7 +43,7 @@ impl Step {
         }
     }
 
-    // The allocation that it takes; none if the LTL is refused.
+    // The allocation that the step takes; None if the LTL is refused.
     fn allocation(self, alloc: Global, ltl: &[u8]) -> Option<Allocation> {
         match self {
             Step::Rtl | Step::Live | Step::Colour | Step::Check => Some(Allocation::Chosen),
@@ -51,7 +52,7 @@ impl Step {
         }
     }
 
-    // Whether it ends at what is seen.
+    // Whether the step ends at what is seen.
     fn ends_at(self, seen: Seen<'_>) -> bool {
         match self {
             Step::Rtl => matches!(seen, Seen::Rtl(_)),
@@ -64,11 +65,11 @@ impl Step {
     }
 }
 
-// Watches a function, and ends its way at the end of a step.
+// Watches a function, and stops it at the end of a step.
 #[derive(Drop)]
 struct Until {
     step: Step,
-    // How many nodes its RTL has.
+    // How many nodes the function's RTL has.
     nodes: usize,
     // Whether the step came to its end, and nothing was refused.
     is_done: bool,
@@ -87,7 +88,7 @@ impl Watch for Until {
     }
 }
 
-/// Compiles a text so many times: how many words its code has.
+/// Compiles a text `times` times. The result is how many words its code has.
 pub fn compiled(alloc: Global, text: &[u8], times: u32) -> Option<usize> {
     let mut words = 0;
     for _ in 0..times {
@@ -98,8 +99,8 @@ pub fn compiled(alloc: Global, text: &[u8], times: u32) -> Option<usize> {
     Some(words)
 }
 
-/// Reads and checks a text once, and takes its first function so far so many times: how many nodes its RTL has. None if the text, the
-/// function or its LTL is refused.
+/// Reads and checks a text once, and takes its first function up to the step `times` times. The result is how many nodes its RTL
+/// has. None if the text, the function or its LTL is refused.
 pub fn again(alloc: Global, text: &[u8], step: Step, ltl: &[u8], times: u32) -> Option<usize> {
     let unit = check(alloc, parse(alloc, text).ok()?).ok()?;
     let unit = Arc::new(alloc, unit).ok()?;

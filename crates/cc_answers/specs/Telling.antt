@@ -1,4 +1,4 @@
--- What is written for an answer to a script, and how that may fail.
+-- What is written as an answer to a script, and how that may fail.
 use Rattle.std.specs.Prelude.{◌≡◌, ℕ, ◌==◌, if◌then◌else◌, List, [], ◌++◌, Option, Result, IfErr, OnOk, codes}
 use Rattle.std.specs.List.{flat_map}
 use Rattle.std.specs.Fmt.{decimal}
@@ -11,7 +11,7 @@ use Rattle.cc_script.specs.declared.fault.ScriptFault.{ScriptFault}
 use Rattle.cc_script.specs.declared.fault.ScriptFault.TheVariants.{WriteFault}
 use Rattle.cc_answers.specs.Text.{line, fault_line}
 
--- this text was appended to what was written before, and nothing else; or it could not be written: 54
+-- this text was appended to what was written before, and nothing else; or it could not be written, and the fault is 54
 abbrev pub Tells : {T : Type 0} → (old new : Option (List ℕ)) (text : List ℕ) → Result T ScriptFault → Type 0
 Tells old new text result = IfErr result (λ fault. fault ≡ WriteFault) × OnOk result (Appends old new text)
 
@@ -40,7 +40,7 @@ said_text Unconfirmed = line (codes " unconfirmed")
 abbrev pub audit_text : (name : List ℕ) → Audit → List ℕ
 audit_text name audit = codes "audit " ++ name ++ said_text audit
 
--- how much of its area a library takes: four numbers on a line, then `ok`
+-- how much of its area a library takes: four numbers on a line; then the same with `ok` after it
 abbrev pub space_line : SpaceUse → List ℕ
 space_line space =
     codes "space " ++ (decimal space.area ++ (codes " " ++ (decimal space.used ++ (codes " " ++ (decimal space.compacted ++ (codes " " ++ (decimal space.units ++ codes "\n")))))))
@@ -48,6 +48,6 @@ space_line space =
 abbrev pub space_text : SpaceUse → List ℕ
 space_text space = space_line space ++ line (codes "ok")
 
--- the line of a fault of the script; 54 has none
+-- the line of a fault of the script; 54 has no line
 abbrev pub script_fault_text : ScriptFault → List ℕ
 script_fault_text fault = if fault_number fault == 54 then [] else fault_line (fault_number fault) []

@@ -1,4 +1,4 @@
--- What is written for an answer and for a fault, byte for byte.
+-- What is written as an answer and for a fault, byte for byte.
 use Rattle.std.specs.Prelude.{ℕ, ◌==◌, if◌then◌else◌, List, [], ◌∷◌, ◌++◌, take, drop, Option, Some, None, codes}
 use Rattle.std.specs.List.{flat_map}
 use Rattle.std.specs.Fmt.{decimal}
@@ -13,7 +13,7 @@ use Rattle.cc_answers.specs.declared.run.ImageRun.{ImageRun}
 use Rattle.cc_answers.specs.declared.stands.Stands.{Stands}
 use Rattle.cc_answers.specs.declared.stands.Stands.TheVariants.{Text, Function, Nowhere}
 
--- a line of this text
+-- a line with this text
 abbrev pub line : List ℕ → List ℕ
 line text = text ++ codes "\n"
 
@@ -56,7 +56,7 @@ fault_names =
     ∷ (54, codes "WriteFault") ∷ (55, codes "Interrupted") ∷ (56, codes "FolderFault") ∷ (57, codes "FolderInUse")
     ∷ (58, codes "NotTaken") ∷ (59, codes "UnknownFunction") ∷ (60, codes "Changed") ∷ (61, codes "Stopped") ∷ []
 
--- the name at this number; nothing if no fault has it
+-- the name of the fault with this number; nothing if no fault has the number
 abbrev pub name_in : List (ℕ × List ℕ) → ℕ → List ℕ
 name_in [] n = []
 name_in (entry ∷ entries) n = if n == entry.0 then entry.1 else name_in entries n
@@ -69,7 +69,7 @@ abbrev pub place_text : Option Place → List ℕ
 place_text None = []
 place_text (Some p) = codes " at " ++ decimal p.line ++ codes ":" ++ decimal p.column
 
--- the name of this many bytes that begins at this offset of the text
+-- the name that begins at this offset of the text and has this many bytes
 abbrev pub name_at : (text : List ℕ) (at count : ℕ) → List ℕ
 name_at text at count = take count (drop at text)
 

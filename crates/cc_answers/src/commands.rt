@@ -3,7 +3,7 @@
 use cc_script::{COMMANDS, Dialect, PLAIN_COMMANDS};
 use std::io::{self, Write};
 
-// What comes before the command at this index, of this many commands.
+// What is written before the command at the index `place`, if there are `count` commands.
 fn before(place: usize, count: usize) -> &'static [u8] {
     if place == 0 {
         b""
@@ -14,7 +14,8 @@ fn before(place: usize, count: usize) -> &'static [u8] {
     }
 }
 
-// The words of a command. For a line of `submit` they have no LEN, since `submit` counts the bytes after the line itself.
+// The words of a command. If they are words of `submit` and not a line of a script, they have no LEN, since `submit` itself counts
+// the bytes of the source.
 fn shown(command: &[u8], is_line: bool) -> &[u8] {
     if is_line {
         return command;
@@ -36,7 +37,7 @@ fn write_commands<W: Write>(dialect: Dialect, is_line: bool, writer: &mut W) -> 
     Ok(())
 }
 
-/// Writes what a person who types a session's script may enter. Err: the writer failed.
+/// Writes what a person who types a session's script may enter. Fails if the writer failed.
 pub fn greet<W: Write>(writer: &mut W) -> io::Result<()> {
     writer.write_all(b"cclib: ")?;
     write_commands(Dialect::Plain, true, writer)?;
@@ -44,7 +45,7 @@ pub fn greet<W: Write>(writer: &mut W) -> io::Result<()> {
     writer.flush()
 }
 
-/// Writes an explanation for a line that is no command of a script in this dialect. Err: the writer failed.
+/// Writes an explanation for a line that is not a command of a script in this dialect. Fails if the writer failed.
 pub fn explain_bad_line<W: Write>(dialect: Dialect, writer: &mut W) -> io::Result<()> {
     writer.write_all(b"cclib: the line is no command: ")?;
     write_commands(dialect, true, writer)?;
@@ -52,7 +53,7 @@ pub fn explain_bad_line<W: Write>(dialect: Dialect, writer: &mut W) -> io::Resul
     writer.flush()
 }
 
-/// Writes an explanation for words of `submit` that are no command. Err: the writer failed.
+/// Writes an explanation for words of `submit` that are not a command. Fails if the writer failed.
 pub fn explain_no_command<W: Write>(writer: &mut W) -> io::Result<()> {
     writer.write_all(b"cclib: the words are no command of a script: ")?;
     write_commands(Dialect::Served, false, writer)?;

@@ -1,11 +1,12 @@
-//! What the program writes for an answer, and how it explains a fault to a person: for a task on a text and for a line of a script.
+//! What the program writes as an answer, and how it explains a fault to a person: for a task on a text, and for a line of a
+//! script.
 //!
-//! `run` runs an image and writes the result, `stands` has the position of a fault in a text and explains it there, `line` writes a fault's
-//! line, `words` explains a fault by its number, `commands` explains the commands of a script. `script` writes each answer to a script.
-//! `person` says to whom the explanations go, if to anybody.
+//! `run` runs an image and writes the result. `stands` has a fault's position in a text, and explains it there. `line` writes
+//! the line of a fault, `words` explains a fault by its number, and `commands` explains the commands of a script. `script`
+//! writes each answer to a script. `person` says to whom the explanations go, if to anybody.
 //!
-//! The crate knows neither tasks nor services, so both front ends are built on it: `cc_tasks` and `cc_session`. It hands out these, and the
-//! definitions that their contracts cite (`specs/`).
+//! The crate knows neither tasks nor services, so both front ends are built on it: `cc_tasks` and `cc_session`. It exports
+//! these items, and the definitions that their contracts cite (`specs/`).
 #![tactic(auto)]
 
 mod commands;

@@ -66,8 +66,8 @@ pub fn name_of(number: u32) -> &'static str
     }
 }
 
-/// Writes the line of a fault for the text that has it: its number and its name; its place if it is in the text, for example `fault 5
-/// Unexpected at 1:25`; and the function's name if it is about a function, for example `fault 22 FunctionTooLarge in main`.
+/// Writes the line of a fault, given the text: the fault's number and name; its place, if it has one, for example `fault 5
+/// Unexpected at 1:25`; or, if it is about a function, that function's name, for example `fault 22 FunctionTooLarge in main`.
 #[tactic(auto, using(crate::proofs::Writing::written_third))]
 pub fn write_fault_line<W: Write>(
     number: u32,
@@ -110,7 +110,7 @@ fn write_place<W: Write>(place: Option<Place>, writer: &mut W) -> io::Result<()>
     }
 }
 
-// Writes the function of a fault, and the label.
+// Writes the function that a fault is in, and the label.
 #[tactic(auto, using(crate::proofs::Writing::written_on))]
 fn write_function<W: Write>(fault: PieceFault, text: &[u8], writer: &mut W) -> io::Result<()>
     ensures { OnOk result (Appends (W.contents writer.old) (W.contents writer.new) (function_text text.now fault)) }
@@ -125,7 +125,7 @@ fn write_function<W: Write>(fault: PieceFault, text: &[u8], writer: &mut W) -> i
     }
 }
 
-// Writes the name of this many bytes that begins at this offset of the text.
+// Writes the name that begins at the offset `at` of the text and has `length` bytes.
 #[tactic(auto, using(crate::proofs::Writing::written_on))]
 fn write_name<W: Write>(text: &[u8], at: usize, length: usize, writer: &mut W) -> io::Result<()>
     ensures { OnOk result (Appends (W.contents writer.old) (W.contents writer.new) (in_text text.now at length)) }
@@ -134,7 +134,7 @@ fn write_name<W: Write>(text: &[u8], at: usize, length: usize, writer: &mut W) -
     writer.write_all(name_in(text, at, length))
 }
 
-// This many bytes of a text from this offset on, or as many as there are.
+// The `length` bytes of a text from the offset `at` on, or as many of them as there are.
 fn name_in(text: &[u8], at: usize, length: usize) -> &[u8]
     ensures { result.now ≡ name_at text.now at length }
 {

@@ -2,7 +2,7 @@
 
 use std::io::{self, Write};
 
-/// Whether a person types, whether one reads, and whether explanations are wanted.
+/// Whether a person types the input, whether a person sees standard error, and whether explanations are left out.
 #[derive(Clone, Copy, Drop)]
 pub struct Persons {
     /// Whether standard input comes from a person.

@@ -18,7 +18,8 @@ pub struct ImageRun {
     pub outcome: MachineOutcome,
 }
 
-/// What an image does on the input words within this many instructions. `AllocError` if memory was refused during the run.
+/// What an image does on the input words within `steps` instructions. Fails with `AllocError` if memory was refused during the
+/// run.
 pub fn run_image(
     alloc: Global,
     image: &Image,
@@ -39,7 +40,7 @@ pub fn run_image(
     }
 }
 
-/// Writes words as signed numbers, each on a line of its own. Err: the writer failed.
+/// Writes words as signed numbers, each on a line of its own. Fails if the writer failed.
 pub fn write_words<W: Write>(words: &[u32], writer: &mut W) -> io::Result<()>
     ensures { OnOk result (Appends (W.contents writer.old) (W.contents writer.new) (words_text words.now)) }
 {
@@ -60,7 +61,7 @@ fn write_outcome<W: Write>(outcome: MachineOutcome, writer: &mut W) -> io::Resul
     }
 }
 
-/// Writes the words, one on each line, and then how the run ended. Err: the writer failed.
+/// Writes the words, one on each line, and then how the run ended. Fails if the writer failed.
 #[tactic(auto, using(crate::proofs::Writing::written_on))]
 pub fn write_run<W: Write>(run: &ImageRun, writer: &mut W) -> io::Result<()>
     ensures { OnOk result (Appends (W.contents writer.old) (W.contents writer.new) (run_text run.now)) }

@@ -1,5 +1,5 @@
-// What is written for an answer to a script, and the explanations of its faults. Each answer goes to `answers`, which is flushed after it.
-// Explanations for a person go to `explanations`; if one cannot be written, it is left out.
+// What is written as an answer to a script, and the explanations of the script's faults. Each answer goes to `answers`, which
+// is flushed after it. Explanations for a person go to `explanations`; one that cannot be written is left out.
 
 ghost use Rattle.std.specs.Prelude.{◌≡◌, [], OnOk, codes};
 ghost use Rattle.std.specs.Io.KnownBytes.{Appends};
@@ -24,7 +24,7 @@ pub struct Refusal<'a> {
     pub stands: Stands<'a>,
 }
 
-// Flushes a writer after a write: 54 if one of the two failed.
+// Flushes a writer after a write. Fails with 54 if the write or the flush failed.
 fn flushed<W: Write>(write: io::Result<()>, writer: &mut W) -> Result<(), ScriptFault>
     ensures { Flushes write (W.contents writer.old) (W.contents writer.new) result }
 {
@@ -63,7 +63,7 @@ fn write_units<W: Write>(names: &[Name], writer: &mut W) -> io::Result<()>
     Ok(())
 }
 
-// Writes the names of a library's units and the receipt's number.
+// Writes the names of a library's units, and the number of the receipt that has them.
 #[tactic(auto, using(crate::proofs::Writing::written_on))]
 fn write_names<W: Write>(names: &[Name], number: u64, writer: &mut W) -> io::Result<()>
     ensures { OnOk result (Appends (W.contents writer.old) (W.contents writer.new) (names_text names.now number)) }
@@ -82,7 +82,7 @@ fn said_of(audit: Audit) -> &'static [u8]
     }
 }
 
-// Writes the result of an audit of the unit with a name.
+// Writes the result of an audit of the unit under this name.
 #[tactic(auto, using(crate::proofs::Writing::written_third))]
 fn write_audit<W: Write>(name: &[u8], audit: Audit, writer: &mut W) -> io::Result<()>
     ensures { OnOk result (Appends (W.contents writer.old) (W.contents writer.new) (audit_text name.now audit)) }
@@ -105,7 +105,7 @@ fn write_space_line<W: Write>(space: SpaceUse, writer: &mut W) -> io::Result<()>
     writeln!(writer, "space {area} {used} {compacted} {units}")
 }
 
-// Writes that, and `ok`.
+// Writes how much of its area a library takes, and then `ok`.
 #[tactic(auto, using(crate::proofs::Writing::written_on))]
 fn write_space<W: Write>(space: SpaceUse, writer: &mut W) -> io::Result<()>
     ensures { OnOk result (Appends (W.contents writer.old) (W.contents writer.new) (space_text space)) }
@@ -114,7 +114,7 @@ fn write_space<W: Write>(space: SpaceUse, writer: &mut W) -> io::Result<()>
     writer.write_all(b"ok\n")
 }
 
-// Writes what is told of a refusal: words, or the place in the source that was sent.
+// Writes the explanation of a refusal: words, or the place in the source that was sent.
 fn explain_refusal<W: Write>(
     alloc: Global,
     refusal: Refusal<'_>,
@@ -128,7 +128,8 @@ fn explain_refusal<W: Write>(
     writer.flush()
 }
 
-/// Writes the names of a library's units, and the number of the receipt that has them. Err: 54 `WriteFault`, the writer failed.
+/// Writes the names of a library's units, and the number of the receipt that has them. Fails with 54 `WriteFault` if the writer
+/// failed.
 #[tactic(auto, using(crate::proofs::Writing::told))]
 pub fn tell_names<W: Write>(names: &[Name], number: u64, answers: &mut W) -> Result<(), ScriptFault>
     ensures { Tells (W.contents answers.old) (W.contents answers.new) (names_text names.now number) result }
@@ -137,7 +138,7 @@ pub fn tell_names<W: Write>(names: &[Name], number: u64, answers: &mut W) -> Res
     flushed(write, answers)
 }
 
-/// Writes what a unit's image did. Err: 54 `WriteFault`, the writer failed.
+/// Writes what a unit's image did. Fails with 54 `WriteFault` if the writer failed.
 #[tactic(auto, using(crate::proofs::Writing::told))]
 pub fn tell_run<W: Write>(run: &ImageRun, answers: &mut W) -> Result<(), ScriptFault>
     ensures { Tells (W.contents answers.old) (W.contents answers.new) (run_text run.now) result }
@@ -146,7 +147,7 @@ pub fn tell_run<W: Write>(run: &ImageRun, answers: &mut W) -> Result<(), ScriptF
     flushed(write, answers)
 }
 
-/// Writes the result of an audit of the unit with a name. Err: 54 `WriteFault`, the writer failed.
+/// Writes the result of an audit of the unit under this name. Fails with 54 `WriteFault` if the writer failed.
 #[tactic(auto, using(crate::proofs::Writing::told))]
 pub fn tell_audit<W: Write>(name: &[u8], audit: Audit, answers: &mut W) -> Result<(), ScriptFault>
     ensures { Tells (W.contents answers.old) (W.contents answers.new) (audit_text name.now audit) result }
@@ -155,7 +156,7 @@ pub fn tell_audit<W: Write>(name: &[u8], audit: Audit, answers: &mut W) -> Resul
     flushed(write, answers)
 }
 
-/// Writes how much of its area a library takes.
+/// Writes how much of its area a library takes. Fails with 54 `WriteFault` if the writer failed.
 #[tactic(auto, using(crate::proofs::Writing::told))]
 pub fn tell_space<W: Write>(space: SpaceUse, answers: &mut W) -> Result<(), ScriptFault>
     ensures { Tells (W.contents answers.old) (W.contents answers.new) (space_text space) result }
@@ -164,7 +165,7 @@ pub fn tell_space<W: Write>(space: SpaceUse, answers: &mut W) -> Result<(), Scri
     flushed(write, answers)
 }
 
-/// Writes lines that are there as a whole.
+/// Writes whole lines that were made before. Fails with 54 `WriteFault` if the writer failed.
 #[tactic(auto, using(crate::proofs::Writing::told))]
 pub fn tell_text<W: Write>(text: &[u8], answers: &mut W) -> Result<(), ScriptFault>
     ensures { Tells (W.contents answers.old) (W.contents answers.new) text.now result }
@@ -173,7 +174,7 @@ pub fn tell_text<W: Write>(text: &[u8], answers: &mut W) -> Result<(), ScriptFau
     flushed(write, answers)
 }
 
-/// Writes that a change was made, and the number of its receipt. Err: 54 `WriteFault`, the writer failed.
+/// Writes that a change was made, and the number of its receipt. Fails with 54 `WriteFault` if the writer failed.
 #[tactic(auto, using(crate::proofs::Writing::told))]
 pub fn tell_number<W: Write>(number: u64, answers: &mut W) -> Result<(), ScriptFault>
     ensures { Tells (W.contents answers.old) (W.contents answers.new) (number_text number) result }
@@ -182,7 +183,7 @@ pub fn tell_number<W: Write>(number: u64, answers: &mut W) -> Result<(), ScriptF
     flushed(write, answers)
 }
 
-/// Writes that what was asked for is done. Err: 54 `WriteFault`, the writer failed.
+/// Writes that what was asked for is done. Fails with 54 `WriteFault` if the writer failed.
 pub fn tell_ok<W: Write>(answers: &mut W) -> Result<(), ScriptFault>
     ensures { Tells (W.contents answers.old) (W.contents answers.new) (line (codes "ok")) result }
 {
@@ -214,7 +215,8 @@ fn tell_script_fault<W: Write>(fault: ScriptFault, answers: &mut W) -> Result<()
     tell_line(number, Stands::Nowhere, &[], answers)
 }
 
-/// Writes the line of a script's fault, and explains it. 54, a fault of the answers themselves, has no line.
+/// Writes the line of a script's fault, and explains the fault. 54, a fault in writing the answers themselves, has no line. Fails
+/// with 54 `WriteFault` if the writer failed.
 pub fn tell_fault<W: Write, E: Write>(
     fault: ScriptFault,
     answers: &mut W,
@@ -227,7 +229,7 @@ pub fn tell_fault<W: Write, E: Write>(
     answer
 }
 
-/// Writes that memory ran out, 40, and explains it.
+/// Writes that memory ran out, 40, and explains it. Fails with 54 `WriteFault` if the writer failed.
 pub fn tell_no_memory<W: Write, E: Write>(
     answers: &mut W,
     explanations: &mut E,
@@ -239,7 +241,8 @@ pub fn tell_no_memory<W: Write, E: Write>(
     answer
 }
 
-/// Writes the line of a refusal for the source that was sent, and explains it: by words, or by its place in the source.
+/// Writes the line of a refusal for the source that was sent, and explains the refusal: in words, or by its place in the
+/// source. Fails with 54 `WriteFault` if the writer failed.
 pub fn tell_refusal<W: Write, E: Write>(
     alloc: Global,
     refusal: Refusal<'_>,

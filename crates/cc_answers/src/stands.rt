@@ -8,7 +8,7 @@ use std::io::{self, Write};
 /// The position of a fault in a text.
 #[derive(Clone, Copy, Drop)]
 pub enum Stands<'a> {
-    /// Where the text stops being a program.
+    /// At the place where the text stops being a program.
     Text(&'a TextFault),
     /// In a function.
     Function(PieceFault),
@@ -16,7 +16,7 @@ pub enum Stands<'a> {
     Nowhere,
 }
 
-// The explanation for a function that was not compiled; None if memory ran out.
+// The explanation for a function that was not compiled; `None` if memory ran out.
 fn of_piece(
     alloc: Global,
     text: &[u8],
@@ -36,8 +36,8 @@ fn of_piece(
     }
 }
 
-/// The explanation of a fault in the text: what was found there and what was expected, or which function it is. None for a fault that is
-/// not in the text, and for lack of memory.
+/// The explanation of a fault in the text: what was found there and what was expected, or which function it is. `None` for a
+/// fault that is not in the text, and if memory ran out.
 pub fn of_fault(
     alloc: Global,
     text: &[u8],

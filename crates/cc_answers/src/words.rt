@@ -1,11 +1,11 @@
-// Explanations of faults that are not in a text, by their numbers.
+// Explanations of faults that are not in a text, by the faults' numbers.
 
 use crate::commands::explain_bad_line;
 use cc_script::{Dialect, ScriptFault};
 use std::io::{self, Write};
 
-/// The explanation of the fault of a script or of a library with this number, if it is not in a text; None for other faults. The
-/// explanation of 50 also has the commands of the script: `explain_bad_line` writes it.
+/// The explanation of a fault of a script or a library, by its number, if the fault is not in a text; `None` for other faults.
+/// The explanation of 50 also lists the commands of the script: `explain_bad_line` writes it.
 pub fn words_of(number: u32) -> Option<&'static str> {
     match number {
         25 => Some("the image would have more than 131072 words of code"),
@@ -31,7 +31,7 @@ pub fn words_of(number: u32) -> Option<&'static str> {
     }
 }
 
-/// The same for a task, which reads a text and has one answer.
+/// The same for a task, which reads one text and gives one answer.
 pub fn words_of_task(number: u32) -> Option<&'static str> {
     match number {
         53 => Some("the text could not be read"),
@@ -40,7 +40,8 @@ pub fn words_of_task(number: u32) -> Option<&'static str> {
     }
 }
 
-/// Writes the explanation of the fault with this number, of a session's script or of a library, if there is one. Err: the writer failed.
+/// Writes the explanation of a fault of a session's script or of a library, by its number, if there is one. Fails if the writer
+/// failed.
 pub fn explain_words<W: Write>(number: u32, writer: &mut W) -> io::Result<()> {
     if number == ScriptFault::BadLine.number() {
         return explain_bad_line(Dialect::Plain, writer);

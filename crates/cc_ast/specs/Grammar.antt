@@ -106,7 +106,7 @@ abbrev pub sign_word : Scalar → Keyword
 sign_word scalar.Int = keyword.Signed
 sign_word scalar.Unsigned = keyword.Unsigned
 
--- a type: `int` alone, or `signed` or `unsigned`, with or without `int` after it (C99 6.7.2)
+-- a type: `int` by itself, or `signed` or `unsigned`, with or without `int` after it (C99 6.7.2)
 abbrev pub SpellsType : List Lexeme → Scalar → Type 0
 SpellsType ts t =
     ((word : Lexeme) × (t ≡ scalar.Int) × IsKeyword keyword.Int word × (ts ≡ word ∷ []))

@@ -12,7 +12,7 @@ pub mod Parse
 pub mod Source
 -- definitions that no promise depends on
 pub mod internal
--- Modules of the crates below that clauses here use, passed on.
+-- Modules of the crates below that clauses here use, re-exported.
 pub use Rattle.cc_tokens.specs.Place
 pub use Rattle.cc_tokens.specs.Tokens
 pub use Rattle.cc_tokens.specs.declared.fault

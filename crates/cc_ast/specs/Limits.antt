@@ -5,11 +5,11 @@ use Rattle.cc_tokens.specs.Token.{Lexeme}
 use Rattle.cc_ast.specs.Tree.{External}
 use Rattle.cc_ast.specs.Grammar.{Measured, SpellsUnit, plain_tokens, Spells, Begins}
 
--- the most tokens that a full expression may have
+-- a full expression may have at most this many tokens
 abbrev pub most_tokens : ℕ
 most_tokens = 512
 
--- the deepest level that a statement or declaration may have
+-- a statement or declaration may be at most at this level
 abbrev pub deepest_level : ℕ
 deepest_level = 64
 
@@ -20,7 +20,7 @@ IsWithin p = (p.count ≤ most_tokens) × (p.level ≤ deepest_level)
 abbrev pub SpellsWithin : List Lexeme → List External → Type 0
 SpellsWithin tokens tree = (ts : List Measured) × SpellsUnit ts tree × AllByRecursion IsWithin ts × (plain_tokens ts ≡ tokens)
 
--- a token past a limit: one too many in a full expression, or the first of a statement or declaration that is too deep
+-- a token that exceeds a limit: one too many in a full expression, or the first of a statement or declaration that is too deep
 abbrev pub PassesLimit : Measured → Type 0
 PassesLimit p = (most_tokens < p.count) ⊎ (deepest_level < p.level)
 
@@ -30,13 +30,13 @@ UnexpectedAt tokens k =
     ((k < length tokens) × (Begins (take (suc k) tokens) → ⊥))
     ⊎ ((k ≡ length tokens) × ((tree : List External) → Spells tokens tree → ⊥))
 
--- in some unit that begins with the tokens up to and including number k, that token passes a limit
+-- in some unit that begins with the tokens up to and including number k, that token exceeds a limit
 abbrev pub TooDeepAt : List Lexeme → ℕ → Type 0
 TooDeepAt tokens k =
     (prefix rest : List Measured) × (p : Measured) × (tree : List External) × (k < length tokens) × PassesLimit p
     × SpellsUnit (prefix ++ p ∷ rest) tree × (plain_tokens (prefix ++ p ∷ []) ≡ take (suc k) tokens)
 
--- some unit begins with the tokens before number k, and none of them passes a limit
+-- some unit begins with the tokens before number k, and none of them exceeds a limit
 abbrev pub IsFineBefore : List Lexeme → ℕ → Type 0
 IsFineBefore tokens k = Begins (take k tokens) × ((j : ℕ) → j < k → TooDeepAt tokens j → ⊥)
 

@@ -1,4 +1,4 @@
--- The syntax tree, independent of its place in memory.
+-- The syntax tree, wherever it is in memory.
 use Rattle.std.specs.Prelude.{ℕ, List, Option}
 use Rattle.cc_tokens.specs.declared.scalar.Scalar.{Scalar}
 use Rattle.cc_ast.specs.declared.ast.UnaryOperator.{UnaryOperator}

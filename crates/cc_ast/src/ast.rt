@@ -120,7 +120,7 @@ pub enum Beginning {
 pub enum Statement {
     Block(Vec<Statement>),
     Local(Scalar, Vec<Declarator>),
-    /// An expression statement; `None` for a semicolon alone.
+    /// An expression statement; `None` if there is only a semicolon.
     Perform(Option<Action>),
     /// `return`: the offset of the keyword, and the value if there is one.
     Return(usize, Option<Box<Expression>>),

@@ -1,5 +1,5 @@
--- What a row holds after one of its words has changed, and when the words of one row lie within those of another: number by number, by the
--- word that has its bit.
+-- What a row holds after one of its words has changed, and when the numbers of one row lie within those of another. Both are
+-- shown for each number, by the word that has its bit.
 use Rattle.std.proofs.Common.{◌≡◌, ◌≢◌, ℕ, ◌+◌, ◌-◌, ◌*◌, ◌/◌, ◌%◌, ◌^◌, ◌<◌, ◌≤◌, List, length, get_or, set, refl, sym, ap, ◌∙◌, subst, Bool, true, false, ◌==◌, ◌&&◌, ◌||◌, not, if◌then◌else◌, IsTrue, IsFalse, arith, inl, inr, w64, min}
 use Rattle.std.specs.Int.{bit_at, bit_not, trailing_zeros}
 use Rattle.std.specs.Int.RustNames.{bit_or}
@@ -19,7 +19,7 @@ holds_here row q w r lt e = ap (λ x. bit_at x (r % 64) == 1) (ap (λ i. get_or 
 holds_elsewhere : (row : List ℕ) (q w r : ℕ) → r / 64 ≢ q → holds (set row q w) r ≡ holds row r
 holds_elsewhere row q w r d = ap (λ x. bit_at x (r % 64) == 1) (get_or-set_other row q (r / 64) w 0 d)
 
--- a number's bit set
+-- if the number's bit is set, the row also holds that number
 pub inserted : (row : List ℕ) (s w r : ℕ) → w ≡ get_or row (s / 64) 0 → s / 64 < length row → holds (set row (s / 64) (bit_or w (1 * 2 ^ (s % 64) % 2 ^ 64))) r ≡ (s == r || holds row r)
 inserted row s w r read lt = elim (cases_eq (r / 64) (s / 64)) [
   | inr far ↦ holds_elsewhere row (s / 64) changed r far ∙ ap (λ b. b || holds row r) (sym (ne_eqb s r (λ e. far (omega arith))))
@@ -48,7 +48,7 @@ kept row s r d = and_true (holds row r) ∙ ap (λ b. holds row r && not b) (sym
 gone : (row : List ℕ) (s r : ℕ) → s ≡ r → false ≡ (holds row r && not (s == r))
 gone row s r e = and_false (holds row r) ∙ ap (λ b. holds row r && not b) (sym (eq-eqb s r e))
 
--- a number's bit cleared
+-- if the number's bit is cleared, the row no longer holds that number
 pub removed : (row : List ℕ) (s w r : ℕ) → w ≡ get_or row (s / 64) 0 → s / 64 < length row → holds (set row (s / 64) (bit_and w (bit_not w64 (1 * 2 ^ (s % 64) % 2 ^ 64)))) r ≡ (holds row r && not (s == r))
 removed row s w r read lt = elim (cases_eq (r / 64) (s / 64)) [
   | inr far ↦ holds_elsewhere row (s / 64) changed r far ∙ kept row s r (λ e. far (omega arith))
@@ -63,7 +63,7 @@ removed row s w r read lt = elim (cases_eq (r / 64) (s / 64)) [
     changed : ℕ
     changed = bit_and w (bit_not w64 (1 * 2 ^ (s % 64) % 2 ^ 64))
 
--- the same for a bit of a given word
+-- the same for the number of a bit in a word
 pub removed_at : (row : List ℕ) (at i w r : ℕ) → i < 64 → w ≡ get_or row at 0 → at < length row → holds (set row at (bit_and w (bit_not w64 (1 * 2 ^ i % 2 ^ 64)))) r ≡ (holds row r && not (64 * at + i == r))
 removed_at row at i w r small read lt =
     subst (λ q. holds (set row q (bit_and w (bit_not w64 (1 * 2 ^ i % 2 ^ 64)))) r ≡ (holds row r && not (64 * at + i == r))) place
@@ -76,7 +76,7 @@ removed_at row at i w r small read lt =
     of : (64 * at + i) % 64 ≡ i
     of = omega (arith, small)
 
--- a number past the row's end need not be taken out
+-- a number past the row's end need not be removed
 pub removed_past : (row : List ℕ) (s r : ℕ) → length row ≤ s / 64 → holds row r ≡ (holds row r && not (s == r))
 removed_past row s r past = elim (cases_eq s r) [
   | inl same ↦ holds-past row r (subst (λ x. length row ≤ x / 64) same past) ∙ gone row s r same
@@ -85,7 +85,7 @@ removed_past row s r past = elim (cases_eq s r) [
 
 -- ---- one number replaced by another
 
--- if it is in, it is taken out and the other one is put in
+-- if the number is in the set, it is removed and the other one is added
 pub moved_on : (from to : ℕ) (old mid new : ℕ → Bool) → old from ≡ true → ((k : ℕ) → mid k ≡ (old k && not (from == k))) → ((k : ℕ) → new k ≡ (to == k || mid k))
     → (k : ℕ) → new k ≡ moved from to old k
 moved_on from to old mid new there takes puts k = puts k ∙ (ap (λ b. to == k || b) (takes k) ∙ here (to == k))
@@ -98,7 +98,7 @@ moved_on from to old mid new there takes puts k = puts k ∙ (ap (λ b. to == k 
     here true = or_true (old to) ∙ ap (λ x. old to || x) (sym there)
     here false = refl
 
--- if it is not in, nothing changes
+-- if the number is not in, nothing changes
 pub moved_none : (from to : ℕ) (old : ℕ → Bool) → old from ≡ false → (k : ℕ) → old k ≡ moved from to old k
 moved_none from to old none k = here (to == k) refl (from == k) refl
   where
@@ -113,14 +113,14 @@ moved_none from to old none k = here (to == k) refl (from == k) refl
 
 -- ---- words within words
 
--- the first `words` words hold nothing that the other row does not hold
+-- the first n words of `some` hold nothing that `all` does not hold
 abbrev pub WithinFirst : (words : ℕ) → (some all : List ℕ) → Type 0
 WithinFirst n some all = (r : ℕ) → r / 64 < n → IsTrue (holds some r) → IsTrue (holds all r)
 
 pub none_within : (some all : List ℕ) → WithinFirst 0 some all
 none_within some all r h = absurd (omega arith)
 
--- the bits of a word except those of another
+-- the bits of a word, without those of another word
 but_for_bits : (word other i : ℕ) → other < 2 ^ 64 → i < 64 → bit_at (bit_and word (bit_not w64 other)) i ≡ min (bit_at word i) (1 - bit_at other i)
 but_for_bits word other i fits lt = bit_at_and word (bit_not w64 other) i ∙ ap (min (bit_at word i)) (bit_at_not w64 other i fits lt)
 
@@ -138,7 +138,7 @@ one_within some all n word other a b fits none before r lt held = elim (cases_eq
 pub all_within : (some all : List ℕ) (n : ℕ) → length some ≤ n → WithinFirst n some all → (r : ℕ) → IsTrue (holds some r) → IsTrue (holds all r)
 all_within some all n past h r held = h r (let w = within_row some r held in omega (arith, w)) held
 
--- if a word has a bit that the other one lacks, a number is in the one row and not in the other
+-- if a word has a bit that the other word lacks, there is a number in one row that is not in the other
 pub one_outside : (some all : List ℕ) (n word other : ℕ) → word ≡ get_or some n 0 → other ≡ get_or all n 0 → word < 2 ^ 64 → other < 2 ^ 64 → n < length some → bit_and word (bit_not w64 other) ≢ 0 → (r : ℕ) × (r < 64 * length some) × IsTrue (holds some r) × IsFalse (holds all r)
 one_outside some all n word other a b fits fits_too lt d =
     let left = bit_and word (bit_not w64 other) in
@@ -158,7 +158,7 @@ one_outside some all n word other a b fits fits_too lt d =
 
 -- ---- words joined with words
 
--- the first n words of `from` are joined in
+-- the first n words of `from` have been joined in
 pub record PutFirst (n : ℕ) (start from now : List ℕ) : Type 0 where
   pub long : length now ≡ length start
   pub put : (r : ℕ) → r / 64 < n → holds now r ≡ (holds start r || holds from r)
@@ -192,7 +192,7 @@ all_put start from now n past h r = elim (cases_lt (r / 64) n) [
   | inr ge ↦ h.rest r ge ∙ (or_false (holds start r) ∙ ap (λ b. holds start r || b) (sym (holds-past from r (omega arith))))
 ]
 
--- ---- a whole word taken out or put in
+-- ---- a whole word removed or added
 
 pub word_cleared : (row : List ℕ) (at i : ℕ) → at < length row → holds (set row at 0) i ≡ (holds row i && not (at == i / 64))
 word_cleared row at i lt = elim (cases_eq (i / 64) at) [
@@ -200,7 +200,7 @@ word_cleared row at i lt = elim (cases_eq (i / 64) at) [
   | inr far ↦ holds_elsewhere row at 0 i far ∙ (and_true (holds row i) ∙ ap (λ b. holds row i && not b) (sym (ne_eqb at (i / 64) (λ e. far (sym e)))))
 ]
 
--- the word need not be taken out if it is past the row's end
+-- a word past the row's end need not be removed
 pub word_cleared_past : (row : List ℕ) (at i : ℕ) → length row ≤ at → holds row i ≡ (holds row i && not (at == i / 64))
 word_cleared_past row at i past = elim (cases_eq at (i / 64)) [
   | inl near ↦ (let out = holds-past row i (subst (λ x. length row ≤ x) near past) in out ∙ sym (ap (λ b. b && not (at == i / 64)) out))

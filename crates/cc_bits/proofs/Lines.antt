@@ -45,9 +45,9 @@ or_swap true false = refl
 or_swap false true = refl
 or_swap false false = refl
 
--- ---- the bits of one line are put into another
+-- ---- the bits of one line are put into another line
 
--- the bits of the places before c have been put in
+-- the bits at the places before c have been put in
 abbrev pub PutBefore : (c : ℕ) → (own old now : ℕ → Bool) → Type 0
 PutBefore c own old now = (j : ℕ) → now j ≡ (old j || (nat_lt j c && own j))
 
@@ -105,9 +105,9 @@ rows_put r bits now next puts h c = go (bits r c) refl
         (λ i. puts i c ∙ (ap (λ b. now i c || (r == i && b)) e ∙ (ap (λ b. now i c || b) (and_true (r == i)) ∙ or_swap (now i c) (r == i)))) (h c)
     go false e = λ i. (puts i c ∙ (ap (λ b. now i c || (r == i && b)) e ∙ (ap (λ b. now i c || b) (and_false (r == i)) ∙ or_false (now i c)))) ∙ skipped r (λ i. bits i c) (λ _. false) (λ i. now i c) e (h c) i
 
--- ---- in each line one bit moves to another place
+-- ---- in each line, one bit moves to another place
 
--- it has moved in the lines before line n
+-- the bit has moved in the lines before line n
 abbrev pub MovedBefore : (n from to : ℕ) → (old now : ℕ → ℕ → Bool) → Type 0
 MovedBefore n from to old now = (i j : ℕ) → now i j ≡ (if nat_lt i n then moved from to (old i) j else old i j)
 
@@ -115,11 +115,11 @@ pub none_moved : (from to : ℕ) (old : ℕ → ℕ → Bool) → MovedBefore 0 
 none_moved from to old i j = ap (λ b. if b then moved from to (old i) j else old i j) (sym (not_below i 0 (omega arith)))
 
 module _ (n from to : ℕ) (old now : ℕ → ℕ → Bool) where
-  -- any other line
+  -- no other line changes
   elsewhere : (i j : ℕ) → (n ≡ i → ⊥) → MovedBefore n from to old now → now i j ≡ (if nat_lt i (n + 1) then moved from to (old i) j else old i j)
   elsewhere i j other h = h i j ∙ ap (λ b. if b then moved from to (old i) j else old i j) (sym (same_below i n other))
 
-  -- this line, before and after its bit moves
+  -- this line, before its bit moves and after
   was : (i j : ℕ) → n ≡ i → MovedBefore n from to old now → now i j ≡ old i j
   was i j same h = h i j ∙ ap (λ b. if b then moved from to (old i) j else old i j) (not_below i n (omega arith))
 
@@ -137,7 +137,7 @@ module _ (n from to : ℕ) (old now : ℕ → ℕ → Bool) where
         ∙ is i j same))))
   ]
 
-  -- if the lines from here on have no such bit, all have moved
+  -- if the lines from n on have no such bit, it has moved in all lines
   pub all_moved : ((i : ℕ) → n ≤ i → now i from ≡ false) → MovedBefore n from to old now → (i j : ℕ) → now i j ≡ moved from to (old i) j
   all_moved past h i j = elim (cases_lt i n) [
     | inl lt ↦ h i j ∙ ap (λ b. if b then moved from to (old i) j else old i j) (below i n lt)
@@ -147,7 +147,7 @@ module _ (n from to : ℕ) (old now : ℕ → ℕ → Bool) where
       stays : (k : ℕ) → n ≤ i → now i k ≡ old i k
       stays k ge = h i k ∙ ap (λ b. if b then moved from to (old i) k else old i k) (not_below i n ge)
 
--- the same for rows of `width` words: where the next row's words begin, and that no row was added after the last one
+-- the same for rows of `width` words; it says where the next row's words begin, and that no row was added after the last one
 pub record MovedTo (r width from to at target : ℕ) (old now : List ℕ) : Type 0 where
   pub here : at ≡ width * r + from / 64
   pub goes : target ≡ 64 * (width * r) + to
@@ -162,7 +162,7 @@ nowhere_moved width from to at target words a t = record {
   moved = none_moved from to (bit width words);
 }
 
--- one more row: it is one of the rows, so the new bit lies before their end
+-- one more row; it is one of the table's rows, so the new bit lies before their end
 module _ (r width from to at target : ℕ) (old now next : List ℕ) (h : MovedTo r width from to at target old now) (f : from < 64 * width) (t : to < 64 * width) where
   -- a row that has a word is among the rows that hold the words
   inside : (many : ℕ) → length now ≤ width * many → at < length now → r < many
@@ -200,14 +200,14 @@ module _ (r width from to at target : ℕ) (old now next : List ℕ) (h : MovedT
 
 -- ---- the bits of a row move to another row, word by word
 
--- the bits of the columns in words before word n have moved
+-- the bits of the columns whose words come before word n have moved
 abbrev pub WordsMoved : (n from to : ℕ) → (old now : ℕ → ℕ → Bool) → Type 0
 WordsMoved n from to old now = (r c : ℕ) → now r c ≡ (if nat_lt (c / 64) n then row_moved from to old r c else old r c)
 
 pub no_words_moved : (from to : ℕ) (old : ℕ → ℕ → Bool) → WordsMoved 0 from to old old
 no_words_moved from to old r c = ap (λ b. if b then row_moved from to old r c else old r c) (sym (not_below (c / 64) 0 (omega arith)))
 
--- a column that is the same in both moves the same way
+-- a column that is the same in both tables moves in the same way
 same_column : (from to r c : ℕ) (old now : ℕ → ℕ → Bool) → ((x : ℕ) → now x c ≡ old x c) → row_moved from to now r c ≡ row_moved from to old r c
 same_column from to r c old now same =
     ap (λ x. if to == r then x || now from c else now r c && not (from == r)) (same to)

@@ -33,7 +33,7 @@ and_true false = refl
 
 -- ---- one bit
 
--- two bits of a table are the same exactly if their numbers are
+-- two bits of a table are the same exactly if their numbers are the same
 same_bit : (w r c i j : ℕ) → c < 64 * w → j < 64 * w → (key w r c == key w i j) ≡ (r == i && c == j)
 same_bit w r c i j h k = elim (cases_eq r i) [
   | inr other ↦ ne_eqb (key w r c) (key w i j) (λ e. other (same_key w r c i j h k e).0) ∙ ap (λ b. b && c == j) (sym (ne_eqb r i other))
@@ -43,7 +43,7 @@ same_bit w r c i j h k = elim (cases_eq r i) [
   ]
 ]
 
--- no bit past the width is this one
+-- a bit past the width is not this one
 far_bit : (w r c i j : ℕ) → c < 64 * w → 64 * w ≤ j → (r == i && c == j) ≡ false
 far_bit w r c i j h k = ap (λ b. r == i && b) (ne_eqb c j (λ e. absurd (omega arith))) ∙ and_false (r == i)
 
@@ -84,7 +84,7 @@ removed_none w r c words h i j = elim (cases_lt j (64 * w)) [
 pub past_columns : (w : ℕ) (words : List ℕ) (r c : ℕ) → 64 * w ≤ c → (nat_lt c (64 * w) && holds words (key w r c)) ≡ false
 past_columns w words r c h = ap (λ b. b && holds words (key w r c)) (not_below c (64 * w) h)
 
--- a bit of one row moves to another column if its number is replaced by the other bit's number
+-- a bit of row n moves to another column if its number is replaced with the number of the new bit
 pub moved_bit : (w n from to : ℕ) (old new : List ℕ) → from < 64 * w → to < 64 * w → ((k : ℕ) → holds new k ≡ moved (key w n from) (key w n to) (holds old) k)
     → (i j : ℕ) → bit w new i j ≡ (if n == i then moved from to (bit w old i) j else bit w old i j)
 moved_bit w n from to old new f t moves i j = elim (cases_lt j (64 * w)) [
@@ -132,7 +132,7 @@ joined_bits w new a b h r c = ap (λ x. nat_lt c (64 * w) && x) (h (key w r c)) 
     spread true x y = refl
     spread false x y = refl
 
--- a number that one row holds and the other does not is a bit that one table has and the other lacks
+-- if one row holds a number that the other does not, one table has a bit that the other lacks
 pub risen_bit : (w n : ℕ) (mine theirs : List ℕ) → length theirs ≤ w * n → (k : ℕ) → IsTrue (holds theirs k) → IsFalse (holds mine k)
     → (r c : ℕ) × IsTrue (nat_lt c (64 * w) && holds theirs (key w r c)) × IsFalse (nat_lt c (64 * w) && holds mine (key w r c))
 risen_bit w n mine theirs few k there out =
@@ -144,7 +144,7 @@ risen_bit w n mine theirs few k there out =
     let is : key w r c ≡ k = b.4 in
     (r, c, and_from (nat_lt c (64 * w)) (holds theirs (key w r c)) (below c (64 * w) lt) (ap (holds theirs) is ∙ there), ap (λ x. nat_lt c (64 * w) && x) (ap (holds mine) is ∙ out) ∙ and_false (nat_lt c (64 * w)))
 
--- a row whose words are all 0 has no bit; a word that is not 0 has one
+-- a row whose words are all 0 has no bit set; a word that is not 0 has one set
 pub words_empty : (w : ℕ) (words : List ℕ) (r : ℕ) → ((i : ℕ) → i < w → get_or words (w * r + i) 0 ≡ 0) → (c : ℕ) → (nat_lt c (64 * w) && holds words (key w r c)) ≡ false
 words_empty w words r zero c = elim (cases_lt c (64 * w)) [
   | inr ge ↦ past_columns w words r c ge

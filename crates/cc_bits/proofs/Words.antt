@@ -1,4 +1,5 @@
--- Moving the bits of one word of a row to another row: each word belongs to one row, and bit by bit the result is as the table says.
+-- Moving the bits of one word of a row to another row: each word belongs to one row, and each bit of the result is as the table
+-- says.
 use Rattle.std.proofs.Common.{◌≡◌, ℕ, ◌+◌, ◌*◌, ◌/◌, ◌%◌, get_or, ◌<◌, List, ◌∙◌, sym, ap, arith, refl, inl, inr, Bool, true, false, ◌==◌, ◌&&◌, ◌||◌, not, nat_lt, if◌then◌else◌}
 use Rattle.std.proofs.lemmas.Bool.{cases_eq, cases_lt, eq-eqb, ne_eqb, eqb-true}
 use Rattle.std.specs.Int.{bit_at}
@@ -7,7 +8,7 @@ use Rattle.cc_bits.specs.Rows.{holds, key, row_moved}
 use Rattle.cc_bits.proofs.Keys.{same_key}
 use Rattle.cc_bits.proofs.Tables.{below, past_columns, or_false, and_false, and_true}
 
--- two words are the same exactly if their rows and their places within the rows are
+-- two words are the same exactly if their rows are, and their places within the rows
 same_word : (w from k r c : ℕ) → k < w → c < 64 * w → (w * from + k == key w r c / 64) ≡ (from == r && k == c / 64)
 same_word w from k r c h i = elim (cases_eq from r) [
   | inr other ↦ ne_eqb (w * from + k) (key w r c / 64) (λ e. other (parts e).0) ∙ ap (λ b. b && k == c / 64) (sym (ne_eqb from r other))
@@ -27,7 +28,7 @@ or_same : (b : Bool) → (b || b) ≡ b
 or_same true = refl
 or_same false = refl
 
--- a bit of this word is taken from its old place and put in the new one
+-- a bit of this word is removed at its old place and added at the new one
 one_bit : (own there held from to : Bool) → (from ≡ true → held ≡ own) → (to ≡ true → there ≡ own)
     → ((own && not (from && true)) || ((to && true) && held)) ≡ (if to then there || held else own && not from)
 one_bit own there held true true h i = ap (λ b. b || held) (and_false own) ∙ (h refl ∙ sym (ap (λ b. b || held) (i refl) ∙ (ap (λ b. own || b) (h refl) ∙ or_same own)))
@@ -35,7 +36,7 @@ one_bit own there held false true h i = ap (λ b. b || held) (and_true own ∙ s
 one_bit own there held true false h i = or_false (own && false)
 one_bit own there held false false h i = or_false (own && true)
 
--- a bit of another word stays
+-- a bit of another word stays as it is
 other_bit : (own held from to : Bool) → ((own && not (from && false)) || ((to && false) && held)) ≡ own
 other_bit own held from to =
     ap (λ b. (own && not b) || ((to && false) && held)) (and_false from)
@@ -54,7 +55,7 @@ module _ (w from to k word : ℕ) (old mid new : List ℕ) (h : k < w) (is : wor
     inside : (x : ℕ) → bit x c ≡ holds old (key w x c)
     inside x = ap (λ b. b && holds old (key w x c)) (below c (64 * w) lt)
 
-    -- the word's bit for this column
+    -- reads the word's bit for this column
     read : k ≡ c / 64 → (bit_at word (key w r c % 64) == 1) ≡ bit from c
     read e =
         let q : w * from + k ≡ key w from c / 64 = omega (arith, e) in
@@ -85,7 +86,7 @@ module _ (w from to k word : ℕ) (old mid new : List ℕ) (h : k < w) (is : wor
     | inl lt ↦ made r c lt ∙ settled r c lt (k == c / 64) refl
   ]
 
--- a word without a bit need not be moved
+-- a word without bits need not be moved
 pub word_stays : (w from to k : ℕ) (words : List ℕ) → k < w → 0 ≡ get_or words (w * from + k) 0
     → (r c : ℕ) → (nat_lt c (64 * w) && holds words (key w r c)) ≡ (if k == c / 64 then row_moved from to (λ i j. nat_lt j (64 * w) && holds words (key w i j)) r c else (nat_lt c (64 * w) && holds words (key w r c)))
 word_stays w from to k words h none = word_moved w from to k 0 words words words h none takes puts

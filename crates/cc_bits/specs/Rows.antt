@@ -1,4 +1,4 @@
--- A row of bits, and rows of bits of one width, one after the other.
+-- A row of bits, and rows of bits that all have one width, one after the other.
 use Rattle.std.specs.Prelude.{ℕ, ◌+◌, ◌*◌, ◌/◌, ◌%◌, ◌^◌, List, get_or, Bool, ◌==◌, ◌&&◌, ◌||◌, not, nat_lt, length, if◌then◌else◌, ◌≤◌}
 use Rattle.std.specs.Int.{bit_at}
 
@@ -6,7 +6,7 @@ use Rattle.std.specs.Int.{bit_at}
 abbrev pub holds : (row : List ℕ) → (k : ℕ) → Bool
 holds row k = bit_at (get_or row (k / 64) 0) (k % 64) == 1
 
--- rows of width words each
+-- rows of `width` words each, one after the other
 pub record Table : Type 0 where
   pub width : ℕ
   pub words : List ℕ
@@ -19,7 +19,7 @@ key width r c = 64 * (width * r) + c
 abbrev pub has : Table → (r c : ℕ) → Bool
 has t r c = nat_lt c (64 * t.width) && holds t.words (key t.width r c)
 
--- at most so many words in a row of a table, so many rows, and so many words in all
+-- a row of a table has at most this many words; a table has at most this many rows; and it has at most this many words in all
 abbrev pub most_width : ℕ
 most_width = 16
 
@@ -29,14 +29,14 @@ most_rows = 2 ^ 32
 abbrev pub most_words : ℕ
 most_words = 2 ^ 36
 
--- rows of this many words each, and at most this many of them
+-- each row has this many words, and there are at most this many rows
 pub record AreRows (width rows : ℕ) (words : List ℕ) : Type 0 where
   pub narrow : width ≤ most_width
   pub low : rows ≤ most_rows
   pub few : length words ≤ width * rows
 
--- a line of bits in which one has moved to another place; a table in whose rows the bit of one column has moved; one in which the bits of
--- one row have moved
+-- a line of bits in which one bit has moved to another place; a table in which the bit of one column has moved, in each row; a
+-- table in which the bits of one row have moved
 abbrev pub moved : (from to : ℕ) → (ℕ → Bool) → (place : ℕ) → Bool
 moved from to bit k = if to == k then bit to || bit from else bit k && not (from == k)
 

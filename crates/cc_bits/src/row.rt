@@ -9,7 +9,7 @@ use smallvec::SmallVec;
 use std::alloc::{AllocError, Global};
 use std::marker::Model;
 
-// The words of a row. One word is kept in place, so a set of numbers below 64 takes no memory of its own.
+// The words of a row. One word is kept in the struct itself, so a set of numbers below 64 takes no memory of its own.
 type Words = SmallVec<u64, 1>;
 
 /// A set of numbers. Contracts see its words.
@@ -39,7 +39,7 @@ impl BitRow {
         }
     }
 
-    /// The empty set, with memory for exactly this many words. Err: memory ran out.
+    /// The empty set, with memory for exactly this many words. Fails if memory ran out.
     pub(crate) fn with_room(alloc: Global, room: usize) -> Result<BitRow, AllocError>
         ensures { IfOk result (λ made. made ≡ []) }
     {
@@ -48,7 +48,7 @@ impl BitRow {
         })
     }
 
-    /// The words of the set: number k is bit k % 64 of word k / 64. No number past their end is in the set.
+    /// The words of the set: number k is bit k % 64 of word k / 64. Numbers past the last word are not in the set.
     pub fn words(&self) -> &[u64]
         ensures words { result.now ≡ self.now }
         ensures few { length self.now ≤ most_words }
@@ -70,7 +70,7 @@ impl BitRow {
         is_set(word_at(self.words.as_slice(), k / 64), k)
     }
 
-    /// A copy of the set. Err: memory ran out.
+    /// A copy of the set. Fails if memory ran out.
     pub fn copy(&self, alloc: Global) -> Result<BitRow, AllocError>
         ensures { IfOk result (λ made. made ≡ self.now) }
     {
@@ -79,7 +79,7 @@ impl BitRow {
         })
     }
 
-    /// A copy of the set, with memory for this many more words after its end. Err: memory ran out.
+    /// A copy of the set, with memory for this many words after its end. Fails if memory ran out.
     pub(crate) fn copy_with_room(&self, alloc: Global, room: usize) -> Result<BitRow, AllocError>
         requires { room ≤ most_words }
         ensures { IfOk result (λ made. made ≡ self.now) }
@@ -114,7 +114,8 @@ impl BitRow {
         }
     }
 
-    /// In each row of this many words, moves the bit of one column to another column. If memory runs out, some rows may have been changed.
+    /// In each row of `width` words, moves the bit of column `from` to column `to`. If memory runs out, some rows may have
+    /// changed.
     pub(crate) fn move_column(
         &mut self,
         width: usize,
@@ -137,7 +138,8 @@ impl BitRow {
         Ok(())
     }
 
-    /// If the number of this bit of this word is in the set, replaces it by another number. If memory runs out, it may be missing.
+    /// If the number of bit `bit` in word `at` is in the set, replaces it with the number `to`. If memory runs out, the number
+    /// may be missing.
     fn move_bit(&mut self, at: usize, bit: usize, to: usize) -> Result<(), AllocError>
         requires at { at < length self.old }
         requires bit { bit < 64 }
@@ -163,7 +165,8 @@ impl BitRow {
         }
     }
 
-    /// Adds the numbers of the word at this index whose bits are set in `word`. If memory runs out, the set stays as it was.
+    /// Adds the numbers that the set bits of `word` stand for, as the word at the index `at`. If memory runs out, the set stays
+    /// as it was.
     pub(crate) fn put_word(&mut self, at: usize, word: u64) -> Result<(), AllocError>
         requires { at < most_words }
         ensures put { IfOk result (λ _. (i : ℕ) → holds self.new i ≡ (holds self.old i || (at == i / 64 && bit_at word (i % 64) == 1))) }
@@ -175,7 +178,8 @@ impl BitRow {
         Ok(())
     }
 
-    /// Adds all numbers of another set, and answers whether any of them was missing. If memory runs out, the set stays as it was.
+    /// Adds all numbers of another set, and returns whether any of them was missing. If memory runs out, the set stays as it
+    /// was.
     pub fn join(&mut self, other: &BitRow) -> Result<bool, AllocError>
         ensures both { IfOk result (λ _. (k : ℕ) → holds self.new k ≡ (holds self.old k || holds other.now k)) }
         ensures unchanged { IfOk result (λ rose. IsFalse rose → self.new ≡ self.old) }
@@ -208,7 +212,7 @@ fn word_at(words: &[u64], at: usize) -> u64
     }
 }
 
-/// Makes a row at least this many words long. If memory runs out, it stays as it was.
+/// Makes a row at least `least` words long. If memory runs out, the row stays as it was.
 fn grow(words: &mut Words, least: usize) -> Result<(), AllocError>
     ensures same { (k : ℕ) → slice_index words.new.items k ≡ slice_index words.old.items k }
     ensures long { IfOk result (λ _. least ≤ length words.new.items) }
@@ -221,7 +225,8 @@ fn grow(words: &mut Words, least: usize) -> Result<(), AllocError>
     Ok(())
 }
 
-/// Reserves memory for exactly this many words, if the row is shorter. The row stays as it was, also if memory runs out.
+/// Reserves memory for exactly `least` words, if the row is shorter. The words of the row do not change, even if memory runs
+/// out.
 fn make_room(words: &mut Words, least: usize) -> Result<(), AllocError>
     ensures { words.new.items ≡ words.old.items }
 {
@@ -231,7 +236,7 @@ fn make_room(words: &mut Words, least: usize) -> Result<(), AllocError>
     Ok(())
 }
 
-/// Whether every number of one row is in the other.
+/// Whether every number of the row `some` is also in the row `all`.
 fn lies_within(some: &[u64], all: &[u64]) -> bool
     ensures within { IsTrue result → (k : ℕ) → IsTrue (holds some.now k) → IsTrue (holds all.now k) }
     ensures not_within { IsFalse result → (k : ℕ) × IsTrue (holds some.now k) × IsFalse (holds all.now k) }
@@ -246,7 +251,7 @@ fn lies_within(some: &[u64], all: &[u64]) -> bool
     true
 }
 
-/// Puts the numbers of one row into another. If memory runs out, the other one stays as it was.
+/// Puts the numbers of `from` into `into`. If memory runs out, `into` stays as it was.
 fn put_words(into: &mut Words, from: &[u64]) -> Result<(), AllocError>
     ensures both { IfOk result (λ _. (k : ℕ) → holds into.new.items k ≡ (holds into.old.items k || holds from.now k)) }
     ensures few { (most : ℕ) → length into.old.items ≤ most → length from.now ≤ most → length into.new.items ≤ most }
@@ -262,7 +267,7 @@ fn put_words(into: &mut Words, from: &[u64]) -> Result<(), AllocError>
     Ok(())
 }
 
-/// Puts the numbers of one row into another that is at least as long.
+/// Puts the numbers of `from` into `into`, which is at least as long.
 fn put_all(into: &mut Words, from: &[u64])
     requires { length from.now ≤ length into.old.items }
     ensures long { length into.new.items ≡ length into.old.items }

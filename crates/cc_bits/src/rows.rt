@@ -1,4 +1,4 @@
-// Rows of bits of equal width, one after the other: a set of pairs.
+// Rows of bits, all of one width, one after the other: a set of pairs.
 
 ghost use Rattle.std.specs.Prelude.{◌≡◌, ℕ, ◌+◌, ◌*◌, ◌/◌, ◌<◌, ◌≤◌, ◌==◌, ◌||◌, ◌&&◌, not, false, if◌then◌else◌, IsTrue, IsFalse, IfOk, IfErr};
 ghost use Rattle.cc_bits.specs.Rows.{has, most_width, most_rows, column_moved, row_moved};
@@ -7,7 +7,7 @@ use crate::row::BitRow;
 use std::alloc::{AllocError, Global};
 use std::marker::Model;
 
-// A copy has room for this many more rows.
+// A copy has room for this many further rows.
 const ROOM: usize = 4;
 
 /// A set of pairs of a row and a column. Contracts see the number of words in a row, and all words.
@@ -32,7 +32,7 @@ impl Model for BitRows {
 }
 
 impl BitRows {
-    /// No bits. They take no memory.
+    /// The empty set. It takes no memory.
     pub fn new(alloc: Global) -> BitRows
         ensures { (r c : ℕ) → has result r c ≡ false }
     {
@@ -44,7 +44,7 @@ impl BitRows {
         }
     }
 
-    /// From this row on no bit is set.
+    /// The number of rows for which there may be words: from this row on, no bit is set.
     pub fn rows(&self) -> usize
         ensures few { result ≤ most_rows }
         ensures past { (r c : ℕ) → result ≤ r → has self.now r c ≡ false }
@@ -60,7 +60,7 @@ impl BitRows {
         64 * self.width
     }
 
-    /// Whether a bit is set.
+    /// Whether the bit in row `r` and column `c` is set.
     pub fn contains(&self, r: usize, c: usize) -> bool
         requires { r < most_rows }
         ensures { result ≡ has self.now r c }
@@ -68,7 +68,7 @@ impl BitRows {
         c < 64 * self.width && self.bits.contains(64 * (self.width * r) + c)
     }
 
-    /// Sets a bit. If memory runs out, the bits stay as they were.
+    /// Sets the bit in row `r` and column `c`. If memory runs out, the bits stay as they were.
     pub fn insert(&mut self, r: usize, c: usize) -> Result<(), AllocError>
         requires row { r < most_rows }
         requires column { c < 64 * most_width }
@@ -82,7 +82,7 @@ impl BitRows {
         self.put(r, c)
     }
 
-    /// Sets a bit in a column for which the rows have room. If memory runs out, the bits stay as they were.
+    /// Sets the bit in row `r` and column `c`, for which the rows have room. If memory runs out, the bits stay as they were.
     fn put(&mut self, r: usize, c: usize) -> Result<(), AllocError>
         requires row { r < most_rows }
         requires column { c < 64 * self.old.width }
@@ -95,7 +95,7 @@ impl BitRows {
         Ok(())
     }
 
-    /// Clears a bit.
+    /// Clears the bit in row `r` and column `c`.
     pub fn remove(&mut self, r: usize, c: usize)
         requires { r < most_rows }
         ensures { (i j : ℕ) → has self.new i j ≡ (has self.old i j && not (r == i && c == j)) }
@@ -105,7 +105,8 @@ impl BitRows {
         }
     }
 
-    /// A copy, with rows of at least this many words, and with memory for some more rows. Err: memory ran out.
+    /// A copy with rows of at least `width` words, and with memory for some further rows if they need not be widened. Fails if
+    /// memory ran out.
     pub fn copy(&self, width: usize) -> Result<BitRows, AllocError>
         requires { width ≤ most_width }
         ensures { IfOk result (λ made. (r c : ℕ) → has made r c ≡ has self.now r c) }
@@ -140,7 +141,7 @@ impl BitRows {
         Ok(made)
     }
 
-    /// Sets the bits of one row in a table whose rows are at least as wide.
+    /// Sets the bits of one row in another table, whose rows are at least as wide.
     fn put_row(&self, r: usize, into: &mut BitRows) -> Result<(), AllocError>
         requires row { r < most_rows }
         requires wider { self.now.width ≤ into.old.width }
@@ -155,7 +156,7 @@ impl BitRows {
         Ok(())
     }
 
-    /// Moves the bit of one column to another in each row. If memory runs out, some may have moved.
+    /// In each row, moves the bit of column `from` to column `to`. If memory runs out, some bits may have moved.
     pub fn move_column(&mut self, from: usize, to: usize) -> Result<(), AllocError>
         requires { to < 64 * most_width }
         ensures { IfOk result (λ _. (r c : ℕ) → has self.new r c ≡ column_moved from to (has self.old) r c) }
@@ -167,7 +168,7 @@ impl BitRows {
         self.move_within(from, to)
     }
 
-    /// Does the same to a column for which the rows have room.
+    /// In each row, moves the bit of column `from` to column `to`, for which the rows have room.
     fn move_within(&mut self, from: usize, to: usize) -> Result<(), AllocError>
         requires { to < 64 * self.old.width }
         ensures { IfOk result (λ _. (r c : ℕ) → has self.new r c ≡ column_moved from to (has self.old) r c) }
@@ -179,7 +180,7 @@ impl BitRows {
         Ok(())
     }
 
-    /// Moves the bits of one row to another. If memory runs out, some may have moved.
+    /// Moves the bits of row `from` to row `to`. If memory runs out, some bits may have moved.
     pub fn move_row(&mut self, from: usize, to: usize) -> Result<(), AllocError>
         requires from { from < most_rows }
         requires to { to < most_rows }
@@ -191,7 +192,7 @@ impl BitRows {
         Ok(())
     }
 
-    /// Does the same for one word of the row alone.
+    /// Does the same, but only for word `k` of the row.
     fn move_word(&mut self, from: usize, to: usize, k: usize) -> Result<(), AllocError>
         requires from { from < most_rows }
         requires to { to < most_rows }
@@ -209,7 +210,7 @@ impl BitRows {
         Ok(())
     }
 
-    /// Whether a row has no bit.
+    /// Whether no bit is set in a row.
     pub fn is_row_empty(&self, r: usize) -> bool
         requires { r < most_rows }
         ensures empty { IsTrue result → (c : ℕ) → has self.now r c ≡ false }
@@ -223,7 +224,7 @@ impl BitRows {
         true
     }
 
-    /// Whether a column has no bit.
+    /// Whether no bit is set in a column.
     pub fn is_column_empty(&self, c: usize) -> bool
         ensures empty { IsTrue result → (r : ℕ) → has self.now r c ≡ false }
         ensures held { IsFalse result → (r : ℕ) × IsTrue (has self.now r c) }
@@ -236,8 +237,8 @@ impl BitRows {
         true
     }
 
-    /// Sets the bits that are set in another table, and answers whether any of them was missing. If memory runs out, the bits stay as they
-    /// were.
+    /// Sets all bits that are set in another table, and returns whether any of them was missing. If memory runs out, the bits
+    /// stay as they were.
     pub fn join(&mut self, other: &BitRows) -> Result<bool, AllocError>
         ensures both { IfOk result (λ _. (r c : ℕ) → has self.new r c ≡ (has self.old r c || has other.now r c)) }
         ensures unchanged { IfOk result (λ rose. IsFalse rose → (r c : ℕ) → has self.new r c ≡ has self.old r c) }
@@ -251,7 +252,7 @@ impl BitRows {
         self.join_wider(other)
     }
 
-    /// Changes the width, if there are no rows.
+    /// Changes the width, if there are no words yet.
     fn take_width(&mut self, width: usize)
         requires { width ≤ most_width }
         ensures { (r c : ℕ) → has self.new r c ≡ has self.old r c }

@@ -1,2 +1,2 @@
--- Line after line.
+-- One line after another.
 pub mod Turns

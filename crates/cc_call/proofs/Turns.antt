@@ -1,4 +1,4 @@
--- Line after line: one line more that was answered, and what became of all.
+-- One line after another: one more line that was answered, and what became of all.
 use Rattle.std.proofs.Common.{◌≡◌, ◌≢◌, inl, inr, ◌∙◌, ℕ, ◌+◌, ◌-◌, ◌^◌, Bool, true, false, ◌||◌, IsTrue, List, [], ◌∷◌, ◌++◌, length, Option, Some, None, refl, sym, ap, subst, arith}
 use Rattle.std.specs.Prelude.{IfSome}
 use Rattle.std.specs.List.{list_any}
@@ -26,13 +26,13 @@ answered_on image counted steps bytes a b c line.OutOfMemory it kept = Appends-k
 
 -- ---- lines so far
 
--- how they ended
+-- how the lines ended
 abbrev pub AreSoFar : List LineTurn → LinesEnd → Type 0
 AreSoFar turns Answered = (list_any is_bad turns ≡ false) × (list_any is_lack turns ≡ false)
 AreSoFar turns Refused = IsTrue (list_any is_bad turns) × (list_any is_lack turns ≡ false)
 AreSoFar turns Unwritten = ⊥
 
--- so many of an input were answered, and this is left of it
+-- `number` lines of an input were answered, and `left` remains of it
 pub record HasCalled (image : Image) (counted : Bool) (steps : ℕ) (input : List ℕ) (old : Option (List ℕ)) (number : ℕ) (end : LinesEnd) (remaining new : Option (List ℕ)) : Type 0 where
   pub turns : List LineTurn
   pub left : List ℕ
@@ -61,7 +61,7 @@ or_none : (a : Bool) → (a || false) ≡ a
 or_none true = refl
 or_none false = refl
 
--- of one more at the end
+-- whether p holds for some turn, with one more turn at the end
 any_push : (p : LineTurn → Bool) (turns : List LineTurn) (turn : LineTurn) → list_any p (turns ++ turn ∷ []) ≡ (list_any p turns || p turn)
 any_push p turns turn = list_any-append p turns (turn ∷ []) ∙ ap (λ (b : Bool). list_any p turns || b) (or_none (p turn))
 
@@ -73,7 +73,7 @@ length_push [] turn = refl
 length_push (t ∷ turns) turn = let e = length_push turns turn in omega (arith, e)
 
 module _ (image : Image) (counted : Bool) (steps : ℕ) where
-  -- one line more
+  -- one more line
   answers_push : (input : List ℕ) (old : Option (List ℕ)) (turns : List LineTurn) (left : List ℕ) (mid : Option (List ℕ)) (turn : LineTurn) → AnswersLines image counted steps input old turns left mid
       → list_any is_lack turns ≡ false → left ≢ [] → turn.rest ≡ drop_through 10 left → AnswersLine image counted steps (first_piece 10 left) mid turn.written turn.end
       → AnswersLines image counted steps input old (turns ++ turn ∷ []) turn.rest turn.written
@@ -89,7 +89,7 @@ module _ (image : Image) (counted : Bool) (steps : ℕ) where
         answers_push t.rest t.written turns left mid turn before.4 both.1 some rest one,
       )
 
-  -- no line was answered at the beginning
+  -- at the beginning, no line was answered yet
   pub called_none : (input : List ℕ) (old remaining : Option (List ℕ)) → remaining ≡ Some input → HasCalled image counted steps input old 0 Answered remaining old
   called_none input old remaining is = record { turns = []; left = input; remains = is; answers = (refl, refl); so_far = (refl, refl); number_is = refl }
 
@@ -107,7 +107,7 @@ module _ (image : Image) (counted : Bool) (steps : ℕ) where
   so_far_bad turns turn end is before = (any_push is_bad turns turn ∙ right_of (list_any is_bad turns) (is_bad turn) (ap is_bad_end is), none_push is_lack turns turn (no_lack turns end before) (ap is_lack_end is))
 
   module _ (input : List ℕ) (old : Option (List ℕ)) (number : ℕ) (end : LinesEnd) (before mid : Option (List ℕ)) (called : HasCalled image counted steps input old number end before mid) where
-    -- what is read of what is left
+    -- the line that is read from what is left
     read_of : (after : Option (List ℕ)) (bytes : List ℕ) → IsNextLine before after bytes true → (called.left ≢ []) × (bytes ≡ take_through 10 called.left) × (after ≡ Some (drop_through 10 called.left))
     read_of after bytes next = subst (λ (b : Option (List ℕ)). IsNextLine b after bytes true) called.remains next
 
@@ -140,14 +140,14 @@ module _ (image : Image) (counted : Bool) (steps : ℕ) where
       number_is = length_push called.turns _ ∙ ap (λ n. n + 1) called.number_is;
     }
 
-    -- memory was refused for it
+    -- memory was refused for the next line
     ends_in_lack : (after new : Option (List ℕ)) (bytes : List ℕ) → IsNextLine before after bytes true → AnswersLine image counted steps (strip_last 10 bytes) mid new line.OutOfMemory
         → CallsLines image counted steps input old new Refused
     ends_in_lack after new bytes next one =
         let turn : LineTurn = record { rest = drop_through 10 called.left; written = new; end = line.OutOfMemory } in
         (called.turns ++ turn ∷ [], drop_through 10 called.left, new, pushed after new bytes line.OutOfMemory next one, inr (inl (refl, any_push is_lack called.turns turn ∙ right_of (list_any is_lack called.turns) true refl)))
 
-    -- by how the lines end with it
+    -- the lines together with the next one, depending on how they end with it
     pub called_more : (after new : Option (List ℕ)) (bytes : List ℕ) (ended : LineEnd) (next : LinesEnd) → IsNextLine before after bytes true → AnswersLine image counted steps (strip_last 10 bytes) mid new ended
         → Some next ≡ end_after end ended → HasCalled image counted steps input old (number + 1) next after new
     called_more after new bytes line.Answered next read one is = subst (λ (e : LinesEnd). HasCalled image counted steps input old (number + 1) e after new) (sym (same_Some next end is)) (called_answered after new bytes read one)
@@ -179,7 +179,7 @@ module _ (image : Image) (counted : Bool) (steps : ℕ) where
     pub ends_uncounted : number ≡ 2 ^ 64 - 1 → CallsLines image counted steps input old mid Refused
     ends_uncounted all = (called.turns, called.left, mid, called.answers, inr (inr (inr (refl, called.number_is ∙ all))))
 
--- of known bytes
+-- for known bytes
 pub if_known : (known : Option (List ℕ)) (P Q : List ℕ → Type 0) → ((bytes : List ℕ) → known ≡ Some bytes → P bytes → Q bytes) → IfSome known P → IfSome known Q
 if_known None P Q step p = tt
 if_known (Some bytes) P Q step p = step bytes refl p

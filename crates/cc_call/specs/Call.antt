@@ -28,11 +28,12 @@ IsCallOn seen name counted steps words run = (unit : StoredUnit) × IsUnitOn see
 abbrev pub answer_text : CountedRun → List ℕ
 answer_text run = counted_text run ++ codes "\n"
 
--- the line of a fault, and an empty line
+-- the line for a fault, and an empty line
 abbrev pub refusal_text : (number : ℕ) → List ℕ
 refusal_text number = fault_line number [] ++ codes "\n"
 
--- the run of the image on the words of a line was written; or 50, exactly if the line is not a list of words; or memory was refused
+-- the run of the image on the words of a line was written; or the line for 50, exactly if the line is not a list of words; or the
+-- line for 40, since memory was refused
 abbrev pub AnswersLine : Image → (counted : Bool) (steps : ℕ) (line : List ℕ) (old new : Option (List ℕ)) → LineEnd → Type 0
 AnswersLine image counted steps line old new Answered =
     (words : List ℕ) × (input_in line ≡ Some words) × ((run : CountedRun) × IsCounted image counted steps words run × Appends old new (answer_text run))

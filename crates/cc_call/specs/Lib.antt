@@ -1,8 +1,8 @@
 -- The answer to a call of a unit.
 pub mod Call
--- What is answered to line after line.
+-- The answers to one line after another.
 pub mod Lines
--- What the image of a unit takes.
+-- How much memory the image of a unit takes.
 pub mod Measured
--- What only private contracts speak of.
+-- What only private contracts use.
 pub mod internal

@@ -1,6 +1,6 @@
 -- How much memory the image of a library's unit takes.
 use Rattle.std.specs.Prelude.{◌≡◌, ℕ, Bool, List, Some, None}
-use Rattle.cc_c_laws.specs.declared.mode.Mode.{Mode}
+use Rattle.cc_c_semantics.specs.declared.mode.Mode.{Mode}
 use Rattle.cc_link.specs.declared.audit_answer.Audit.TheVariants as audit
 use Rattle.cc_unit.specs.declared.unit.StoredUnit.{StoredUnit}
 use Rattle.cc_findings.specs.Measured.{Measures}

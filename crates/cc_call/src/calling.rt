@@ -34,8 +34,8 @@ pub fn unit_in(units: &UnitMap, name: &[u8]) -> Result<Arc<StoredUnit>, PartFaul
     }
 }
 
-/// The unit that the library on a disk keeps with this name. The disk is handed back, and nothing is written to it. If no unit has the
-/// name, a similar name is written to `explanations`.
+/// The unit that the library on a disk keeps under this name. The disk is handed back, and nothing is written to it. If no unit has
+/// the name, a similar name is written to `explanations`.
 ///
 /// Refusals: first those of `Library::open`, 35, 38, 37 and 40; then those of `unit_in`.
 pub fn unit_on<D: Disk + Drop, E: Write>(
@@ -44,7 +44,7 @@ pub fn unit_on<D: Disk + Drop, E: Write>(
     name: &[u8],
     explanations: &mut E,
 ) -> (Result<Arc<StoredUnit>, PartFault>, D)
-    // On an honest disk it is the unit of the map to which the disk recovers.
+    // On an honest disk this is the unit of the map to which the disk recovers.
     ensures found { IfOk result.0 (λ unit. IsTrue D.honest → IsUnitOn (D.seen disk) name.now (arc_value unit)) }
     ensures refused { IfErr result.0 (λ fault. IsNoPartOn D.honest (D.seen disk) (D.failures disk) (D.failures result.1) name.now fault) }
     ensures reads { IsTrue D.honest → OnlyReads D.seen D.may_leave D.moment D.left_since disk result.1 }

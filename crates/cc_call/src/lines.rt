@@ -35,7 +35,7 @@ pub enum LinesEnd {
     Unwritten,
 }
 
-// Writes the line of a fault, and an empty line.
+// Writes the line for a fault, and an empty line.
 #[tactic(auto, using(cc_answers::proofs::Writing::written_on))]
 fn write_refusal<W: Write>(number: u32, writer: &mut W) -> io::Result<()>
     ensures { OnOk result (Appends (W.contents writer.old) (W.contents writer.new) (refusal_text number)) }
@@ -53,8 +53,8 @@ fn write_answer<W: Write>(run: &CountedRun, writer: &mut W) -> io::Result<()>
     writer.write_all(b"\n")
 }
 
-/// Runs an image on the words of a line, which is given without its newline. Writes what `run` would write, and an empty line. If it is not
-/// a list of words, writes the line of fault 50 and an empty one; if memory was refused, that of fault 40.
+/// Runs an image on the words of a line, which is given without its newline. Writes what `run` would write, and an empty line. If the line
+/// is not a list of words, it writes the line for fault 50 and an empty one; if memory was refused, the line for fault 40 and an empty one.
 pub fn answer_line<W: Write>(
     alloc: Global,
     image: &Image,
@@ -136,7 +136,7 @@ fn tell_unread<W: Write>(error: io::Error, writer: &mut W) -> LinesEnd
     }
 }
 
-// Reads the next line with its newline, in place of what is in the buffer: whether there is one.
+// Reads the next line with its newline, in place of what is in the buffer. The result is whether there is one.
 fn next_line<R: BufRead>(reader: &mut R, line: &mut Vec<u8>) -> io::Result<bool>
     ensures { IfOk result (IsNextLine (R.remaining reader.old) (R.remaining reader.new) line.new.items) }
 {
@@ -145,7 +145,7 @@ fn next_line<R: BufRead>(reader: &mut R, line: &mut Vec<u8>) -> io::Result<bool>
     Ok(0 < count)
 }
 
-// How the lines so far end with one more; none if no other follows it.
+// How the lines end when one more is added; none if no other may follow it.
 fn end_after(end: LinesEnd, line: LineEnd) -> Option<LinesEnd>
     ensures { result ≡ end_after end line }
 {
@@ -157,7 +157,7 @@ fn end_after(end: LinesEnd, line: LineEnd) -> Option<LinesEnd>
 }
 
 /// Runs an image on the words of each line of a reader, as `answer_line` does, and flushes each answer before it reads the next line. A
-/// line that is not a list of words does not end it; lack of memory does.
+/// line that is not a list of words does not end this; lack of memory does.
 pub fn call_lines<R: BufRead, W: Write>(
     alloc: Global,
     image: &Image,
@@ -166,7 +166,7 @@ pub fn call_lines<R: BufRead, W: Write>(
     reader: &mut R,
     writer: &mut W,
 ) -> LinesEnd
-    // Of a reader whose bytes are known.
+    // For a reader whose bytes are known.
     ensures lines { IfSome (R.remaining reader.old) (λ input.
         CallsLines image.now is_counted steps input (W.contents writer.old) (W.contents writer.new) result) }
 {

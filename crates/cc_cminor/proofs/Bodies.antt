@@ -7,18 +7,18 @@ use Rattle.cc_resolve.specs.Layout.{Layout, LaidObject, layout_of, callee}
 use Rattle.cc_resolve.specs.Environment.{Environment, parameter_names}
 use Rattle.cc_resolve.specs.declared.layout.Callee.{Callee}
 use Rattle.cc_resolve.specs.declared.layout.Callee.TheVariants.{WriteWord, ReadWord, Defined}
-use Rattle.cc_c_laws.specs.Meaning as meaning
-use Rattle.cc_c_laws.specs.Meaning.{Global, State, Run, Gives, Flow, Falls, Breaks, Continues, Returns, then_do, execute_all, Function, functions, calls, bound, result_of, run_optional, initial_globals, text_of}
-use Rattle.cc_c_laws.specs.Function.{Shared, effect_of, state_within, call_function}
-use Rattle.cc_c_laws.specs.Resolved as resolved
-use Rattle.cc_c_laws.specs.Resolved.{arities, IsResolved}
-use Rattle.cc_c_laws.specs.Calls.{NamedSize, size, sizes, laid_size, laid_sizes, shared_of, called, CallsAreEffects, CallsKeepObjects, FunctionsAreNumbered, ObjectsAreNumbered, ObjectsAreSized}
-use Rattle.cc_c_laws.specs.Checked.{stays}
-use Rattle.cc_c_laws.specs.declared.cause.Cause.{Cause}
-use Rattle.cc_c_laws.specs.declared.mode.Mode.{Mode}
-use Rattle.cc_c_laws.specs.declared.mode.Mode.TheVariants.{Plain, Checked}
-use Rattle.cc_c_laws.specs.Numbered as by_number
-use Rattle.cc_c_laws.specs.Numbered.{objects_of, world_of, named, shared_in, gone_wrong, numbered, call_in, body_in, arity_in, IsMeaning, CallsAreNumbered}
+use Rattle.cc_c_semantics.specs.Meaning as meaning
+use Rattle.cc_c_semantics.specs.Meaning.{Global, State, Run, Gives, Flow, Falls, Breaks, Continues, Returns, then_do, execute_all, Function, functions, calls, bound, result_of, run_optional, initial_globals, text_of}
+use Rattle.cc_c_semantics.specs.Function.{Shared, effect_of, state_within, call_function}
+use Rattle.cc_c_semantics.specs.Resolved as resolved
+use Rattle.cc_c_semantics.specs.Resolved.{arities, IsResolved}
+use Rattle.cc_c_semantics.specs.Calls.{NamedSize, size, sizes, laid_size, laid_sizes, shared_of, called, CallsAreEffects, CallsKeepObjects, FunctionsAreNumbered, ObjectsAreNumbered, ObjectsAreSized}
+use Rattle.cc_c_semantics.specs.Checked.{stays}
+use Rattle.cc_c_semantics.specs.declared.cause.Cause.{Cause}
+use Rattle.cc_c_semantics.specs.declared.mode.Mode.{Mode}
+use Rattle.cc_c_semantics.specs.declared.mode.Mode.TheVariants.{Plain, Checked}
+use Rattle.cc_c_semantics.specs.Numbered as by_number
+use Rattle.cc_c_semantics.specs.Numbered.{objects_of, world_of, named, shared_in, gone_wrong, numbered, call_in, body_in, arity_in, IsMeaning, CallsAreNumbered}
 use Rattle.cc_types.specs.Typed.{IsTyped}
 use Rattle.cc_simulation.specs.Behavior.{Ended}
 use Rattle.cc_simulation.specs.World as world
@@ -132,7 +132,7 @@ gave_back effect g c d n w t p q =
 going_kept : (effect : Calling) (c : Config) (n : ℕ) (o : List ℕ) → Cut effect c n o → Kept effect n (world.Unfinished o) c
 going_kept effect c n o h = (h.k, h.j, record { moves = h.k; steps = h.j; few = omega arith; few_steps = omega arith; keeps = (h.same, (let e = h.enough in omega arith)) })
 
--- if the source goes wrong
+-- if the source goes wrong, the run does what it owes
 wrong_kept : (effect : Calling) (cause : Cause) (c : Config) (n : ℕ) (o : List ℕ) → Stuck effect (stays effect.mode cause) c n o → Owed effect n (gone_wrong effect.mode cause o) c
 wrong_kept effect cause c n o h = by effect.mode (stays effect.mode cause) refl h
   where
@@ -206,7 +206,7 @@ module _ (effects : CallsAreEffects) (keep : CallsKeepObjects) (functions_are : 
         };
   }
 
-  -- in a mode, the body of a resolved function
+  -- in every mode, the code of a resolved function's body does what is required
   lowered_kept : (mode : Mode) (unit : List External) → IsTyped unit → (f : ℕ) (r : IsResolved unit f) (m : Meaning) → IsMeaning mode unit m → (opened : ℕ) (ws : List ℕ) (h : World) → IsCall m f ws h → (n : ℕ)
       → Owed (calling mode m (suc opened)) n (m.body n opened f ws h) (config (body_code (layout_of unit) r.environment r.body) Ends (first_variables ws) h)
   lowered_kept mode unit typed f r m is opened ws h call n =
@@ -246,7 +246,7 @@ module _ (effects : CallsAreEffects) (keep : CallsKeepObjects) (functions_are : 
       unnamed_sizes [] = refl
       unnamed_sizes (g ∷ gs) = ap (λ zs. unnamed (size g) ∷ zs) (unnamed_sizes gs)
 
-  -- a plain program's code keeps up
+  -- a plain program's code keeps up with its source
   pub lowered_keeps_up : (unit : List External) → IsTyped unit → (f : ℕ) (r : IsResolved unit f) → KeepsUp Plain unit f (body_code (layout_of unit) r.environment r.body)
   lowered_keeps_up unit typed f r = λ m is opened below ws h call n.
       elim (lowered_kept Plain unit typed f r m is opened ws h call n).0 [ inl x ↦ x | inr x ↦ absurd x ]

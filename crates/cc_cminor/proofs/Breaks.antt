@@ -6,7 +6,7 @@ use Rattle.cc_simulation.specs.Run.{Move, Goes, Calls, Returns, Fails, run, act,
 use Rattle.cc_cminor.specs.Breaks.{broken, broken_act, broken_resumed}
 
 module _ {C : Type 0} (move : C → Move C) (output : C → List ℕ) (effect : ℕ → Question → Effect) where
-  -- within this many moves
+  -- a run that breaks within k moves goes wrong there, with this output
   abbrev AreWrong : (k : ℕ) → List ℕ → Type 0
   AreWrong k o = (j : ℕ) (c : C) → broken move output effect k j c ≡ Some o → run move output effect k j c ≡ record { stop = Wrong; output = o }
 

@@ -11,7 +11,7 @@ use Rattle.std.proofs.Math.Seq.{take-append_seam, drop-append_seam}
 use Rattle.cc_resolve.specs.Environment.{Environment, inner, with_local, with_locals, behind, behind_beginning}
 use Rattle.cc_cminor.specs.internal.Lowering.{behind_all}
 
--- some of the newest locals are removed, but none of this many first ones
+-- some of the newest locals are removed, but none of the first `locals` ones
 pub record Closing (locals : ℕ) (v w : Environment) : Type 0 where
   pub taken : ℕ
   pub few : taken ≤ length v.locals - locals
@@ -24,7 +24,7 @@ drop-one zero l = refl
 drop-one (suc n) [] = refl
 drop-one (suc n) (x ∷ l) = drop-one n l
 
--- one more
+-- one more local is removed
 pub closing-next : (locals number : ℕ) (v w u : Environment) → Closing locals v w → number ≡ length w.locals → locals < number
     → u ≡ record w { visible = record w.visible { inner = drop 1 w.visible.inner }; locals = drop 1 w.locals } → Closing locals v u
 closing-next locals number v w u h n lt e =
@@ -116,7 +116,7 @@ around-fits v w around h a =
     let e : length w.visible.outer ≡ length v.visible.inner + length v.visible.outer = ap (λ (l : List Binding). length l) h.outer ∙ length-append v.visible.inner v.visible.outer in
     omega arith
 
--- what a scope continues in
+-- a scope around a statement continues in the environment after the statement
 pub in-statement : (s : Stmt) (v u w : Environment) → u ≡ inner v → w ≡ behind s u → Within (inner v) w
 in-statement s v u w e f = subst (λ x. Within (inner v) x) (sym (f ∙ ap (behind s) e)) (within-behind s (inner v) (inner v) (within-same (inner v)))
 

@@ -225,7 +225,7 @@ module _ (g : Layout) where
   combined_size None t u old e = omega arith
   combined_size (Some op) t u old e = let a = binary_size op (working_type op t u) old e in omega arith
 
-  -- what is written to a target, if `code` takes a value within r + m
+  -- the size of what sets a target, if `code` takes a value within r + m
   assigned_size : (target : Target) (op : Option BinaryOperator) (u : Scalar) (v : Environment) (code : ℕ → (Expression → Statement) → Statement) (r : ℕ) → ((k m : ℕ) (f : Expression → Statement) → ((x : Expression) → statement_size (f x) ≤ expression_size x + m) → statement_size (code k f) ≤ r + m)
       → statement_size (assigned g v target (λ t old new. combined op t u old new) code) ≤ 12 * target_tokens target + r
   assigned_size (AtVariable x) op u v code r h =

@@ -11,7 +11,7 @@ use Rattle.cc_resolve.specs.Environment.{Environment, number_in, inner, with_loc
 use Rattle.cc_resolve.specs.declared.layout.Callee.{Callee}
 use Rattle.cc_resolve.specs.declared.layout.Callee.TheVariants.{WriteWord, ReadWord, Defined}
 use Rattle.cc_cminor.specs.internal.Lowering.{count}
-use Rattle.cc_c_laws.specs.Resolved as resolved
+use Rattle.cc_c_semantics.specs.Resolved as resolved
 
 abbrev pub IsObject : Layout → List ℕ → Type 0
 IsObject g x = (number : ℕ) × (object_number g.objects x ≡ Some number)

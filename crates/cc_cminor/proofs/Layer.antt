@@ -1,8 +1,8 @@
--- Cminor is a layer: outputs grow, and a call passes on the output so far and continues from the answer's. So a run that keeps up
--- with the source follows it.
+-- Cminor is a layer: outputs grow, and a call passes on the output so far and continues from the answer's output. So a run that
+-- keeps up with the source follows it.
 use Rattle.std.proofs.Common.{◌≡◌, ℕ, zero, suc, List, [], ◌∷◌, ◌++◌, Option, Some, None, option_map, refl, sym, ap, subst}
 use Rattle.cc_ast.specs.Tree.{External}
-use Rattle.cc_c_laws.specs.declared.mode.Mode.{Mode}
+use Rattle.cc_c_semantics.specs.declared.mode.Mode.{Mode}
 use Rattle.cc_simulation.specs.Behavior.{IsPrefixOf}
 use Rattle.cc_simulation.specs.World.{World, Question, Answer, element, stored}
 use Rattle.cc_simulation.specs.Run.{Move, Goes, Calls, Returns, Fails, tried}
@@ -103,6 +103,6 @@ cminor_is_layer = record {
   resumes = λ c q resume e a. (subst (Asks c.world) e (moves_ask c.statement c.next c.variables c.world)).1 a;
 }
 
--- a run that keeps up follows
+-- a run that keeps up with the source follows it
 pub follows_of : (mode : Mode) (unit : List External) (f : ℕ) (s : Statement) → KeepsUp mode unit f s → FollowsFunction mode unit f s
 follows_of mode unit f s keeps meaning is opened below ws h call = tracks_follow meaning cminor_move cminor_output cminor_is_layer f 1 _ (keeps meaning is) opened below ws h call

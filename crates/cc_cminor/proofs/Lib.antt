@@ -2,15 +2,16 @@
 -- above them. The state of C and the variables of Cminor fit together if each local's word is in its variable and the objects are
 -- the same by number (Fits of Variables). Each part of C becomes a path of Cminor's moves that ends with the part's value (Paths,
 -- PutExpressions, LoweredStatements). A path makes at least one move for each of the source's steps, so the rate is 1, and a loop
--- that does nothing is still a loop that moves. A call must pass the same question, with its arguments in order in an equal
--- world, and for every answer be related again with the result in its variable (CallFacts of Bodies, by the laws of the meaning).
+-- that does nothing is still a loop that moves. A call must ask the same question, with its arguments in order and in an equal
+-- world, and after every answer the two must fit together again, with the result in its variable (CallFacts of Bodies, by the
+-- laws of the meaning).
 --
 -- The code writes exactly what the definition of the lowering says, in one walk (specs/internal/Lowering; Taking, Trees,
 -- Closing). Pairs applies the laws of the meaning to its unit.
 --
--- Twelve statements and expressions for each token: an expression's code has at most 12 for each token minus 3, a statement's 12
--- for each token minus 1, so what joins them is covered (Counts); a tree needs at most as many tokens as those that spell it
--- (Tokens).
+-- Twelve statements and expressions for each token: an expression's code has at most 12 for each token, less 3, and a statement's
+-- code 12 for each token, less 1, so what joins them is covered (Counts); a tree needs at most as many tokens as those that spell
+-- it (Tokens).
 --
 -- Numbers below their limits: a unit's text has at most 512 tokens in a full expression (Longest); by the limits a function has
 -- at most 8 parameters and 256 locals, and a unit 64 functions and 65,536 words of objects (Limits). A value that waits is above
@@ -51,13 +52,13 @@ pub mod Fits
 pub mod Below
 -- each exit leaves blocks that exist
 pub mod Exits
--- at most one operation without a value for each token
+-- at most one operation that can lack a value for each token
 pub mod Operations
 -- what a pair guarantees
 pub mod Pairs
 -- the Cminor that the code's functions build
 pub mod Codes
--- the variables of a sequence are those of its list
+-- a sequence uses the same variables as its list
 pub mod Counting
 -- the end of a scope
 pub mod Closing

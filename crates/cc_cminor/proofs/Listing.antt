@@ -1,4 +1,4 @@
--- Declarations and statements one by one: the code so far, with that of the remaining ones, is the code of all.
+-- Declarations and statements one by one: the code so far, followed by that of the remaining ones, is the code of all.
 use Rattle.std.proofs.Common.{◌≡◌, ℕ, suc, ◌+◌, arith, ◌++◌, Bool, true, Option, List, [], ◌∷◌, length, refl, ap, ◌∙◌}
 use Rattle.std.proofs.lemmas.List.{append_assoc}
 use Rattle.cc_tokens.specs.declared.scalar.Scalar.{Scalar}
@@ -35,7 +35,7 @@ listing-next b done more s rest all v u w h e f = record {
       ∙ append_assoc done (lowered w.layout b v s ∷ []) (all_lowered w.layout b (behind s v) rest) ∙ h.code;
 }
 
--- a `for`, whose parts come after its first part
+-- the code of a `for` is that of its first part, followed by that of its other parts
 pub for-is : (b : Bool) (v u x : Environment) (n : ℕ) (first : Beginning) (test : Option Expr) (step : Option Action) (body : Stmt) (t : Taken) (s0 s1 s2 : Statement)
     → u ≡ inner v → x ≡ behind_beginning first u → n ≡ length x.locals → t ≡ taken_or x.layout x n 1 test
     → s0 ≡ started u.layout first u → s1 ≡ lowered x.layout true (inner x) body → s2 ≡ performed_optional x.layout x step

@@ -12,7 +12,7 @@ use Rattle.cc_resolve.specs.Layout.{Layout, callee}
 use Rattle.cc_resolve.specs.Environment.{Environment, number_in, types_in, inner, with_local, behind, behind_beginning}
 use Rattle.cc_resolve.specs.declared.layout.Callee.{Callee}
 use Rattle.cc_resolve.specs.declared.layout.Callee.TheVariants.{WriteWord, ReadWord, Defined}
-use Rattle.cc_c_laws.specs.Resolved.{arities, IsCalled, ExprResolved, ExprsResolved, OptionalResolved, TargetResolved, ActionResolved, OptionalActionResolved, DeclaratorsResolved, BeginningResolved, StmtResolved, StmtsResolved}
+use Rattle.cc_c_semantics.specs.Resolved.{arities, IsCalled, ExprResolved, ExprsResolved, OptionalResolved, TargetResolved, ActionResolved, OptionalActionResolved, DeclaratorsResolved, BeginningResolved, StmtResolved, StmtsResolved}
 use Rattle.cc_cminor.specs.Cminor.{Expression, Constant, Local, Load, Statement, Skip, Set, Store, Sequence, If, Loop, Block, Exit, Return}
 use Rattle.cc_cminor.specs.Code.{in_sequence}
 use Rattle.cc_cminor.specs.Pair.{AreCalls}

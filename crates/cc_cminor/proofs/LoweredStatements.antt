@@ -8,8 +8,8 @@ use Rattle.cc_ast.specs.Tree as tree
 use Rattle.cc_ast.specs.Tree.{Name, Expr, Action, Declarator, Beginning, Declares, Performs, Stmt, Stmts, end, next, Perform, Break, Continue, IfElse, While, DoWhile, For}
 use Rattle.cc_resolve.specs.Layout.{Layout}
 use Rattle.cc_resolve.specs.Environment.{Environment, types_in, inner, with_local, with_locals, behind, behind_beginning}
-use Rattle.cc_c_laws.specs.Meaning as meaning
-use Rattle.cc_c_laws.specs.Meaning.{State, Run, Gives, Flow, Falls, Breaks, Continues, Returns, then_do, choose, evaluate, evaluate_or, perform_optional, start, spend_of, behind_flow, behind_body, begin_body, turns, left_scope, in_block, execute, execute_all}
+use Rattle.cc_c_semantics.specs.Meaning as meaning
+use Rattle.cc_c_semantics.specs.Meaning.{State, Run, Gives, Flow, Falls, Breaks, Continues, Returns, then_do, choose, evaluate, evaluate_or, perform_optional, start, spend_of, behind_flow, behind_body, begin_body, turns, left_scope, in_block, execute, execute_all}
 use Rattle.cc_simulation.specs.Run.{tried, Returns as Ret}
 use Rattle.cc_cminor.specs.Cminor.{Expression, Constant, value, Statement, Skip, Sequence, Loop, Block, Exit, Return, Continuation, Then, Again, Leaving, Config, config}
 use Rattle.cc_cminor.specs.Code.{in_sequence}
@@ -54,7 +54,7 @@ beginning_visible : (first : Beginning) (v : Environment) → (behind_beginning 
 beginning_visible (Declares t ds) v = declared_visible t ds v
 beginning_visible (Performs a) v = refl
 
--- only the oldest locals
+-- variables that hold some locals hold the oldest of them
 dropped : (extra ns : List (List ℕ)) (ls : List meaning.Local) (m : ℕ → ℕ) → names_of ls ≡ extra ++ ns → Holds ls m
     → (names_of (drop (length ls - length ns) ls) ≡ ns) × Holds (drop (length ls - length ns) ls) m
 dropped [] ns ls m e h =
@@ -90,7 +90,7 @@ module _ (effect : Calling) (g : Layout) where
   Leaves true i leave s d = leave i s d
   Leaves false i leave s d = GivesBack 0 s d
 
-  -- by how a statement ends; a loop's blocks make `break` Exit 1 and `continue` Exit 0
+  -- what holds then, depending on how a statement ends; a loop's blocks make `break` Exit 1 and `continue` Exit 0
   abbrev pub Flowing : Bool → (State → Config → Type 0) → (ℕ → State → Config → Type 0) → Flow → State → Config → Type 0
   Flowing b after leave Falls s d = after s d
   Flowing b after leave Breaks s d = Leaves b 1 leave s d
@@ -115,11 +115,11 @@ module _ (effect : Calling) (g : Layout) where
   flowing_as false after after' leave leave' Continues s d f k q = q
   flowing_as b after after' leave leave' (Returns w) s d f k q = q
 
-  -- no newer local
+  -- `StopsBehind` holds if there are no newer locals
   same_behind : (code : Statement) (κ : Continuation) (ns : List (List ℕ)) (s : State) (d : Config) → Stops effect g code κ ns s d → StopsBehind code κ ns s d
   same_behind code κ ns s d q = record { extra = []; stops = q }
 
-  -- some newer locals
+  -- `StopsBehind` holds if `extra` are newer locals above these
   more_behind : (code : Statement) (κ : Continuation) (extra after ns : List (List ℕ)) (s : State) (d : Config) → after ≡ extra ++ ns → Stops effect g code κ after s d → StopsBehind code κ ns s d
   more_behind code κ extra after ns s d e q = record { extra = extra; stops = subst (λ xs. Stops effect g code κ xs s d) e q }
 
@@ -194,7 +194,7 @@ module _ (effect : Calling) (g : Layout) where
     abbrev R : Flow → State → Config → Type 0
     R = Exactly b κ ns
 
-    -- the way out
+    -- the run leaves the loop
     left_loop : (m : ℕ → ℕ) (u : State) → Fits g ns u m → Comes effect R (config (Exit 0) turn m (world_at u)) u.steps (Gives Falls u)
     left_loop m u fits =
         comes_moved effect R (config (Exit 0) turn m (world_at u)) (config (Exit 0) around m (world_at u)) u.steps (Gives Falls u) refl
@@ -265,7 +265,7 @@ module _ (effect : Calling) (g : Layout) where
     falling_flows : (b : Bool) (κ : Continuation) (after ns : List (List ℕ)) (c : Config) (k : ℕ) (r : Run Flow) → Comes effect (Falling effect g κ after) c k r → Comes effect (Flows b κ after ns) c k r
     falling_flows b κ after ns c k r h = comes_as effect (Falling effect g κ after) (Flows b κ after ns) c k r h (λ f s d le q. subst (λ f. Flows b κ after ns f s d) (sym q.falls) q.stops)
 
-    -- a statement in a scope of its own
+    -- a statement in a scope of its own does what it does in the source
     part_comes : (st : Stmt) (b : Bool) (v : Environment) (κ : Continuation) (c : Config) (l : ℕ → ℕ) (s : State) → Fits g v.locals s l → Comes effect (Flows b κ (behind st (inner v)).locals v.locals) c s.steps (execute st n call (opened v.visible) s)
         → Comes effect (Exactly b κ v.locals) c s.steps (in_block (execute st n call (opened v.visible)) s)
     part_comes st b v κ c l s fits h =
@@ -276,7 +276,7 @@ module _ (effect : Calling) (g : Layout) where
         (λ f s d le q. flowing_as b (λ s d. Stops effect g Skip κ after s d) (λ s d. StopsBehind Skip κ v.locals s d) (λ i s d. StopsBehind (Exit i) κ v.locals s d) (λ i s d. StopsBehind (Exit i) κ v.locals s d) f s d
         (λ x. more_behind Skip κ e.0 after v.locals s d e.1 x) (λ i x. x) q))
 
-    -- a loop's condition, with A if it holds
+    -- a loop's condition is tested, and A runs if it holds
     cond_by : (w : ℕ) (x : Expression) (ns : List (List ℕ)) (A : Statement) (κ : Continuation) (T X c : Statement) (m : ℕ → ℕ) (u : State) → value x m (world_at u) ≡ Some w → Fits g ns u m
         → ((w : ℕ) → Comes effect (TestedBy ns κ (Then X (Again T (Leaving κ))) c) (config A (Again T (Leaving κ)) m (world_at u)) u.steps (Gives (suc w) u))
         → Comes effect (TestedBy ns κ (Then X (Again T (Leaving κ))) c) (config (branch x A (Exit 0)) (Again T (Leaving κ)) m (world_at u)) u.steps (Gives w u)
@@ -302,7 +302,7 @@ module _ (effect : Calling) (g : Layout) where
         (using_or_comes effect g call n facts Q 1 cnd v (free v) (λ x. branch x A (Exit 0)) around m s (λ w t. Gives w t) (branch_needs A (Exit 0)) known (omega arith) lt h
         (λ x k u w less fits same is. cond_by w x v.locals A κ T X c k u is fits (λ w. f k u w fits)))
 
-    -- into the block of a body, from the code of a turn
+    -- the run enters the block of a body, from the code of a turn
     enters : (ns : List (List ℕ)) (κ : Continuation) (T X c : Statement) (m : ℕ → ℕ) (u : State) (w : ℕ) → Fits g ns u m
         → Comes effect (TestedBy ns κ (Then X (Again T (Leaving κ))) c) (config (Sequence (Block c) X) (Again T (Leaving κ)) m (world_at u)) u.steps (Gives (suc w) u)
     enters ns κ T X c m u w fits =
@@ -311,7 +311,7 @@ module _ (effect : Calling) (g : Layout) where
         comes_moved effect Q (config (Sequence (Block c) X) (Again T (Leaving κ)) m (world_at u)) (config (Block c) turn m (world_at u)) u.steps (Gives (suc w) u) refl
         (comes_here effect Q (config (Block c) turn m (world_at u)) (suc w) u (record { variables = m; at = refl; fits = fits }))
 
-    -- a loop that tests its condition first
+    -- a loop that tests its condition first does what it does in the source
     loop_comes : (cnd : Option Expr) (a : Option Action) (X c : Statement) (b : Bool) (v : Environment) (κ : Continuation) (l : ℕ → ℕ) (s : State) (body : State → Run Flow) → KnownOr g v cnd → s.steps < n → Fits g v.locals s l
         → ((κ : Continuation) (m : ℕ → ℕ) (s : State) → s.steps < n → Fits g v.locals s m → Comes effect (Exactly true κ v.locals) (config c κ m (world_at s)) s.steps (body s))
         → ((κ : Continuation) (m : ℕ → ℕ) (s : State) → s.steps < n → Fits g v.locals s m → Comes effect (Falling effect g κ v.locals) (config X κ m (world_at s)) s.steps (perform_optional a (types_in v) call s))
@@ -336,7 +336,7 @@ module _ (effect : Calling) (g : Layout) where
         (comes_here effect Back (config T around q.stops.variables (world_at t)) f t (record { variables = q.stops.variables; at = refl; fits = q.stops.fits })))))))
         (suc n) l s (omega arith) lt h))
 
-    -- a loop that tests its condition last
+    -- a loop that tests its condition last does what it does in the source
     do_comes : (e : Expr) (c : Statement) (b : Bool) (v : Environment) (κ : Continuation) (l : ℕ → ℕ) (s : State) (body : State → Run Flow) → Known g v e → s.steps < n → Fits g v.locals s l
         → ((κ : Continuation) (m : ℕ → ℕ) (s : State) → s.steps < n → Fits g v.locals s m → Comes effect (Exactly true κ v.locals) (config c κ m (world_at s)) s.steps (body s))
         → Comes effect (Exactly b κ v.locals) (config (Block (Loop (Sequence (Block c) (tested (using g v (free v) e))))) κ l (world_at s)) s.steps

@@ -1,4 +1,4 @@
--- Lowered code has at most one operation that may have no value for each token.
+-- Lowered code has at most one operation that can lack a value for each token.
 use Rattle.std.proofs.Common.{◌≡◌, ℕ, zero, suc, ◌+◌, ◌*◌, ◌≤◌, ◌&&◌, Bool, true, false, List, [], ◌∷◌, ◌++◌, Option, Some, None, refl, arith}
 use Rattle.std.specs.Prelude.{if◌then◌else◌}
 use Rattle.cc_tokens.specs.declared.scalar.Scalar.{Scalar}

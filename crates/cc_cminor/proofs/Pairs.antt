@@ -8,12 +8,12 @@ use Rattle.cc_ast.specs.Parse.{SpellsText}
 use Rattle.cc_types.specs.Limits.{locals, function_names}
 use Rattle.cc_types.specs.Typed.{IsTyped, IsWithinLimits, defined_names}
 use Rattle.cc_resolve.specs.Layout.{layout_of}
-use Rattle.cc_c_laws.specs.Meaning.{Function, functions}
-use Rattle.cc_c_laws.specs.Calls.{CallsAreEffects, CallsKeepObjects, FunctionsAreNumbered, ObjectsAreNumbered, ObjectsAreSized}
-use Rattle.cc_c_laws.specs.declared.mode.Mode.{Mode}
-use Rattle.cc_c_laws.specs.declared.mode.Mode.TheVariants.{Plain}
-use Rattle.cc_c_laws.specs.Numbered.{CallsAreNumbered}
-use Rattle.cc_c_laws.specs.Resolved.{arities, FunctionsAreResolved}
+use Rattle.cc_c_semantics.specs.Meaning.{Function, functions}
+use Rattle.cc_c_semantics.specs.Calls.{CallsAreEffects, CallsKeepObjects, FunctionsAreNumbered, ObjectsAreNumbered, ObjectsAreSized}
+use Rattle.cc_c_semantics.specs.declared.mode.Mode.{Mode}
+use Rattle.cc_c_semantics.specs.declared.mode.Mode.TheVariants.{Plain}
+use Rattle.cc_c_semantics.specs.Numbered.{CallsAreNumbered}
+use Rattle.cc_c_semantics.specs.Resolved.{arities, FunctionsAreResolved}
 use Rattle.cc_cminor.specs.Cminor.{Statement}
 use Rattle.cc_cminor.specs.Pair.{Pair, tree_of, code_of, AreCalls, KeepsUp, FailsAlike, GoesWrong, IsPair}
 use Rattle.cc_cminor.specs.Numbers.{most_variables, most_lowered, StatementBelow, StatementFits}

@@ -1,10 +1,10 @@
 -- Paths of a Cminor run, and what the code at a configuration must do for a part of the source's run.
 use Rattle.std.proofs.Common.{◌≡◌, ◌⊎◌, inl, inr, ℕ, suc, ◌+◌, ◌-◌, ◌≤◌, Bool, true, false, List, [], ◌∷◌, Option, Some, refl, ap, ◌∙◌, arith, add_assoc}
-use Rattle.cc_c_laws.specs.Meaning as meaning
-use Rattle.cc_c_laws.specs.Meaning.{State, Run, Gives, then_do}
-use Rattle.cc_c_laws.specs.Checked.{stays}
-use Rattle.cc_c_laws.specs.Numbered.{objects_of}
-use Rattle.cc_c_laws.specs.declared.mode.Mode.{Mode}
+use Rattle.cc_c_semantics.specs.Meaning as meaning
+use Rattle.cc_c_semantics.specs.Meaning.{State, Run, Gives, then_do}
+use Rattle.cc_c_semantics.specs.Checked.{stays}
+use Rattle.cc_c_semantics.specs.Numbered.{objects_of}
+use Rattle.cc_c_semantics.specs.declared.mode.Mode.{Mode}
 use Rattle.cc_simulation.specs.Behavior.{Going, Wrong, Outcome}
 use Rattle.cc_simulation.specs.World as world
 use Rattle.cc_simulation.specs.World.{Question, Answer, Effect}
@@ -18,12 +18,12 @@ use Rattle.cc_cminor.specs.Code.{in_sequence}
 abbrev pub world_at : State → world.World
 world_at s = record { globals = objects_of s.globals; input = s.input; output = s.output }
 
--- what remains to be done after the first of some statements
+-- what remains to be done after the first of these statements
 abbrev pub after_list : List Statement → Continuation → Continuation
 after_list [] κ = κ
 after_list (a ∷ rest) κ = Then (in_sequence (a ∷ rest)) κ
 
--- an answer takes just the steps that it spends
+-- an answer takes exactly the steps that it spends
 abbrev pub Exact : (ℕ → Question → Effect) → Type 0
 Exact effect = (q : Question) (n left : ℕ) (a : Answer) → effect n q ≡ world.Gives a left → (left ≤ n) × ((j : ℕ) → effect (n - left + j) q ≡ world.Gives a j)
 
@@ -95,7 +95,7 @@ module _ (effect : Calling) where
     pub j : ℕ
     pub wrong : runs k j c ≡ record { stop = Wrong; output = o }
 
-  -- from c with n steps left the run reaches d, and moves and calls pay for the steps that are gone
+  -- from c with n steps left the run reaches d, and its moves and calls pay for the steps that were taken
   pub record Reaches (c : Config) (n left : ℕ) (d : Config) : Type 0 where
     pub m : ℕ
     pub t : ℕ
@@ -142,8 +142,8 @@ module _ (effect : Calling) where
     pub reaches : Reaches c n s.steps to
     pub is : Q x s to
 
-  -- If the source goes wrong the run does. If the source then runs for ever, the run continues with the same output and at least
-  -- n of work, in a call that runs for ever, or it breaks.
+  -- If the source goes wrong, so does the run. In a mode in which the source then runs for ever, the run continues with the same
+  -- output and at least n of work, in a call that runs for ever, or it breaks.
   abbrev pub Stuck : (stays : Bool) → Config → ℕ → List ℕ → Type 0
   Stuck true c n o = Cut c n o ⊎ Breaks c o
   Stuck false c n o = Lost c o
@@ -161,7 +161,8 @@ module _ (effect : Calling) where
   stuck_here true c n o e f = inr (record { k = 1; j = 0; broke = ap (λ x. broken_act effect.does x (cminor_output c) 0 (breaks 0)) e ∙ ap (λ x. Some x) f })
   stuck_here false c n o e f = record { k = 1; j = 0; wrong = ap (λ x. act effect.does x (cminor_output c) 0 (runs 0)) e ∙ ap (λ x. record { stop = Wrong; output = x }) f }
 
-  -- from c, with n steps left, the run does what the source does: if that gives a value, it reaches such a configuration
+  -- from c, with n steps left, the run does what the source does: if the source gives a value, the run reaches a configuration as
+  -- Q asks
   abbrev pub Comes : {A : Type 0} → (A → State → Config → Type 0) → Config → ℕ → Run A → Type 0
   Comes Q c n (Gives x s) = Arrives Q c n x s
   Comes Q c n (meaning.Going o) = Cut c n o
@@ -172,7 +173,7 @@ module _ (effect : Calling) where
   comes_after Q c d n i (meaning.Going o) p h = cut_after c d n i o p h
   comes_after Q c d n i (meaning.Wrong cause o) p h = stuck_after (stays effect.mode cause) c d n i o p h
 
-  -- the first move
+  -- if the first move leads from c to d, it is enough to know this from d
   pub comes_moved : {A : Type 0} (Q : A → State → Config → Type 0) (c d : Config) (n : ℕ) (r : Run A) → cminor_move c ≡ Goes d → Comes Q d n r → Comes Q c n r
   comes_moved Q c d n r e h = comes_after Q c d n n r (one c d n e) h
 

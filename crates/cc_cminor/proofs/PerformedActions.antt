@@ -9,17 +9,17 @@ use Rattle.cc_ast.specs.declared.ast.AssignmentOperator.{AssignmentOperator}
 use Rattle.cc_ast.specs.declared.ast.AssignmentOperator.TheVariants as assignment
 use Rattle.cc_ast.specs.declared.ast.StepOperator.{StepOperator}
 use Rattle.cc_ast.specs.declared.ast.StepOperator.TheVariants as steps
-use Rattle.cc_c_laws.specs.declared.cause.Cause.TheVariants.{Index}
+use Rattle.cc_c_semantics.specs.declared.cause.Cause.TheVariants.{Index}
 use Rattle.cc_types.specs.Operators.{binary_word, working_type, applied_operator, step_operator}
 use Rattle.cc_types.specs.Types.{value_type, target_type}
 use Rattle.cc_ast.specs.Tree.{Expr, Target, AtVariable, AtElement, Action, Assign, Step, Evaluate, Declarator, Beginning, Declares, Performs}
 use Rattle.cc_types.specs.Names.{same_name}
 use Rattle.cc_resolve.specs.Layout.{Layout}
 use Rattle.cc_resolve.specs.Environment.{Environment, types_in, number_in, with_local, with_locals, behind_beginning}
-use Rattle.cc_c_laws.specs.Meaning as meaning
-use Rattle.cc_c_laws.specs.Calls.{NamedSize, size, sizes, laid_sizes}
-use Rattle.cc_c_laws.specs.Checked.{stays}
-use Rattle.cc_c_laws.specs.Meaning.{Global, State, Run, Gives, Flow, Falls, then_do, given, read_element, write_element, evaluate, evaluate_or, Destination, ToVariable, ToElement, destination, old_value, write, new_value, perform, perform_optional, stored, declare, start, global_words, local_word, with_local_word, with_element, variable_word}
+use Rattle.cc_c_semantics.specs.Meaning as meaning
+use Rattle.cc_c_semantics.specs.Calls.{NamedSize, size, sizes, laid_sizes}
+use Rattle.cc_c_semantics.specs.Checked.{stays}
+use Rattle.cc_c_semantics.specs.Meaning.{Global, State, Run, Gives, Flow, Falls, then_do, given, read_element, write_element, evaluate, evaluate_or, Destination, ToVariable, ToElement, destination, old_value, write, new_value, perform, perform_optional, stored, declare, start, global_words, local_word, with_local_word, with_element, variable_word}
 use Rattle.cc_simulation.specs.World as world
 use Rattle.cc_simulation.specs.World.{World}
 use Rattle.cc_simulation.specs.Run.{Goes, Fails, tried}
@@ -131,7 +131,7 @@ module _ (effect : Calling) (g : Layout) where
       (ap (λ o. tried o (λ x. Goes (config Skip κ (put l i x) (world_at s)))) is)
       (comes_here effect (Falling κ ns) (config Skip κ (put l i w) (world_at t)) Falls t (record { falls = refl; stops = record { variables = put l i w; at = refl; fits = local_fits ns x w i s l num h } })))
 
-  -- a value that may go wrong, then the write
+  -- a value that may go wrong is computed, and then written
   variable_comes : (v : Environment) (x : List ℕ) (e : Expression) (κ : Continuation) (l : ℕ → ℕ) (s : State) (r : Run ℕ) → IsVariable g v x → Fits g v.locals s l → PlainIs r s (value e l (world_at s))
       → Comes effect (Falling κ v.locals) (config (variable_set g v x e) κ l (world_at s)) s.steps (then_do r (λ new z. Gives Falls (stored x new z)))
   variable_comes v x e κ l s (Gives w u) placed h p =
@@ -164,7 +164,7 @@ module _ (effect : Calling) (g : Layout) where
   element_comes ns x k i e κ l s (meaning.Wrong cause o) known at h p =
       stuck_here effect (stays effect.mode cause) (config (Store (width_of g x) (object_of g x) (Local k) e) κ l (world_at s)) s.steps o (store_needs (width_of g x) (object_of g x) k (λ y. y) (λ y m z missing. missing) e κ l (world_at s) p.0) (sym p.1)
 
-  -- the new value, from the old one and the right side's
+  -- the new value, given the old one and the right side's
   new_by : (aop : Option BinaryOperator) (t u : Scalar) (d : Destination) (old e : Expression) (w : ℕ) (l : ℕ → ℕ) (s : State) → TakesBoth aop → PlainIs (old_value d s) s (value old l (world_at s)) → value e l (world_at s) ≡ Some w
       → PlainIs (new_value aop t u d w s) s (value (combined aop t u old e) l (world_at s))
   new_by None t u d old e w l s both p is = (refl, is)
@@ -174,7 +174,7 @@ module _ (effect : Calling) (g : Layout) where
       (λ x. subst (λ o. PlainIs (given op (binary_word op (working_type op t u) x w) s) s (then_value o (λ y. binary_word op (working_type op t u) x y))) (sym is) (plain_given op (binary_word op (working_type op t u) x w) s)))
 
   module _ (call : meaning.Calls) (n : ℕ) (facts : CallFacts effect g call n) where
-    -- an expression of Cminor for the value, or code before it
+    -- the value is one expression of Cminor, or an expression with code before it
     pub using_comes : {A : Type 0} (R : A → State → Config → Type 0) (e : Expr) (v : Environment) (k : ℕ) (f : Expression → Statement) (κ : Continuation) (l : ℕ → ℕ) (s : State) (go : ℕ → State → Run A)
         → NeedsValue f → Known g v e → free v ≤ k → s.steps < n → Fits g v.locals s l
         → ((x : Expression) (m : ℕ → ℕ) (u : State) (w : ℕ) → u.steps ≤ s.steps → Fits g v.locals u m → ((i : ℕ) → i < k → m i ≡ l i) → value x m (world_at u) ≡ Some w → Comes effect R (config (f x) κ m (world_at u)) u.steps (go w u))
@@ -189,7 +189,7 @@ module _ (effect : Calling) (g : Layout) where
     using_or_comes R w None v k f κ l s go needs known le lt h cont = cont (Constant w) l s w (omega arith) h (λ i below. refl) refl
     using_or_comes R w (Some e) v k f κ l s go needs known le lt h cont = using_comes R e v k f κ l s go needs known le lt h cont
 
-    -- what takes the right side's value
+    -- code that takes the right side's value
     abbrev Takes : Environment → (State → Run ℕ) → (ℕ → (Expression → Statement) → Statement) → Type 0
     Takes v right code = (k : ℕ) (f : Expression → Statement) (κ : Continuation) (l : ℕ → ℕ) (s : State) (go : ℕ → State → Run Flow) → NeedsValue f → free v ≤ k → s.steps < n → Fits g v.locals s l
         → ((x : Expression) (m : ℕ → ℕ) (u : State) (w : ℕ) → u.steps ≤ s.steps → Fits g v.locals u m → ((i : ℕ) → i < k → m i ≡ l i) → value x m (world_at u) ≡ Some w → Comes effect (Falling κ v.locals) (config (f x) κ m (world_at u)) u.steps (go w u))
@@ -260,13 +260,13 @@ module _ (effect : Calling) (g : Layout) where
     number_here : (x : List ℕ) (ns : List (List ℕ)) → number_in (x ∷ ns) x ≡ Some (length ns)
     number_here x ns = ap (λ b. if b then Some (length ns) else number_in ns x) (name_is_itself x)
 
-    -- a local without initialiser is 0 already
+    -- a local without an initialiser is 0 already
     stored_zero : (x : List ℕ) (v : Environment) (t : Scalar) (l : ℕ → ℕ) (s : State) → Fits g v.locals s l → stored x 0 (meaning.with_local x s) ≡ meaning.with_local x s
     stored_zero x v t l s h =
         local_stored (with_local t x v).locals x 0 (free v) (meaning.with_local x s) (put l (free v) 0) (number_here x v.locals) (declared_fits t x v l s h)
         ∙ ap (λ b. record s { locals = if b then record { name = x; word = 0 } ∷ s.locals else record { name = x; word = 0 } ∷ with_local_word x 0 s.locals }) (name_is_itself x)
 
-    -- the initialiser, then the other locals
+    -- the initialiser is set, then the other locals
     initialised_comes : (t : Scalar) (x : List ℕ) (e : Option Expr) (rest : List Declarator) (v : Environment) (κ : Continuation) (l : ℕ → ℕ) (s : State) → KnownOr g (with_local t x v) e → KnownDeclared g t rest (with_local t x v) → s.steps < n → Fits g v.locals s l
         → ((m : ℕ → ℕ) (z : State) → z.steps < n → Fits g (with_local t x v).locals z m → Comes effect (Falling κ (with_locals t rest (with_local t x v)).locals) (config (in_sequence (declared_code g t rest (with_local t x v))) κ m (world_at z)) z.steps (declare t rest call (with_local t x v).visible z))
         → Comes effect (Falling κ (with_locals t rest (with_local t x v)).locals) (config (in_sequence (initialised g (with_local t x v) (free v) e ++ declared_code g t rest (with_local t x v))) κ (put l (free v) 0) (world_at s)) s.steps

@@ -1,4 +1,4 @@
--- Code that puts the value of an expression into a variable, or passes on one expression of Cminor.
+-- Code that puts the value of an expression into a variable, or hands on one expression of Cminor for it.
 use Rattle.std.proofs.Common.{◌≡◌, inl, ℕ, zero, suc, ◌-◌, ◌<◌, ◌≤◌, ◌&&◌, ◌||◌, not, Bool, true, false, if◌then◌else◌, List, [], ◌∷◌, ◌++◌, length, Option, Some, None, refl, sym, ap, ◌∙◌, subst, arith}
 use Rattle.std.proofs.lemmas.Bool.{ne_eqb}
 use Rattle.cc_tokens.specs.declared.scalar.Scalar.{Scalar}
@@ -13,12 +13,12 @@ use Rattle.cc_resolve.specs.Layout.{Layout, callee}
 use Rattle.cc_resolve.specs.Environment.{Environment, types_in}
 use Rattle.cc_resolve.specs.declared.layout.Callee.{Callee}
 use Rattle.cc_resolve.specs.declared.layout.Callee.TheVariants.{WriteWord, ReadWord, Defined}
-use Rattle.cc_c_laws.specs.Meaning as meaning
-use Rattle.cc_c_laws.specs.Meaning.{State, Run, Gives, then_do, choose, given, unless_decided, read_element, read_input, evaluate, evaluate_all, variable_word}
-use Rattle.cc_c_laws.specs.Function as by_name
-use Rattle.cc_c_laws.specs.Calls.{sizes, laid_sizes, shared_of, after_call, KeepsObjects}
-use Rattle.cc_c_laws.specs.Checked.{stays}
-use Rattle.cc_c_laws.specs.Numbered.{world_of, numbered}
+use Rattle.cc_c_semantics.specs.Meaning as meaning
+use Rattle.cc_c_semantics.specs.Meaning.{State, Run, Gives, then_do, choose, given, unless_decided, read_element, read_input, evaluate, evaluate_all, variable_word}
+use Rattle.cc_c_semantics.specs.Function as by_name
+use Rattle.cc_c_semantics.specs.Calls.{sizes, laid_sizes, shared_of, after_call, KeepsObjects}
+use Rattle.cc_c_semantics.specs.Checked.{stays}
+use Rattle.cc_c_semantics.specs.Numbered.{world_of, numbered}
 use Rattle.cc_simulation.specs.World as world
 use Rattle.cc_simulation.specs.World.{World, Question, Answer, Effect, first_or_zero, rest_of}
 use Rattle.cc_simulation.specs.Run as layer
@@ -31,7 +31,7 @@ use Rattle.cc_cminor.proofs.Paths.{world_at, Exact, Calling, Cut, one_call, Stuc
 use Rattle.cc_cminor.proofs.Branches.{branch_moves, branch_fails}
 use Rattle.cc_cminor.proofs.Variables.{put_here, put_below, unary_value, binary_value, unary_none, binary_none, truth_none, strict_undecided, is_conjunction, is_disjunction, PlainIs, plain_given, plain_read, Fits, fits_put, variable_value, element_value, plain_is, all_plain_is, truth_is}
 
--- what a call of function f with some words does: the caller continues as the effect says, which the unit's meaning gives by
+-- what a call of function f with these words does: the caller continues as the effect says, which the unit's meaning gives by
 -- number
 pub record CallIs (effect : Calling) (call : meaning.Calls) (x ws : List ℕ) (f : ℕ) (s : State) : Type 0 where
   pub what : by_name.Effect by_name.Answer
@@ -69,7 +69,7 @@ module _ (effect : Calling) (g : Layout) where
   puts_from k κ ns l m c n r same h =
       comes_as effect (Puts k κ ns m) (Puts k κ ns l) c n r h (λ w s d le q. record { variables = q.variables; at = q.at; is = q.is; fits = q.fits; same = λ i lt. q.same i lt ∙ same i lt })
 
-  -- a Set
+  -- a `Set` puts the word into variable k
   set_gives : (k w : ℕ) (e : Expression) (κ : Continuation) (ns : List (List ℕ)) (l : ℕ → ℕ) (s : State) → length ns ≤ k → Fits g ns s l → value e l (world_at s) ≡ Some w
       → Comes effect (Puts k κ ns l) (config (Set k e) κ l (world_at s)) s.steps (Gives w s)
   set_gives k w e κ ns l s le h is =
@@ -103,7 +103,7 @@ module _ (effect : Calling) (g : Layout) where
       (comes_moved effect R (config Skip (Then (f (Local j)) κ) q.variables (world_at u)) (config (f (Local j)) κ q.variables (world_at u)) u.steps (go w u) refl
       (k (Local j) q.variables u w le q.fits q.same (ap (λ x. Some x) q.is)))))
 
-  -- one of two
+  -- an `if` continues with one of its two statements
   pub choice_comes : {A : Type 0} (R : A → State → Config → Type 0) (x : Expression) (a b : Statement) (κ : Continuation) (l : ℕ → ℕ) (s : State) (w : ℕ) (ra rb : State → Run A) → value x l (world_at s) ≡ Some w
       → Comes effect R (config a κ l (world_at s)) s.steps (ra s) → Comes effect R (config b κ l (world_at s)) s.steps (rb s)
       → Comes effect R (config (branch x a b) κ l (world_at s)) s.steps (choose w ra rb s)
@@ -164,7 +164,7 @@ module _ (effect : Calling) (g : Layout) where
       (ap (λ c. values (locals_from k c) q.variables (world_at u)) (sym q.many) ∙ passed_values q.variables k ws (world_at u) q.passed) q.many))))
 
   module _ (call : meaning.Calls) (n : ℕ) (facts : CallFacts effect g call n) where
-    -- a call that is not finished
+    -- a call that does not finish is a cut that is still going
     call_cut : (k f : ℕ) (us : List Expression) (ws : List ℕ) (κ : Continuation) (l : ℕ → ℕ) (s : State) (o : List ℕ) → values us l (world_at s) ≡ Some ws
         → effect.does s.steps (record { function = f; arguments = ws; world = world_at s }) ≡ world.Unfinished o → Cut effect (config (Call (Some k) f us) κ l (world_at s)) s.steps o
     call_cut k f us ws κ l s o ps e =
@@ -179,7 +179,7 @@ module _ (effect : Calling) (g : Layout) where
           enough = let g : works effect 1 s.steps c ≡ suc s.steps = ap (λ m. work_act effect.does m s.steps (works effect 0)) here ∙ ap (λ y. suc (work_resumed y resume s.steps (works effect 0))) e in omega arith;
         }
 
-    -- a call that goes wrong
+    -- a call that goes wrong is a cut that goes wrong
     call_stuck : (b : Bool) (k f : ℕ) (us : List Expression) (ws : List ℕ) (κ : Continuation) (l : ℕ → ℕ) (s : State) (o : List ℕ) → values us l (world_at s) ≡ Some ws
         → effect.does s.steps (record { function = f; arguments = ws; world = world_at s }) ≡ (if b then world.Unfinished o else world.Failed o) → Stuck effect b (config (Call (Some k) f us) κ l (world_at s)) s.steps o
     call_stuck true k f us ws κ l s o ps e = inl (call_cut k f us ws κ l s o ps e)
@@ -190,7 +190,7 @@ module _ (effect : Calling) (g : Layout) where
         ap (λ p. tried p (λ vs. Calls (record { function = f; arguments = vs; world = world_at s }) resume)) ps in
         record { k = 1; j = s.steps; wrong = ap (λ m. act effect.does m s.output s.steps (runs effect 0)) here ∙ ap (λ y. layer.resumed y resume (runs effect 0)) e }
 
-    -- a call with some words
+    -- a call with these words does what the source's call does
     call_comes : (k f : ℕ) (us : List Expression) (ws : List ℕ) (κ : Continuation) (ns : List (List ℕ)) (l : ℕ → ℕ) (s : State) (x : by_name.Effect by_name.Answer) → length ns ≤ k → Fits g ns s l → values us l (world_at s) ≡ Some ws
         → effect.does s.steps (record { function = f; arguments = ws; world = world_at s }) ≡ numbered effect.mode x → KeepsObjects (shared_of s) x
         → Comes effect (Puts k κ ns l) (config (Call (Some k) f us) κ l (world_at s)) s.steps (after_call s.locals x)
@@ -294,7 +294,7 @@ module _ (effect : Calling) (g : Layout) where
     PutsValue e = (v : Environment) (k : ℕ) (κ : Continuation) (l : ℕ → ℕ) (s : State) → Known g v e → free v ≤ k → s.steps < n → Fits g v.locals s l
         → Comes effect (Puts k κ v.locals l) (config (put_expr g v k e) κ l (world_at s)) s.steps (evaluate e (types_in v) call s)
 
-    -- the right operand of && and ||
+    -- the truth of the right operand of && and || is put into variable k
     truth_comes : (b : Expr) (v : Environment) (k : ℕ) (κ : Continuation) (l : ℕ → ℕ) (s : State) → PutsValue b → Known g v b → free v ≤ k → s.steps < n → Fits g v.locals s l
         → Comes effect (Puts k κ v.locals l) (config (used (is_plain b) (plain g v b) (put_expr g v k b) k (λ y. Set k (truth_of y))) κ l (world_at s)) s.steps (then_do (evaluate b (types_in v) call s) (λ y t. Gives (truth_value (is_true y)) t))
     truth_comes b v k κ l s hb known le lt h =
@@ -303,7 +303,7 @@ module _ (effect : Calling) (g : Layout) where
         (λ y m u w less fits same is. puts_from k κ v.locals l m _ u.steps (Gives (truth_value (is_true w)) u) same
         (set_gives k (truth_value (is_true w)) (truth_of y) κ v.locals m u le fits (truth_is y m (world_at u) w is)))
 
-    -- after the left operand of &&, and of ||
+    -- what && and || do after their left operand
     and_comes : (w : ℕ) (x : Expression) (t : Scalar) (b : Expr) (v : Environment) (k : ℕ) (κ : Continuation) (l : ℕ → ℕ) (s : State) → value x l (world_at s) ≡ Some w → PutsValue b → Known g v b → free v ≤ k → s.steps < n → Fits g v.locals s l
         → Comes effect (Puts k κ v.locals l) (config (branch x (used (is_plain b) (plain g v b) (put_expr g v k b) k (λ y. Set k (truth_of y))) (Set k (Constant 0))) κ l (world_at s)) s.steps
         (unless_decided (decided source.LogicalAnd w) (λ u. then_do (evaluate b (types_in v) call u) (λ y z. given source.LogicalAnd (binary_word source.LogicalAnd t w y) z)) s)

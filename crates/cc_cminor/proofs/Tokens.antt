@@ -1,4 +1,4 @@
--- The least number of tokens that spell a part of a tree, from the tree alone; an argument's comma is not counted.
+-- The least number of tokens that spell a part of a tree, worked out from only the tree; an argument's comma is not counted.
 use Rattle.std.proofs.Common.{◌≡◌, ℕ, suc, ◌+◌, ◌≤◌, List, [], ◌∷◌, ◌++◌, length, map, Option, Some, None, ◌⊎◌, inl, inr, refl, sym, ap, ◌∙◌, arith}
 use Rattle.std.proofs.lemmas.List.{length-append, length-map}
 use Rattle.cc_tokens.specs.Token.{Lexeme}
@@ -6,7 +6,7 @@ use Rattle.cc_tokens.specs.declared.scalar.Scalar.{Scalar}
 use Rattle.cc_ast.specs.Tree.{Expr, Exprs, none, more, Number, Variable, Element, Call, Parenthesised, Unary, Cast, Binary, Conditional, Target, AtVariable, AtElement, Action, Assign, Step, Evaluate, Declarator, Beginning, Declares, Performs, Stmt, Stmts, end, next, Block, Local, Perform, Return, Break, Continue, If, IfElse, While, DoWhile, For, External, Signature, Definition}
 use Rattle.cc_ast.specs.Grammar.{Measured, outside, full_after, full, begins, precedence, SpellsType, SpellsExpression, SpellsArguments, SpellsTarget, SpellsAction, SpellsRow, SpellsInitial, SpellsDeclarator, SpellsLocal, SpellsOptional, SpellsOptionalAction, SpellsBeginning, SpellsStatement, SpellsStatements, SpellsExternal}
 
--- ---- of a tree
+-- ---- the tokens of a tree
 
 abbrev mutual
   pub tokens : Expr → ℕ
@@ -68,7 +68,7 @@ abbrev mutual
   statements_tokens end = 0
   statements_tokens (next first rest) = statement_tokens first + statements_tokens rest
 
--- ---- of what spells it
+-- ---- the tokens of what spells it
 
 full_long : (xs : List Lexeme) (n : ℕ) → length (full_after n xs) ≡ length xs
 full_long [] n = refl

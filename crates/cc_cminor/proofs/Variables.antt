@@ -9,7 +9,7 @@ use Rattle.cc_ast.specs.declared.ast.BinaryOperator.{BinaryOperator}
 use Rattle.cc_ast.specs.declared.ast.BinaryOperator.TheVariants as source
 use Rattle.cc_ast.specs.declared.ast.UnaryOperator.{UnaryOperator}
 use Rattle.cc_ast.specs.declared.ast.UnaryOperator.TheVariants as prefix
-use Rattle.cc_c_laws.specs.declared.cause.Cause.TheVariants.{Index}
+use Rattle.cc_c_semantics.specs.declared.cause.Cause.TheVariants.{Index}
 use Rattle.cc_types.specs.Names.{same_name}
 use Rattle.cc_types.specs.Operators.{unary_word, binary_word, decided, is_true, working_type}
 use Rattle.cc_types.specs.Types.{value_type}
@@ -21,10 +21,10 @@ use Rattle.cc_words.specs.declared.operators.Binary as binary
 use Rattle.cc_words.specs.declared.operators.Binary.TheVariants as two
 use Rattle.cc_ast.specs.Tree as tree
 use Rattle.cc_ast.specs.Tree.{Name, Expr, Exprs, none, more, Number, Variable, Element, Parenthesised, Cast, Conditional}
-use Rattle.cc_c_laws.specs.Meaning as meaning
-use Rattle.cc_c_laws.specs.Meaning.{Global, State, Run, Gives, then_do, given, unless_decided, read_element, Calls, evaluate, evaluate_all, local_word, with_local_word, variable_word, global_words, with_element}
-use Rattle.cc_c_laws.specs.Calls.{NamedSize, sizes, laid_sizes}
-use Rattle.cc_c_laws.specs.Numbered.{objects_of}
+use Rattle.cc_c_semantics.specs.Meaning as meaning
+use Rattle.cc_c_semantics.specs.Meaning.{Global, State, Run, Gives, then_do, given, unless_decided, read_element, Calls, evaluate, evaluate_all, local_word, with_local_word, variable_word, global_words, with_element}
+use Rattle.cc_c_semantics.specs.Calls.{NamedSize, sizes, laid_sizes}
+use Rattle.cc_c_semantics.specs.Numbered.{objects_of}
 use Rattle.cc_simulation.specs.World.{Object, World, element, object_with, stored}
 use Rattle.cc_resolve.specs.Layout.{LaidObject, Layout, object_number, extent_of}
 use Rattle.cc_resolve.specs.Environment.{Environment, types_in, number_in}
@@ -151,7 +151,7 @@ found_by true k u ws vs rest o n e f = let z : 0 ≡ n = cc in ap (λ i. get_or 
 found_by false k u ws vs rest None n e f = absurd (cc)
 found_by false k u ws vs rest (Some m) n e f = let z : suc m ≡ n = cc in ap (λ i. get_or (object k ws ∷ rest) i no_object) (sym z) ∙ f m refl
 
--- an object by its number
+-- an object is found by its number
 found_object : (gs : List Global) (ps : List LaidObject) (x : List ℕ) (n : ℕ) → sizes gs ≡ laid_sizes ps → object_number ps x ≡ Some n → get_or (objects_of gs) n no_object ≡ object (width_by_name gs x) (global_words gs x)
 found_object gs [] x n e f = absurd (cc)
 found_object [] (p ∷ ps) x n e f = absurd (let q : ◌≡◌ {A = List NamedSize} [] (laid_sizes (p ∷ ps)) = e in cc)
@@ -217,7 +217,7 @@ same_itself : (u : Width) → same_width u u ≡ true
 same_itself Byte = refl
 same_itself Word = refl
 
--- an element by its object's number
+-- an element is found by its object's number
 pub element_object : (gs : List Global) (ps : List LaidObject) (x : List ℕ) (n i : ℕ) (input output : List ℕ) → sizes gs ≡ laid_sizes ps → object_number ps x ≡ Some n
     → element (record { globals = objects_of gs; input = input; output = output }) (extent_of ps x).width n i ≡ slice_get (global_words gs x) i
 element_object gs ps x n i input output e f =
@@ -374,7 +374,7 @@ and_right false b e = absurd (cc)
 
 -- ---- plain expressions
 
--- a part of a run leaves the state as it is, and gives a word or goes wrong, as this says
+-- a part of a run leaves the state as it is, and gives a word or goes wrong, as the option says
 abbrev pub PlainIs : {A : Type 0} → Run A → State → Option A → Type 0
 PlainIs (Gives x u) s o = (u ≡ s) × (o ≡ Some x)
 PlainIs (meaning.Going output) s o = ⊥

@@ -1,5 +1,5 @@
 -- Cminor: numbered word variables, expressions without effect, and structured statements. Its syntax as data, and what one move does;
--- the run of a function is then that of every intermediate language (`Rattle.cc_simulation.specs.Run`).
+-- from these the run of a function follows as in every intermediate language (`Rattle.cc_simulation.specs.Run`).
 use Rattle.std.specs.Prelude.{ℕ, zero, suc, ◌==◌, List, [], ◌∷◌, Option, Some, None, if◌then◌else◌, get_or}
 use Rattle.cc_words.specs.declared.operators.Unary as one
 use Rattle.cc_words.specs.declared.operators.Binary as two
@@ -10,7 +10,7 @@ use Rattle.cc_simulation.specs.Run.{Move, Goes, Calls, Returns, Fails, tried}
 
 -- ---- syntax
 
--- an expression: a word, a variable, an operator with its operands, an element of this width of an object
+-- an expression: a word, a variable, an operator with its operands, or an element of an object, with its width
 pub data Expression : Type 0 where
   Constant : (word : ℕ) → Expression
   Local : (variable : ℕ) → Expression
@@ -54,16 +54,16 @@ value (Unary op e) l h = then_value (value e l h) (λ a. Some (apply_unary op a)
 value (Binary op a b) l h = then_value (value a l h) (λ x. then_value (value b l h) (λ y. apply_binary op x y))
 value (Load width o e) l h = then_value (value e l h) (λ i. element h width o i)
 
--- the values of some expressions
+-- the values of these expressions
 abbrev pub values : List Expression → Variables → World → Option (List ℕ)
 values [] l h = Some []
 values (e ∷ rest) l h = then_value (value e l h) (λ w. then_value (values rest l h) (λ ws. Some (w ∷ ws)))
 
--- the variables with a word put into one
+-- the variables after a word is put into one
 abbrev pub put : Variables → (variable word : ℕ) → Variables
 put l x w y = if x == y then w else l y
 
--- the variables with a result put into one, if there is a variable for it
+-- the variables after a result is put into one, if there is a variable for it
 abbrev pub put_result : Variables → Option ℕ → ℕ → Variables
 put_result l None w = l
 put_result l (Some x) w = put l x w
@@ -87,7 +87,7 @@ pub record Config : Type 0 where
 abbrev pub config : Statement → Continuation → Variables → World → Config
 config s κ l h = record { statement = s; next = κ; variables = l; world = h }
 
--- a statement is done: the run continues with what remains; at the function's end the value is 0
+-- a statement has ended: the run continues with what remains; at the function's end the value is 0
 abbrev pub skips : Continuation → Variables → World → Move Config
 skips Ends l h = Returns (record { value = 0; world = h })
 skips (Then s κ) l h = Goes (config s κ l h)
@@ -99,7 +99,7 @@ abbrev pub left_by : ℕ → Statement
 left_by zero = Skip
 left_by (suc k) = Exit k
 
--- an exit leaves one part after another; a function has no further block to leave
+-- an exit leaves one part of what remains after another; at the function's end no block is left to leave
 abbrev pub exits : ℕ → Continuation → Variables → World → Move Config
 exits k Ends l h = Fails
 exits k (Then s κ) l h = Goes (config (Exit k) κ l h)

@@ -1,10 +1,10 @@
--- The Cminor in the code's values, whatever its place in memory.
+-- The Cminor that the code's values represent, wherever they are in memory.
 use Rattle.std.specs.Prelude.{List, [], ◌∷◌}
 use Rattle.cc_cminor.specs.Cminor as cminor
 use Rattle.cc_cminor.specs.declared.code.Expression.{Expression, Constant, Local, Unary', Binary', Load'}
 use Rattle.cc_cminor.specs.declared.code.Statement.{Statement, Skip, Set, Store, Call, Read, Write, Sequence', If', Loop', Block', Exit, Return, Row_of-Statement, end_of-Statement, more_of-Statement}
 
--- the expression
+-- the expression that a value represents
 abbrev pub expression_of : Expression → cminor.Expression
 expression_of (Constant w) = cminor.Constant w
 expression_of (Local i) = cminor.Local i
@@ -12,7 +12,7 @@ expression_of (Unary' op p e) = cminor.Unary op (expression_of e)
 expression_of (Binary' op p a q b) = cminor.Binary op (expression_of a) (expression_of b)
 expression_of (Load' width o p e) = cminor.Load width o (expression_of e)
 
--- some expressions
+-- the same for a list of expressions
 abbrev pub expressions_of : List Expression → List cminor.Expression
 expressions_of [] = []
 expressions_of (e ∷ rest) = expression_of e ∷ expressions_of rest
@@ -23,7 +23,7 @@ in_sequence [] = cminor.Skip
 in_sequence (a ∷ []) = a
 in_sequence (a ∷ b ∷ rest) = cminor.Sequence a (in_sequence (b ∷ rest))
 
--- the statement
+-- the statement that a value represents
 abbrev mutual
   pub statement_of : Statement → cminor.Statement
   statement_of Skip = cminor.Skip

@@ -2,7 +2,7 @@
 use Rattle.std.specs.Prelude.{ℕ, suc, ◌<◌}
 use Rattle.cc_cminor.specs.Cminor.{Statement, Skip, Set, Store, Call, Read, Write, Sequence, If, Loop, Block, Exit, Return}
 
--- in a statement inside this many blocks
+-- each exit leaves blocks that exist, in a statement inside this many blocks
 abbrev pub ExitsFit : (blocks : ℕ) → Statement → Type 0
 ExitsFit b Skip = Unit {0}
 ExitsFit b (Set x e) = Unit {0}

@@ -1,6 +1,6 @@
 -- the language: its syntax, and what one move does
 pub mod Cminor
--- the Cminor in the code's values
+-- the Cminor that the code's values represent
 pub mod Code
 -- the numbers in code
 pub mod Numbers

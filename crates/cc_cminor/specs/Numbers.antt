@@ -49,6 +49,6 @@ StatementBelow m (Block a) = StatementBelow m a
 StatementBelow m (Exit k) = Unit {0}
 StatementBelow m (Return e) = ExpressionBelow m e
 
--- within the limit
+-- each number in a statement is below the limit for its kind
 abbrev pub StatementFits : Statement → Type 0
 StatementFits s = StatementBelow most_variables s

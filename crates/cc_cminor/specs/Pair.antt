@@ -4,11 +4,11 @@ use Rattle.cc_ast.specs.Tree.{External}
 use Rattle.cc_ast.specs.Source.{source}
 use Rattle.cc_ast.specs.declared.unit.Unit as parsed
 use Rattle.cc_types.specs.Typed.{IsTyped}
-use Rattle.cc_c_laws.specs.Meaning.{functions}
-use Rattle.cc_c_laws.specs.Resolved.{arities}
-use Rattle.cc_c_laws.specs.Numbered.{IsMeaning}
-use Rattle.cc_c_laws.specs.declared.mode.Mode.{Mode}
-use Rattle.cc_c_laws.specs.declared.mode.Mode.TheVariants.{Checked}
+use Rattle.cc_c_semantics.specs.Meaning.{functions}
+use Rattle.cc_c_semantics.specs.Resolved.{arities}
+use Rattle.cc_c_semantics.specs.Numbered.{IsMeaning}
+use Rattle.cc_c_semantics.specs.declared.mode.Mode.{Mode}
+use Rattle.cc_c_semantics.specs.declared.mode.Mode.TheVariants.{Checked}
 use Rattle.cc_simulation.specs.Behavior.{Follows}
 use Rattle.cc_simulation.specs.World.{World}
 use Rattle.cc_simulation.specs.Run.{run}
@@ -50,7 +50,7 @@ AreCalls unit (Block a) = AreCalls unit a
 AreCalls unit (Exit k) = Unit {0}
 AreCalls unit (Return e) = Unit {0}
 
--- the code's run keeps up with the function, at rate 1: each move pays for one step of the source
+-- the code's run keeps up with the function, at rate 1: each move pays for at most one step of the source
 abbrev pub KeepsUp : Mode → List External → (function : ℕ) → Statement → Type 0
 KeepsUp mode unit f s = (meaning : Meaning) → IsMeaning mode unit meaning → Tracks meaning f 1 cminor_move cminor_output (cminor_start s)
 
@@ -63,7 +63,7 @@ FailsAlike unit f s = (meaning : Meaning) → IsMeaning Checked unit meaning →
 abbrev pub GoesWrong : List External → (function : ℕ) → Statement → Type 0
 GoesWrong unit f s = (mode : Mode) (meaning : Meaning) → IsMeaning mode unit meaning → GoesWrongWith meaning f cminor_move cminor_output (cminor_start s)
 
--- at each number of open calls the code's run follows the function's body
+-- for each number of open calls below the limit, the code's run follows the function's body
 abbrev pub FollowsFunction : Mode → List External → (function : ℕ) → Statement → Type 0
 FollowsFunction mode unit f s =
     (meaning : Meaning) → IsMeaning mode unit meaning → (opened : ℕ) → opened < most_open → (ws : List ℕ) (h : World) → IsCall meaning f ws h

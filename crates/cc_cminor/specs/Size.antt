@@ -1,4 +1,4 @@
--- How many statements and expressions code has, and how many operations that may have no value, compared with the tokens of the
+-- How many statements and expressions code has, and how many operations that can lack a value, compared with the tokens of the
 -- definition that it comes from.
 use Rattle.std.specs.Prelude.{◌≡◌, ℕ, suc, ◌+◌, ◌*◌, ◌≤◌, List, [], ◌∷◌, length, Some, slice_get}
 use Rattle.cc_ast.specs.Tree.{External}
@@ -8,7 +8,7 @@ use Rattle.cc_words.specs.declared.operators.Binary as two
 use Rattle.cc_words.specs.declared.operators.Binary.TheVariants.{DivS, DivU, RemS, RemU, Shl, ShrS, ShrU}
 use Rattle.cc_cminor.specs.Cminor.{Expression, Constant, Local, Unary, Binary, Load, Statement, Skip, Set, Store, Call, Read, Write, Sequence, If, Loop, Block, Exit, Return}
 
--- an expression, including the expressions in it
+-- the size of an expression, including the expressions in it
 abbrev pub expression_size : Expression → ℕ
 expression_size (Constant w) = 1
 expression_size (Local i) = 1
@@ -20,7 +20,7 @@ abbrev pub expressions_size : List Expression → ℕ
 expressions_size [] = 0
 expressions_size (e ∷ rest) = expression_size e + expressions_size rest
 
--- a statement, including the statements and expressions in it
+-- the size of a statement, including the statements and expressions in it
 abbrev pub statement_size : Statement → ℕ
 statement_size Skip = 1
 statement_size (Set x e) = suc (expression_size e)
@@ -42,7 +42,7 @@ AtMostTwelveAToken unit f s =
     (definition : External) → slice_get (definitions unit) f ≡ Some definition → (tokens : List Measured) → SpellsExternal tokens definition
     → statement_size s ≤ 12 * length tokens
 
--- ---- operations that may have no value
+-- ---- operations that can lack a value
 
 abbrev pub partial : two.Binary → ℕ
 partial DivS = 1
@@ -54,7 +54,7 @@ partial ShrS = 1
 partial ShrU = 1
 partial op = 0
 
--- in an expression, including its elements
+-- in an expression, including its reads of elements
 abbrev pub partials : Expression → ℕ
 partials (Constant w) = 0
 partials (Local x) = 0
@@ -80,7 +80,7 @@ code_partials (Block a) = code_partials a
 code_partials (Exit k) = 0
 code_partials (Return e) = partials e
 
--- the code of function f has at most one for each token of the function's definition, for any tokens that spell it
+-- the code of function f has at most one such operation for each token of the function's definition, for any tokens that spell it
 abbrev pub AtMostOnePartialAToken : List External → (f : ℕ) → Statement → Type 0
 AtMostOnePartialAToken unit f s =
     (definition : External) → slice_get (definitions unit) f ≡ Some definition → (tokens : List Measured) → SpellsExternal tokens definition

@@ -2,7 +2,7 @@
 use Rattle.std.specs.Prelude.{ℕ, suc, List, [], ◌∷◌, Option, Some, None, if◌then◌else◌, nat_le}
 use Rattle.cc_cminor.specs.Cminor.{Expression, Constant, Local, Unary, Binary, Load, Statement, Skip, Set, Store, Call, Read, Write, Sequence, If, Loop, Block, Exit, Return}
 
--- the least number that is above a variable and at least this count
+-- the smallest number that is above a variable and at least this count
 abbrev pub above : (count variable : ℕ) → ℕ
 above count x = if nat_le count x then suc x else count
 

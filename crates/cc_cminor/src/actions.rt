@@ -128,7 +128,7 @@ fn above_target(names: &Environment<'_>, target: &Target) -> Result<usize, Alloc
     }
 }
 
-/// The statement that does an action.
+/// The statement that performs an action.
 pub fn action(
     alloc: Global,
     names: &Environment<'_>,
@@ -151,7 +151,7 @@ pub fn action(
     }
 }
 
-/// The statement that does an action that may be absent.
+/// The statement that performs an action that may be absent.
 pub fn optional_action(
     alloc: Global,
     names: &Environment<'_>,

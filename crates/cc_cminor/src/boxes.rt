@@ -8,7 +8,7 @@ ghost use Rattle.cc_cminor.specs.internal.Statements.{statements_of};
 use super::code::{Expression, Statement};
 use std::alloc::{AllocError, Global};
 
-/// The variable this many above another. Each of these holds a value of the tree, so memory runs out long before numbers do.
+/// The variable that is this many above another. Each of these holds a value of the tree, so memory runs out long before numbers do.
 pub fn above(variable: usize, count: usize) -> Result<usize, AllocError>
     ensures { IfOk result (λ n. n ≡ variable + count) }
 {
@@ -74,7 +74,7 @@ pub fn both(
     boxed_statement(alloc, Statement::Sequence(all))
 }
 
-/// Some statements, one after another.
+/// These statements, one after another.
 pub fn sequence(alloc: Global, all: Vec<Statement>) -> Result<Box<Statement>, AllocError>
     ensures { IfOk result (λ s. statement_of s.value ≡ in_sequence (statements_of all.items)) }
 {

@@ -1,13 +1,13 @@
 // The syntax of Cminor: numbered word variables, expressions without effect, and structured statements.
 //
-// A tree of the code of a definition is at most about 3,000 nodes deep, so to drop one or to walk it by recursion takes less than
-// a megabyte of stack. Each of the source's 64 levels of statements adds at most eight levels of Cminor, and each of the 512
+// A tree of the code of a definition is at most about 3,000 nodes deep, so dropping one, or walking it by recursion, takes less
+// than a megabyte of stack. Each of the source's 64 levels of statements adds at most eight levels of Cminor, and each of the 512
 // tokens of a full expression at most four; consecutive statements are in one list.
 
 use cc_words::{Binary, Unary, Width};
 
-/// An expression. It has no effect. Its value is a word, or it has none: if an operator has no value, an index is outside its
-/// object, or the object's elements have another width.
+/// An expression. It has no side effects. Its value is a word, or it has none: if an operator has no value, an index is outside
+/// its object, or the object's elements have another width.
 #[derive(Drop)]
 pub enum Expression {
     /// A word.
@@ -36,9 +36,9 @@ pub enum Statement {
     Write(Box<Expression>),
     /// The statements one after another.
     Sequence(Vec<Statement>),
-    /// Does the first statement if the value is not 0, else the second.
+    /// Runs the first statement if the value is not 0, else the second.
     If(Box<Expression>, Box<Statement>, Box<Statement>),
-    /// Does the statement again and again, for ever.
+    /// Runs the statement again and again, for ever.
     Loop(Box<Statement>),
     /// A statement that an `Exit` within it may leave.
     Block(Box<Statement>),

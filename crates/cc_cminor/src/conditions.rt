@@ -52,7 +52,8 @@ fn is_constant(expression: &Expression) -> bool
     }
 }
 
-// `<=`, which is the opposite of `<` with the operands exchanged. If the right one is a constant, it is left as it is.
+// `<=`, which is the opposite of `<` with the operands exchanged. If the right operand is a constant, the comparison is left as
+// it is.
 fn at_most(
     alloc: Global,
     operator: Binary,
@@ -119,7 +120,7 @@ fn condition(alloc: Global, test: Box<Expression>) -> Result<(Box<Expression>, b
     }
 }
 
-/// The branch that does the first statement if a value is not 0, else the second.
+/// The branch that runs the first statement if a value is not 0, else the second.
 pub fn branch(
     alloc: Global,
     test: Box<Expression>,

@@ -115,7 +115,7 @@ fn invoke(
     }
 }
 
-// Plain arguments.
+// The expressions for plain arguments.
 #[cycle(values)]
 fn all_plain(
     alloc: Global,
@@ -236,7 +236,7 @@ pub fn put(
     put_in(alloc, k, taken)
 }
 
-/// The value of an expression that may be absent, or the given word without it.
+/// The value of an expression, or the given word if the expression is absent.
 pub fn value_or(
     alloc: Global,
     names: &Environment<'_>,

@@ -3,8 +3,8 @@
 //!
 //! - `code`: the syntax; `display`: its text.
 //! - `pair`: the type that guarantees that a function's Cminor does what the function does.
-//! - `lower`: makes a pair. `statements`, on `actions`, on `expressions`, write the code, with `taken` (values that code takes),
-//!   `access`, `operators` and `boxes` below.
+//! - `lower`: makes a pair. `statements`, `actions` and `expressions`, each using the next, write the code, with `taken` (values
+//!   that code takes), `access`, `operators` and `boxes` below.
 //!
 //! How a body becomes Cminor is a definition in `specs/internal`. Lemmas in `proofs` show that it keeps up with the function
 //! (`Bodies`), how large it is (`Counts`) and which numbers it has (`Fits`).
@@ -25,8 +25,9 @@ mod pair;
 mod statements;
 mod taken;
 
+pub use boxes::{both, boxed_expression, boxed_statement, constant, local};
 pub use code::{Expression, Statement};
-pub use fault::CminorFault;
+pub use fault::CodeFault;
 pub use lower::to_cminor;
 pub use numbers::variables_above;
 pub use pair::CminorPair;

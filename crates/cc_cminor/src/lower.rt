@@ -1,13 +1,13 @@
 // From a function of a typed unit to its Cminor.
 //
 // The code is that of the function's body, from the environment in which the body begins. It keeps up with the function, and
-// calls each function with its number of arguments; both follow from the laws of the meaning for every typed unit.
+// calls each function with the right number of arguments; both follow from the laws of the meaning for every typed unit.
 
 ghost use Rattle.std.specs.Prelude.{◌≡◌, ◌<◌, length, IfOk};
 ghost use Rattle.std.specs.Arc.{arc_value};
 ghost use Rattle.cc_ast.specs.Source.{source};
 ghost use Rattle.cc_types.specs.Typed.{defined_names};
-ghost use Rattle.cc_c_laws.specs.declared.mode.Mode.TheVariants.{Plain};
+ghost use Rattle.cc_c_semantics.specs.declared.mode.Mode.TheVariants.{Plain};
 ghost use Rattle.cc_cminor.specs.Code.{statement_of};
 ghost use Rattle.cc_cminor.specs.Pair.{tree_of, code_of, FailsAlike, GoesWrong};
 ghost use Rattle.cc_cminor.specs.Exits.{ExitsFit};
@@ -16,10 +16,9 @@ ghost use Rattle.cc_cminor.specs.Size.{AtMostTwelveAToken, AtMostOnePartialAToke
 ghost use Rattle.cc_cminor.specs.internal.Lowered.{IsLowered};
 
 use super::code::Statement;
-use super::fault::CminorFault;
 use super::pair::CminorPair;
 use super::statements::body;
-use cc_c_laws::{
+use cc_c_semantics::{
     Mode, calls_are_effects, calls_keep_objects, functions_are_resolved, names_have_numbers,
     units_have_meanings,
 };
@@ -66,12 +65,12 @@ fn paired(unit: Arc<TypedUnit>, function: usize, code: Box<Statement>) -> Cminor
 /// than depth, the code reaches something that it cannot do, with the same output (`fails_alike`, `goes_wrong`): nothing that may
 /// go wrong is left out.
 ///
-/// Fails only with `CminorFault::OutOfMemory` (40), if memory runs out.
+/// `AllocError` if memory runs out.
 pub fn to_cminor(
     alloc: Global,
     unit: &Arc<TypedUnit>,
     function: usize,
-) -> Result<CminorPair, CminorFault>
+) -> Result<CminorPair, AllocError>
     requires { function < length (defined_names (source (arc_value unit.now))) }
     ensures mode { IfOk result (λ p. p.mode ≡ Plain) }
     ensures unit { IfOk result (λ p. p.unit ≡ arc_value unit.now) }
@@ -86,7 +85,7 @@ pub fn to_cminor(
     let code = lowered(alloc, unit, function)?;
     let Ok(unit) = Arc::try_clone(unit) else {
         drop(code);
-        return Err(CminorFault::OutOfMemory);
+        return Err(AllocError);
     };
     Ok(paired(unit, function, code))
 }

@@ -1,4 +1,4 @@
-// Operators, by the type in which they work, as operators of Cminor.
+// The operators of C as operators of Cminor, depending on the type in which they work.
 
 ghost use Rattle.std.specs.Prelude.{◌≡◌, IfOk};
 ghost use Rattle.cc_cminor.specs.Cminor as cminor;
@@ -50,7 +50,7 @@ fn is_comparison(operator: Binary) -> bool
     )
 }
 
-// Whether the value of an expression is always 0 or 1, by its form.
+// Whether the value of an expression is always 0 or 1, judging by its form.
 fn is_truth(expression: &Expression) -> bool
     ensures { result ≡ is_truth (expression_of expression.now) }
 {
@@ -61,7 +61,8 @@ fn is_truth(expression: &Expression) -> bool
     }
 }
 
-/// An expression that is 1 if the value is not 0, else 0. If the value is always one of them, it is the expression itself.
+/// An expression that is 1 if the operand is not 0, else 0. If the operand, judging by its form, is always 0 or 1, the answer is the
+/// operand itself.
 pub fn truth(alloc: Global, operand: Box<Expression>) -> Result<Box<Expression>, AllocError>
     ensures { IfOk result (λ e. expression_of e.value ≡ truth_of (expression_of operand.value)) }
 {

@@ -2,13 +2,13 @@
 
 ghost use Rattle.std.specs.Prelude.{◌≡◌, ◌<◌, length};
 ghost use Rattle.std.specs.Arc.{arc_value};
-ghost use Rattle.cc_c_laws.specs.Meaning.{functions};
+ghost use Rattle.cc_c_semantics.specs.Meaning.{functions};
 ghost use Rattle.cc_types.specs.Typed.{IsTyped};
 ghost use Rattle.cc_cminor.specs.Numbers.{StatementFits};
 ghost use Rattle.cc_cminor.specs.Pair.{Pair, tree_of, code_of, AreCalls, KeepsUp, FollowsFunction, IsPair};
 
 use super::code::Statement;
-use cc_c_laws::Mode;
+use cc_c_semantics::Mode;
 use cc_types::TypedUnit;
 use std::marker::Model;
 use std::sync::Arc;
@@ -38,7 +38,7 @@ impl Model for CminorPair {
     ghost use Rattle.std.specs.Arc.{arc_value};
     ghost use Rattle.std.specs.Coded.{codes};
     ghost use Rattle.cc_ast.specs.contracts.unit.Unit as parsed;
-    ghost use Rattle.cc_c_laws.specs.contracts.mode.Mode as modes;
+    ghost use Rattle.cc_c_semantics.specs.contracts.mode.Mode as modes;
     ghost use Rattle.cc_cminor.specs.contracts.code.Statement as written;
     ghost use Rattle.cc_cminor.specs.Pair.{Pair, IsPair};
 
@@ -71,7 +71,7 @@ impl CminorPair {
         }
     }
 
-    /// What the code owes if the function goes wrong.
+    /// What the code must do if the function goes wrong.
     pub fn mode(&self) -> Mode
         ensures answer { result ≡ self.now.mode }
     {
@@ -93,9 +93,9 @@ impl CminorPair {
         self.function
     }
 
-    /// The code. Parameter i is variable i. Each call in it has its function's number of arguments. Variables are below 2,048,
-    /// objects below 65,536, functions below 64. Its run keeps up with the function at rate 1: each move of the run pays for at
-    /// most one step of the source, so no loop is dropped. So it follows the function.
+    /// The code. Parameter i is variable i. Each call in it has as many arguments as its function has parameters. Variables are
+    /// below 2,048, objects below 65,536, functions below 64. The code's run keeps up with the function at rate 1: each move of the
+    /// run pays for at most one step of the source, so no loop is dropped. So the run follows the function.
     pub fn code(&self) -> &Statement
         ensures code { result.now ≡ self.now.statement }
         ensures typed { IsTyped (tree_of self.now) }

@@ -118,7 +118,7 @@ fn beginning<'a>(
 
 // ---- what the parts of a statement become
 
-// `break` and `continue`, which leave this many blocks and one more. Outside a loop, which typing excludes, the function is done.
+// `break` and `continue`, which leave this many blocks and one more. Outside a loop, which typing excludes, the function ends.
 fn leave(alloc: Global, in_loop: bool, blocks: usize) -> Result<Box<Statement>, AllocError>
     ensures { IfOk result (λ s. statement_of s.value ≡ leaving in_loop blocks) }
 {
@@ -143,7 +143,7 @@ fn give_back(alloc: Global, given: Taken) -> Result<Box<Statement>, AllocError>
     behind(alloc, before, statement)
 }
 
-// What is done if a value is not 0.
+// A statement that runs `held` if a value is not 0.
 fn held(alloc: Global, test: Taken, held: Box<Statement>) -> Result<Box<Statement>, AllocError>
     ensures { IfOk result (λ s. statement_of s.value ≡ behind_code (code_before test.before) (branch (expression_of test.expression.value) (statement_of held.value) cminor.Skip)) }
 {
@@ -151,7 +151,7 @@ fn held(alloc: Global, test: Taken, held: Box<Statement>) -> Result<Box<Statemen
     choice(alloc, test, held, skip)
 }
 
-// The turns of a loop: this statement again and again, until a `break` leaves the block around it.
+// The turns of a loop: this statement runs again and again, until a `break` leaves the block around it.
 fn turns(alloc: Global, turn: Box<Statement>) -> Result<Box<Statement>, AllocError>
     ensures { IfOk result (λ s. statement_of s.value ≡ cminor.Block (cminor.Loop (statement_of turn.value))) }
 {

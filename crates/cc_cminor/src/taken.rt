@@ -1,9 +1,9 @@
 // A value that code takes: an expression of Cminor, and the code before it if there is some.
 //
-// An expression in which C prescribes no order (without a call, `&&`, `||` or `?:`) has no effect. It becomes one expression of
-// Cminor, with no code before it. Every other value waits in a variable k, after the code that puts it there. If one of two
-// operands has code before it, the left one waits in a variable of its own. So C's order, from left to right, is the order of the
-// statements.
+// An expression in which C prescribes no order (one without a call, `&&`, `||` or `?:`) has no side effects. It becomes one
+// expression of Cminor, with no code before it. Every other value waits in a variable k, after the code that puts it there. If
+// one of two operands has code before it, the left one waits in a variable of its own. So C's order, from left to right, is the
+// order of the statements.
 
 ghost use Rattle.std.specs.Prelude.{◌≡◌, false, IfOk};
 ghost use Rattle.cc_types.specs.Operators.{binary_type, common_type, unary_type, working_type};
@@ -80,7 +80,7 @@ pub fn alone(taken: Taken) -> Box<Expression>
     expression
 }
 
-/// A statement after the code that precedes the value it takes.
+/// A statement, after the code that has to precede the value that it takes.
 pub fn behind(
     alloc: Global,
     before: Option<Box<Statement>>,
@@ -133,7 +133,7 @@ pub fn put_in(alloc: Global, k: usize, taken: Taken) -> Result<Box<Statement>, A
     }
 }
 
-/// A conversion to a type.
+/// A value converted to a type.
 pub fn converted(scalar: Scalar, operand: Taken) -> Taken
     ensures scalar { result.scalar ≡ scalar }
     ensures value { taken_of result.before result.expression ≡ taken_of operand.before operand.expression }
@@ -150,7 +150,7 @@ pub fn converted(scalar: Scalar, operand: Taken) -> Taken
     }
 }
 
-/// A unary operator.
+/// A unary operator applied to a value.
 pub fn operated(
     alloc: Global,
     k: usize,
@@ -261,7 +261,7 @@ pub fn right_from(operator: BinaryOperator, k: usize) -> Result<usize, AllocErro
     }
 }
 
-/// A binary operator. Its right operand uses no variable below `right_from`.
+/// A binary operator applied to two values. Its right operand uses no variable below `right_from`.
 pub fn joined(
     alloc: Global,
     k: usize,
@@ -280,7 +280,7 @@ pub fn joined(
     }
 }
 
-/// One of two statements, by a value.
+/// One of two statements, chosen by a value.
 pub fn choice(
     alloc: Global,
     test: Taken,

@@ -1,8 +1,9 @@
-// The allocator: webs, their interferences, the order of Chaitin and Briggs, registers by wishes, slots, blocks.
+// The allocator, in its steps: webs, their interferences, the order of Chaitin and Briggs, registers according to wishes, slots,
+// blocks.
 //
-// At first all webs are whole. Then webs are cut at calls: first those for which a slot over the calls is cheaper than a saved register,
-// later those that calls keep and that got no register. If a value in a slot has to go through a register and none is free, everything is
-// chosen again, with two registers that no web gets.
+// At first all webs are whole. Then webs are cut at calls: first those for which a slot over the calls is cheaper than a saved
+// register, later those that calls keep and that got no register. If a value in a slot has to go through a register and none is
+// free, everything is chosen again, with two registers that no web gets.
 
 use crate::blocks::{Placed, blocks};
 use crate::interference::{Code, Graph, Partner, Web};
@@ -22,9 +23,9 @@ use std::alloc::{AllocError, Global};
 /// Webs are cut again at most this often.
 const ROUNDS: u32 = 3;
 
-/// LTL for the function. Pseudo-registers share registers, and have slots only if the registers don't suffice. `live` should be the live
-/// sets; whatever they are, there is an answer. If something is too large for this allocator, the answer is that of `spill_all`. Err:
-/// memory ran out.
+/// LTL for the function. Pseudo-registers share registers, and get slots only if the registers don't suffice. `live` should be
+/// the live sets; whatever they are, there is an answer. If something is too large for this allocator, the answer is that of
+/// `spill_all`. Err: memory ran out.
 pub fn colour(alloc: Global, rtl: &Rtl, live: &Liveness) -> Result<Ltl, AllocError> {
     let next = next_places(alloc, rtl)?;
     let weights = weights(alloc, next.as_slice())?;
@@ -93,8 +94,8 @@ fn is_cheap_to_cut(graph: &Graph, web: &Web) -> bool {
     by_slot <= moves.saturating_add(SAVING)
 }
 
-// Does the same with some webs cut; if none is cut, the pieces are the whole webs. If more webs should be cut, they are marked, and the
-// answer is None. If there are too many pieces, the answer is None and nothing is marked.
+// The same with some webs cut; if none is cut, the pieces are the whole webs. If more webs should be cut, they are marked, and
+// the answer is None. If there are too many pieces, the answer is None and nothing is marked.
 fn coloured_cut(
     alloc: Global,
     whole: Known<'_>,
@@ -162,7 +163,8 @@ fn coloured_pieces(
     Ok(None)
 }
 
-// Marks the whole webs that calls keep and that have a piece which should have a register and has none. Answers whether there was one.
+// Marks the whole webs that calls keep and that have a piece that should have a register but has none. Answers whether there was
+// one.
 fn cut_more(
     whole: &Graph,
     choice: &Choice,

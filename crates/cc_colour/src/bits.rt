@@ -17,7 +17,7 @@ pub fn set_bit(row: &mut [u64], bit: u32) {
     }
 }
 
-/// The lowest bit that is clear below a limit.
+/// The lowest clear bit below a limit.
 pub fn first_clear(row: &[u64], limit: u16) -> Option<u16> {
     for bit in 0..limit {
         if !has_bit(row, u32::from(bit)) {
@@ -27,7 +27,7 @@ pub fn first_clear(row: &[u64], limit: u16) -> Option<u16> {
     None
 }
 
-/// A row of bits for each of some numbers, kept the same both ways: bit b of row a is bit a of row b.
+/// A symmetric matrix of bits: one row for each number, and bit b of row a is always bit a of row b.
 #[derive(Drop)]
 pub struct Matrix {
     words: usize,
@@ -35,7 +35,7 @@ pub struct Matrix {
 }
 
 impl Matrix {
-    /// All bits clear. `count` should be at most 65,536; if it is more, no bit can be set.
+    /// A matrix with all bits clear. `count` should be at most 65,536; if it is more, no bit can be set.
     pub fn new(alloc: Global, count: u32) -> Result<Matrix, AllocError> {
         let words = if count <= 65_536 {
             (count as usize).div_ceil(64)

@@ -27,7 +27,7 @@ pub struct Placed<'a> {
     pub sole: &'a [Option<usize>],
 }
 
-/// A word that is fetched from its slot into a register one node before the one that takes it.
+/// A word that is fetched from its slot into a register one node before the node that takes it.
 #[derive(Clone, Copy)]
 struct Early {
     slot: u16,
@@ -35,8 +35,8 @@ struct Early {
 }
 
 impl Placed<'_> {
-    // The word that a node takes from a slot in addition to a constant set by the node in front of it. It is fetched before both, so that
-    // these two stay neighbours.
+    // The word that a node takes from a slot in addition to a constant set by the node before it. It is fetched before both, so
+    // that these two stay neighbours.
     fn early(self, at: usize) -> Option<Early> {
         let before = self.sole.get(at).copied().flatten()?;
         let shape = self.code.shape;
@@ -58,7 +58,8 @@ impl Placed<'_> {
 }
 
 impl Placed<'_> {
-    // The move of a web that a call cuts to its slot. None if the word is in the slot already, or stays in a register that the call keeps.
+    // The move that brings a web to its slot before a call that cuts it. None if the word is in the slot already, or stays in a
+    // register that the call keeps.
     fn leaving(self, crossing: Crossing) -> Option<Transfer> {
         let places = self.places;
         let kept = places.kept_register(crossing.before).is_some()
@@ -71,7 +72,7 @@ impl Placed<'_> {
         Some(Transfer { to, from })
     }
 
-    // The move of a web that a call cuts to its register after the call, if it has one.
+    // The move that brings a web back to its register after a call that cuts it, if it has a register.
     fn coming_back(self, crossing: Crossing) -> Option<Transfer> {
         let places = self.places;
         if !crossing.is_cut() {
@@ -133,7 +134,7 @@ fn no_draft(alloc: Global, placed: Placed<'_>) -> Draft<'_> {
     }
 }
 
-// Moves as a block takes them; no moves if there are more than a block can have.
+// The moves in the form in which a block takes them; no moves if there are more than a block can have.
 fn moves(alloc: Global, moves: Vec<Move>) -> Moves {
     match Moves::new(moves) {
         Ok(moves) => moves,
@@ -200,7 +201,7 @@ impl Draft<'_> {
         }
     }
 
-    // The registers of what is live after the node.
+    // The registers that hold what is live after the node.
     fn taken_behind(&self) -> Registers {
         self.placed
             .places
@@ -231,7 +232,7 @@ impl Draft<'_> {
         self.failed |= self.pending.push(Transfer { to, from }).is_err();
     }
 
-    // Does the pending moves before the operation, or after it. No register of `kept` is changed apart from their targets.
+    // Does the pending moves before the operation. Apart from their targets, no register of `kept` is changed.
     fn do_before(&mut self, kept: Registers) {
         match in_parallel(&mut self.pending, kept, &mut self.before) {
             Ok(true) => {}
@@ -370,7 +371,7 @@ impl Draft<'_> {
         }
     }
 
-    // A move of RTL needs only moves: two if it goes from slot to slot.
+    // For a move of RTL only moves are needed: two if it goes from slot to slot.
     fn copy(&mut self, register: u32) {
         match (self.result(), self.operand(register)) {
             (Some(to), Some(from)) => self.copy_place(to, from),
@@ -391,7 +392,7 @@ impl Draft<'_> {
         }
     }
 
-    // The moves of a block, and its operation.
+    // Makes the moves of a block, and its operation.
     fn draw(&mut self, node: &Node) -> Operation {
         let rtl = self.placed.code.shape.rtl;
         if self.at == rtl.entry() as usize {
@@ -422,7 +423,7 @@ impl Draft<'_> {
         operation_of(node, used)
     }
 
-    // The registers of an operation that may have any.
+    // The registers of an operation that may have any registers.
     fn used(&mut self, node: &Node) -> Used {
         let mut used = nothing_used();
         let [first, second] = operands(node);

@@ -1,4 +1,5 @@
-// Classes of numbers that are joined: a forest in which climbing a tree flattens it. The root of a tree is its least number.
+// Joins numbers into classes, with a forest whose trees are flattened when they are climbed. The root of a tree is its least
+// number.
 
 use std::alloc::{AllocError, Global};
 
@@ -9,7 +10,7 @@ pub struct Forest {
 }
 
 impl Forest {
-    /// Each number by itself. There should be fewer than 2^32; if there are more, no class is kept.
+    /// Each number in a class of its own. There should be fewer than 2^32 numbers; if there are more, no class is kept.
     pub fn new(alloc: Global, count: usize) -> Result<Forest, AllocError> {
         let count = u32::try_from(count).unwrap_or(0);
         let mut parents = Vec::with_capacity(alloc, count as usize)?;
@@ -19,7 +20,7 @@ impl Forest {
         Ok(Forest { parents })
     }
 
-    /// Makes one class of the classes of two numbers.
+    /// Joins the classes of two numbers.
     pub fn join(&mut self, a: usize, b: usize) {
         let a = self.root(a);
         let b = self.root(b);
@@ -47,7 +48,7 @@ impl Forest {
         Ok((classes, count))
     }
 
-    // The root of a number's tree. Each second number on the way is hung from the number two steps above it.
+    // The root of a number's tree. On the way, every second number is hung from the number two steps above it.
     fn root(&mut self, number: usize) -> usize {
         let mut at = number;
         for _ in 0..self.parents.len() {

@@ -27,8 +27,8 @@ pub struct Wish {
     pub weight: u32,
 }
 
-/// What is known about a web: the registers that it cannot have; how often it is read or set, and how often set; how often a call keeps it;
-/// how often it is a piece after a call, or before one; and the number of its last wish in the graph.
+/// What is known about a web: the registers that it cannot have; how often it is read or set, and how often only set; how often a
+/// call keeps it; how often it is a piece after a call, or before one; and the number of its last wish in the graph.
 #[derive(Clone, Copy)]
 pub struct Web {
     pub forbidden: Registers,
@@ -41,8 +41,8 @@ pub struct Web {
 }
 
 impl Web {
-    /// What a register would save if calls did not cut the web: each time that it is read or set, but not the moves from and to its slot at
-    /// calls. A web that nothing sets has its word in the slot already.
+    /// What a register would save if calls did not cut the web: a move each time that the web is read or set, but not the moves
+    /// from and to its slot at calls. A web that nothing sets has its word in the slot already.
     pub fn saves(&self) -> u32 {
         let stores = if self.set > 0 { self.left } else { 0 };
         self.cost
@@ -185,7 +185,7 @@ impl Graph {
         self.add_wishes(code, at, node, read)
     }
 
-    // A web that a call cuts is set after it; a web that it keeps whole can be in no register that the call destroys.
+    // A web that a call cuts is set after the call; a web that the call keeps whole can be in no register that the call destroys.
     fn add_crossings(&mut self, code: Code<'_>, at: usize, crossings: &[Crossing]) {
         let weight = code.shape.weight(at);
         for crossing in crossings {
@@ -198,7 +198,7 @@ impl Graph {
         }
     }
 
-    // What is set interferes with what is live afterwards, except with what it is a copy of.
+    // What a node sets interferes with what is live afterwards, except with what it is a copy of.
     fn add_edges(&mut self, behind: &[u32], set: u32, copied: Option<u32>) {
         for web in behind {
             if *web != set && Some(*web) != copied {
@@ -207,8 +207,8 @@ impl Graph {
         }
     }
 
-    // The registers that a read or a write overwrites by itself are forbidden to what is live after it, except to its result, and except to
-    // the word that it takes from there.
+    // The registers that a read or a write overwrites by itself are forbidden to what is live after it. The result of the node,
+    // and the word that it takes from such a register, are exceptions.
     fn forbid_overwritten(&mut self, code: Code<'_>, at: usize, node: &Node, read: Read) {
         match node {
             Node::Read { .. } => {
@@ -361,8 +361,8 @@ fn copied(node: &Node, read: Read) -> Option<u32> {
     }
 }
 
-// The web that the node after a constant sets, if that node reads the constant for the last time and its instruction may have the constant
-// as an immediate.
+// The web that the node after a constant sets, if that node is the last to read the constant and its instruction may have it as
+// an immediate.
 fn overwriting(code: Code<'_>, at: usize, constant: u32) -> Option<u32> {
     let behind = code.shape.behind(at)?;
     let node = code.shape.rtl.at(behind)?;

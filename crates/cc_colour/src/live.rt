@@ -2,7 +2,7 @@
 
 use cc_live::{Liveness, RegisterSet};
 
-/// The pseudo-registers that are live before each node. What is past a row's end, or past the last row, is not live.
+/// The pseudo-registers that are live before each node. What lies past a row's end, or past the last row, is not live.
 #[derive(Clone, Copy)]
 pub struct Live<'a> {
     words: usize,
@@ -25,7 +25,7 @@ impl<'a> Live<'a> {
         self.words
     }
 
-    /// A word of a node's row.
+    /// One word of a node's row.
     pub fn word(self, node: usize, word: usize) -> u64 {
         match self.sets.get(node) {
             Some(set) => set.words().get(word).copied().unwrap_or(0),

@@ -1,4 +1,4 @@
-// What a node reads, what it writes, where it leads, and how often it may be executed.
+// What a node reads, what it writes, where it leads, and an estimate of how often it is executed.
 //
 // Nodes are known by their places in the list of a function's nodes, from 0 on.
 
@@ -33,12 +33,12 @@ impl Shape<'_> {
         }
     }
 
-    /// How often a node may be executed.
+    /// An estimate of how often a node is executed.
     pub fn weight(&self, node: usize) -> u32 {
         self.weights.get(node).copied().unwrap_or(1)
     }
 
-    /// The register that a call sets, if any, and the place after the call; None for another node.
+    /// For a call, the register that it sets, if any, and the place after it; None for another node.
     pub fn call(&self, node: usize) -> Option<(Option<u32>, usize)> {
         let behind = self.behind(node)?;
         match self.rtl.at(node)? {
@@ -58,7 +58,7 @@ pub fn next_places(alloc: Global, rtl: &Rtl) -> Result<Vec<Next>, AllocError> {
     Ok(all)
 }
 
-/// The only place that leads to each node; None if several places do, or none. Err: memory ran out.
+/// For each node, the only place that leads to it; None if several places do, or none does. Err: memory ran out.
 pub fn sole_places(alloc: Global, next: &[Next]) -> Result<Vec<Option<usize>>, AllocError> {
     let mut sole = vec![in alloc; None; next.len()]?;
     let mut is_led_to = vec![in alloc; false; next.len()]?;
@@ -81,7 +81,7 @@ fn lead_to(sole: &mut [Option<usize>], is_led_to: &mut [bool], at: usize, place:
     }
 }
 
-// The place of a label: they are the same number.
+// The place that has this label: a place and its label are the same number.
 fn place_of(rtl: &Rtl, label: Option<u32>) -> Option<usize> {
     let place = label? as usize;
     if place < rtl.len() { Some(place) } else { None }
@@ -126,7 +126,7 @@ pub fn result(node: &Node) -> Option<u32> {
     }
 }
 
-/// The pseudo-registers that a node other than a call reads, in their order: two at most.
+/// The pseudo-registers that a node other than a call reads, in their order: at most two.
 pub fn operands(node: &Node) -> [Option<u32>; 2] {
     match node {
         Node::Move { from: one, .. }
@@ -151,7 +151,7 @@ pub fn operands(node: &Node) -> [Option<u32>; 2] {
     }
 }
 
-/// How often each node may be executed: 1, and ten times as often for each loop around it, up to four loops. A loop is everything from a
+/// An estimate of how often each node is executed: 1, times 10 for each loop around it, up to four loops. A loop is everything from a
 /// node to the last node after it that leads back to it. Err: memory ran out.
 pub fn weights(alloc: Global, next: &[Next]) -> Result<Vec<u32>, AllocError> {
     let mut weights = vec![in alloc; 1; next.len()]?;
@@ -182,7 +182,7 @@ fn has_loop(next: &[Next]) -> bool {
     false
 }
 
-// Puts the weight of each node, by the ends of the loops that begin at each node. Counts how many loops end at each node.
+// Fills in the weight of each node, given the ends of the loops that begin there. Counts how many loops end at each node.
 fn put_weights(ends: &[Option<usize>], leaves: &mut [u32], weights: &mut [u32]) {
     let mut depth = 0u32;
     for (at, weight) in weights.iter_mut().enumerate() {
@@ -197,7 +197,7 @@ fn put_weights(ends: &[Option<usize>], leaves: &mut [u32], weights: &mut [u32]) 
     }
 }
 
-// The last node that leads back to each node, if there is one.
+// For each node, the last node that leads back to it, if there is one.
 fn loop_ends(alloc: Global, next: &[Next]) -> Result<Vec<Option<usize>>, AllocError> {
     let mut ends = vec![in alloc; None; next.len()]?;
     for (at, heads) in next.iter().enumerate() {
@@ -227,8 +227,8 @@ fn ten_to(depth: u32) -> u32 {
     }
 }
 
-/// What an operation takes from another register than this one, if it takes a constant from this one that its instruction may have as an
-/// immediate.
+/// The left operand of an operation, if its right operand is `constant`, the left one is another register, and the instruction
+/// may have the constant as an immediate.
 pub fn beside_constant(node: &Node, constant: u32) -> Option<u32> {
     match node {
         Node::Binary {

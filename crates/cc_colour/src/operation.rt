@@ -4,8 +4,8 @@ use crate::registers::{DUMMY, numbered};
 use cc_ltl::{Operation, Register};
 use cc_rtl_language::Node;
 
-/// The registers of an operation: those of its operands in their order, and that of its result. For an operand or result that it does not
-/// have, any register.
+/// The registers of an operation: those of its operands in their order, and that of its result. An operand or result that it does
+/// not have may be given any register.
 #[derive(Clone, Copy)]
 pub struct Used {
     pub first: Register,
@@ -13,7 +13,7 @@ pub struct Used {
     pub to: Register,
 }
 
-/// Any registers, for a node without operands and result.
+/// Arbitrary registers, for a node without operands and without a result.
 pub fn nothing_used() -> Used {
     let any = numbered(DUMMY);
     Used {
@@ -23,7 +23,7 @@ pub fn nothing_used() -> Used {
     }
 }
 
-/// The operation of a node on these registers.
+/// The operation of a node with these registers.
 pub fn operation_of(node: &Node, used: Used) -> Operation {
     match node {
         Node::Nop { next } | Node::Move { next, .. } => Operation::Nop { next: *next },

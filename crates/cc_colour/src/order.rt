@@ -1,9 +1,9 @@
 // The order in which webs get their registers (Chaitin, Briggs).
 //
-// A web with fewer interferences than there are registers for it gets one, whatever the others have. It is taken out, and each web that it
-// interfered with has one interference less. If no such web is left, the web whose slot would cost least per interference is taken out, in
-// the hope that some of its neighbours will share a register. Registers are then chosen in the opposite order. A web to which a register
-// would save nothing is taken out first, and gets none.
+// A web with fewer interferences than there are registers for it gets one, whatever the others have. It is taken out, and each
+// web that it interfered with has one interference fewer. If no such web is left, the web whose slot would cost least per
+// interference is taken out, in the hope that some of its neighbours will share a register. Registers are then chosen in the
+// opposite order. A web to which a register would save nothing is taken out first, and gets none.
 
 use crate::interference::{Graph, Web};
 use crate::registers::{ALL, Registers};
@@ -36,7 +36,7 @@ pub fn colouring_order(
     Ok(order)
 }
 
-// The webs that are left: how many of them each one interferes with, which are taken out, and those that get a register for sure.
+// The webs that are left: with how many of them each one interferes, which webs are taken out, and which get a register for sure.
 #[derive(Drop)]
 struct Left<'a> {
     graph: &'a Graph,
@@ -88,7 +88,7 @@ impl<'a> Left<'a> {
         Ok(true)
     }
 
-    // Notes that a web has one interference less.
+    // Notes that a web has one interference fewer.
     fn lessen(&mut self, web: u32) -> Result<(), AllocError> {
         if let Some(known) = self.graph.webs.get(web as usize)
             && let Some(degree) = self.degrees.get_mut(web as usize)
@@ -117,7 +117,7 @@ impl<'a> Left<'a> {
         Ok(keys)
     }
 
-    // Finds the webs that get a register for sure; the cheapest come last.
+    // Finds the webs that get a register for sure, the cheapest last.
     fn find_easy(&mut self, by_cost: &[(u64, u32)]) -> Result<(), AllocError> {
         for (_, web) in by_cost.iter().rev() {
             if let Some(known) = self.graph.webs.get(*web as usize)
@@ -131,7 +131,7 @@ impl<'a> Left<'a> {
     }
 }
 
-// How many registers a web may have.
+// How many registers are possible for a web.
 fn choices(web: &Web, reserved: Registers) -> u32 {
     (ALL & !web.forbidden & !reserved).count_ones()
 }

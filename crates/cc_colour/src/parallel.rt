@@ -1,7 +1,8 @@
-// Puts moves that should happen all at once in an order in which they can be done one after the other.
+// Orders moves that should happen all at once, so that they can be done one after the other.
 //
-// A move may be done when no other move still reads the place that it writes. If no move may be done, each of them is on a cycle of
-// registers: one register is copied to a spare one, which is read in its place from then on, and the move into it may be done.
+// A move may be done when no other move still reads the place that it writes. If no move may be done, each of them is on a cycle
+// of registers: one register is copied to a spare register, which is read instead of it from then on, and the move into that
+// register may be done.
 
 use crate::registers::{Place, Registers, first_free, numbered, numbered_slot, only};
 use cc_ltl::Move;
@@ -14,8 +15,9 @@ pub struct Transfer {
     pub from: Place,
 }
 
-/// Adds moves that do all the pending ones, which write different places. No register of `kept` is changed apart from their targets.
-/// Answers whether there was a spare register for each cycle; if not, some moves are left out. Err: memory ran out.
+/// Adds to `into` moves that do all the pending ones, which write different places. Apart from their targets, no register of
+/// `kept` is changed. Answers whether there was a spare register for each cycle; if not, some moves are left out. Err: memory ran
+/// out.
 pub fn in_parallel(
     pending: &mut Vec<Transfer>,
     kept: Registers,
@@ -41,7 +43,7 @@ pub fn in_parallel(
     Ok(true)
 }
 
-/// Adds one move. There is no move from slot to slot: nothing is added then. Err: memory ran out.
+/// Adds one move. A move from slot to slot does not exist: then nothing is added. Err: memory ran out.
 pub fn push_move(into: &mut Vec<Move>, transfer: Transfer) -> Result<(), AllocError> {
     match as_move(transfer) {
         Some(one) => put(into, one),
@@ -76,7 +78,7 @@ fn put(into: &mut Vec<Move>, one: Move) -> Result<(), AllocError> {
     Ok(())
 }
 
-// The first move that changes nothing, or whose target no other reads.
+// The first move that changes nothing, or whose target no other move reads.
 fn ready(pending: &[Transfer]) -> Option<usize> {
     for (at, transfer) in pending.iter().enumerate() {
         if transfer.to.is(transfer.from) || !is_read(pending, transfer.to) {
@@ -95,8 +97,8 @@ fn is_read(pending: &[Transfer], place: Place) -> bool {
     false
 }
 
-// Copies the register that the first move reads to a spare one, which is read in its place from now on. Answers whether there was a spare
-// register; if there is no move, the answer is yes.
+// Copies the register that the first move reads to a spare register, which is read instead of it from now on. Answers whether
+// there was a spare register; if there is no move, the answer is yes.
 fn turn_aside(
     pending: &mut [Transfer],
     kept: Registers,

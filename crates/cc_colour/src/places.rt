@@ -1,5 +1,5 @@
-// The place of each web: its register, or the slot of the whole web to which the piece belongs. No whole web that interferes with that one
-// has the same slot.
+// The place of each web: its register, or the slot of the whole web to which the piece belongs. Whole webs that interfere with
+// each other have different slots.
 
 use crate::bits::{first_clear, set_bit};
 use crate::interference::{Code, Graph, Web};
@@ -10,10 +10,10 @@ use cc_ltl::MOST_SLOTS;
 use cc_rtl_language::Node;
 use std::alloc::{AllocError, Global};
 
-/// The words of a row with a bit for each slot.
+/// How many words a row with one bit for each slot has.
 const SLOT_WORDS: usize = 8;
 
-/// The place of each web, and which webs may hold another word than their slot does.
+/// The place of each web, and which webs may hold a word that their slot does not have.
 #[derive(Drop)]
 pub struct Places<'a> {
     choice: Choice,
@@ -24,7 +24,7 @@ pub struct Places<'a> {
 }
 
 impl<'a> Places<'a> {
-    /// The places of webs, from their chosen registers, the whole web of each, and the graph of whole webs. Err: memory ran out.
+    /// The places of webs, given their chosen registers, the whole web of each, and the graph of whole webs. Err: memory ran out.
     pub fn of(
         alloc: Global,
         code: Code<'_>,
@@ -43,7 +43,7 @@ impl<'a> Places<'a> {
         if places.want_slots(pieces) {
             places.put_slots(alloc, pieces, whole)?;
         }
-        // A whole web never leaves its place at a call, so nobody asks whether it is dirty.
+        // A whole web never leaves its place at a call, so it is never asked whether it is dirty.
         if !origins.are_same() {
             places.find_dirty(alloc, code, pieces)?;
         }
@@ -76,7 +76,7 @@ impl<'a> Places<'a> {
         self.slot_of(self.origins.of(web))
     }
 
-    /// Whether a web may hold another word than its slot does.
+    /// Whether a web may hold a word that its slot does not have.
     pub fn is_dirty(&self, web: u32) -> bool {
         self.dirty.get(web as usize).copied().unwrap_or(true)
     }
@@ -152,7 +152,7 @@ impl<'a> Places<'a> {
         Ok(wanted)
     }
 
-    // Gives a web the first slot that no whole web of a row of bits has.
+    // Gives a whole web the first slot that no web of the row `beside` has.
     fn put_slot(&mut self, origin: u32, beside: &[u64]) {
         let mut taken = [0u64; SLOT_WORDS];
         let mut base = 0u32;
@@ -177,7 +177,8 @@ impl<'a> Places<'a> {
         }
     }
 
-    // A word that a node sets is not in its slot yet, and a word that came over a call in a register was not stored there.
+    // Finds the dirty webs. A word that a node sets is not in its slot yet, and a word that came over a call in a register was
+    // not stored there.
     fn find_dirty(
         &mut self,
         alloc: Global,

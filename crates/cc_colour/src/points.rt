@@ -1,9 +1,10 @@
-// Points: a pseudo-register before a node at which it is live. The number of a point is the number of set bits before its own in the rows.
+// Points. A point is a pseudo-register before a node at which it is live; its number is the number of set bits before its own in
+// the rows.
 
 use crate::live::Live;
 use std::alloc::{AllocError, Global};
 
-/// The points of a function: the number of each node's first point, and at the end the number of all points.
+/// The points of a function: for each node the number of its first point, and at the end the number of all points.
 #[derive(Drop)]
 pub struct Points {
     firsts: Vec<usize>,
@@ -49,7 +50,8 @@ impl Points {
         Some(point.saturating_add(ones(bits & bit.wrapping_sub(1))))
     }
 
-    /// Fills a list with the two points of each register that is live before both nodes, except one register. Err: memory ran out.
+    /// Fills a list with pairs of points: those of each register that is live before both nodes, except one register. Err: memory
+    /// ran out.
     pub fn common(
         &self,
         live: Live<'_>,
@@ -84,7 +86,7 @@ struct Row {
 }
 
 impl Row {
-    // The point after a bit, which is the next one in the word; the same point if the bit is not set.
+    // The point that comes after a bit, which belongs to the next one in the word; the same point if the bit is not set.
     fn past(self, bit: u64) -> usize {
         if self.bits & bit == 0 {
             self.first

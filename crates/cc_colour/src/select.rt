@@ -1,14 +1,14 @@
 // Which register each web gets.
 //
-// Of the registers that no interfering web has, a web takes the one that saves the most moves. Its own wishes count for a register. The
-// wishes of interfering webs that have none yet count against it, and so does the cost of a register that the function would have to save.
-// A web has a slot if no register is left for it, or if a slot is cheaper.
+// A web takes the register that saves the most moves, out of those that no interfering web has. Its own wishes count for a
+// register. The wishes of interfering webs that have none yet count against it, and so does the cost of a register that the
+// function would have to save. A web has a slot if no register is left for it, or if a slot is cheaper.
 
 use crate::interference::{Graph, Partner, Web};
 use crate::registers::{ALL, DESTROYED, ORDER, Registers, contains, only};
 use std::alloc::{AllocError, Global};
 
-/// The cost of saving a register and restoring it.
+/// What it costs to save a register and restore it.
 pub const SAVING: u32 = 2;
 
 // What was chosen for a web, or that it will be chosen later.
@@ -27,7 +27,7 @@ pub struct Choice {
 }
 
 impl Choice {
-    /// Chooses for the webs in their order. No web gets a register of `reserved`. Err: memory ran out.
+    /// Chooses for the webs, in the given order. No web gets a register of `reserved`. Err: memory ran out.
     pub fn of(
         alloc: Global,
         graph: &Graph,
@@ -102,7 +102,7 @@ impl Choice {
         }
     }
 
-    // The register of a set that saves most; the first, if there are several.
+    // The register in a set that saves the most moves; the first, if there are several.
     fn highest(&self, scores: &Scores, left: Registers) -> Option<u8> {
         let mut best = None;
         let mut most = i64::MIN;
@@ -118,7 +118,7 @@ impl Choice {
                     most = score;
                 }
                 rest &= !only(register);
-                // Registers for which nothing was counted cannot score more.
+                // Registers for which nothing was counted cannot have a higher score.
                 if most >= 0 {
                     rest &= scores.counted;
                 }
@@ -141,7 +141,7 @@ impl Choice {
         !contains(DESTROYED | self.saved, register)
     }
 
-    // Counts for a web the wishes of the webs with which it would share a register and that have none yet.
+    // Counts the wishes of webs that have no register yet and with which this web would share one.
     fn count_partners(&self, scores: &mut Scores, graph: &Graph, web: &Web) {
         let mut at = web.last_wish;
         for _ in 0..graph.wishes() {
@@ -157,8 +157,8 @@ impl Choice {
         }
     }
 
-    // Counts against each register the wishes that interfering webs without a register have for it, and answers the registers of the
-    // others.
+    // Counts against each register the wishes for it by interfering webs that have no register yet, and answers the registers of
+    // the other interfering webs.
     fn count_beside(&self, scores: &mut Scores, graph: &Graph, beside: &[u64]) -> Registers {
         let mut taken = 0;
         let mut base = 0u32;
@@ -187,7 +187,7 @@ impl Choice {
         }
     }
 
-    // A web for which nothing was chosen yet.
+    // The web, if nothing was chosen for it yet.
     fn undecided<'a>(&self, graph: &'a Graph, web: u32) -> Option<&'a Web> {
         match self.chosen.get(web as usize) {
             Some(Chosen::Later) => graph.webs.get(web as usize),

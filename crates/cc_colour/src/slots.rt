@@ -7,8 +7,8 @@ use cc_ltl::{MOST_SLOTS, Slot};
 use cc_rtl_language::{Node, Rtl};
 use std::marker::Model;
 
-/// A slot for each pseudo-register of a function: slot i for pseudo-register i as long as there are slots, and the last one for all others.
-/// Contracts see the number of the last slot.
+/// A slot for each pseudo-register of a function: slot i for pseudo-register i as long as there are slots, and the last slot for
+/// all others. Contracts see the number of the last slot.
 #[derive(Clone, Copy)]
 pub struct Slots {
     last: u16,
@@ -28,7 +28,7 @@ impl Model for Slots {
 }
 
 impl Slots {
-    /// The slots of a function: up to that of its highest pseudo-register.
+    /// The slots of a function, up to the slot of its highest pseudo-register.
     pub fn of(rtl: &Rtl) -> Slots {
         let mut slots = Slots { last: 0 };
         if rtl.parameters() > 0 {

@@ -1,7 +1,7 @@
-// Each pseudo-register in a slot of its own.
+// Keeps each pseudo-register in a slot of its own.
 //
-// A block reloads its operands, does its operation, and spills the result; at entry the parameters go to their slots. So no word stays in a
-// register from block to block, and only a function with more pseudo-registers than slots is refused.
+// A block reloads its operands, does its operation, and spills the result; at entry the parameters go to their slots. So no word
+// stays in a register from block to block, and only a function with more pseudo-registers than slots is refused.
 
 ghost use Rattle.std.specs.Prelude.{◌≡◌, ◌<◌, ◌≤◌, ◌^◌, length, IfOk};
 
@@ -31,7 +31,7 @@ pub fn spill_all(alloc: Global, rtl: &Rtl) -> Result<Ltl, AllocError> {
     }
 }
 
-// LTL that does nothing. It is never needed, since the blocks above are those of an LTL, but nothing depends on that.
+// An LTL that does nothing. It is never needed, since the blocks above always make an LTL, but nothing depends on that.
 fn no_blocks(alloc: Global, entry: u32) -> Result<Ltl, AllocError> {
     match Ltl::new(0, entry, Vec::new(alloc)) {
         Ok(ltl) => Ok(ltl),
@@ -180,7 +180,7 @@ fn scratch() -> Used {
     }
 }
 
-// Calls keep neither of these two registers, and no argument is in them.
+// A call preserves neither of these two registers, and neither holds an argument.
 fn left() -> Register {
     register(28)
 }

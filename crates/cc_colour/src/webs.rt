@@ -1,11 +1,12 @@
-// Webs: what one location is chosen for.
+// Webs: a web is what one location is chosen for.
 //
-// If a node leads to another and keeps a register that is live before both, the register's two points need the same location, so they
-// belong to one web. A register that is used for several values in turn, as temporaries are, falls into several webs, each with a location
-// of its own. A result that nobody reads is a web without points.
+// If a node leads to another and keeps a register that is live before both, the register's two points need the same location, so
+// they belong to one web. A register that is used for several values in turn, as temporaries are, falls into several webs, each
+// with a location of its own. A result that nobody reads is a web without points.
 //
-// A web may be cut at calls. Its points before a call and after it are then not joined, so it can be in one place before the call and in
-// another after it, with a slot in between. A web that is not cut is whole; the pieces of a whole web have it as their origin.
+// A web may be cut at calls. Its points before a call and after it are then not joined, so it can be in one place before the call
+// and in another after it, with a slot in between. A web that is not cut is whole; the pieces of a whole web have it as their
+// origin.
 
 use crate::forest::Forest;
 use crate::nodes::{Shape, result};
@@ -70,7 +71,7 @@ pub struct Origins {
 }
 
 impl Origins {
-    /// The origins of webs that are whole. They take no memory.
+    /// The origins if all webs are whole. They take no memory.
     pub fn same(alloc: Global) -> Origins {
         Origins {
             origins: Vec::new(alloc),
@@ -184,7 +185,7 @@ impl Webs {
         Ok(())
     }
 
-    // A result belongs to the web that goes on after its node, or to a new one.
+    // Finds the web of each result: the web that goes on after its node, or a new one.
     fn find_results(&mut self, shape: &Shape<'_>) -> Result<(), AllocError> {
         for at in 0..shape.rtl.len() {
             let web = match result(shape.rtl.node(at)) {
@@ -221,7 +222,8 @@ fn put_origin(origins: &mut [u32], piece: Option<u32>, web: Option<u32>) {
     }
 }
 
-// Joins the points of each register that a node keeps, before it and before each node to which it leads, unless they are cut.
+// Joins the points of each register that a node keeps, before the node and before each node to which it leads, unless they are
+// cut.
 fn join_all(
     alloc: Global,
     shape: &Shape<'_>,

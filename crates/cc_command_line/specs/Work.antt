@@ -6,17 +6,17 @@ use Rattle.cc_command_line.specs.declared.command_line.Work.TheVariants.{One, St
 use Rattle.cc_command_line.specs.declared.keeping.Keeping.{Keeping}
 use Rattle.cc_command_line.specs.declared.keeping.Keeping.TheVariants.{Call, Size, Diff, Log, Restore, Copy}
 
--- how many bytes an area may have, where one is to be made
+-- how many bytes an area may have, if an area is to be made
 abbrev pub IsArea : Option ℕ → Type 0
 IsArea None = Unit {0}
 IsArea (Some area) = (64 ≤ area) × (area ≤ 1073741824)
 
--- for how many seconds a script waits, where that is given
+-- how many seconds a script may wait, if that is given
 abbrev pub IsWait : Option ℕ → Type 0
 IsWait None = Unit {0}
 IsWait (Some seconds) = (1 ≤ seconds) × (seconds ≤ 86400)
 
--- what looks into libraries: a run is bounded, and an area within its limits
+-- for the commands that look into libraries: a run is bounded, and an area is within its limits
 abbrev pub IsBoundedLook : Keeping → Type 0
 IsBoundedLook (Call asked) = asked.steps ≤ 1000000000
 IsBoundedLook (Size asked) = Unit {0}

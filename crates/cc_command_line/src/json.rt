@@ -1,32 +1,25 @@
-// Whether all is printed as JSON.
+// The option that prints everything as JSON, and the work that it goes with.
 
 use crate::command_line::Work;
 use crate::keeping::Keeping;
+use crate::row::{Form, Word};
 use cc_task::Task;
-use clap::{Arg, ArgAction, Command};
-use std::alloc::{AllocError, Global};
 
-pub(crate) const JSON: &str = "json";
+pub(crate) const JSON: Word = Word(
+    "json",
+    Form::Global,
+    "Print answers and explanations as JSON, an object a line",
+);
 
 pub(crate) const JSON_RULE: &str =
-    "--json goes with check, interpret, run, size, safe, call, diff, log, library, and submit but for its lines `image` and `source`";
-
-/// The command with the option.
-pub(crate) fn with_json<'a>(alloc: Global, whole: Command<'a>) -> Result<Command<'a>, AllocError> {
-    let json = Arg::new(alloc, JSON)
-        .long(JSON)
-        .action(ArgAction::SetTrue)
-        .global(true)
-        .help("Print answers and explanations as JSON, an object a line");
-    whole.arg(json)
-}
+    "--json goes with check, interpret, run, size, safe, call, diff, log, library, and submit except its lines `image` and `source`";
 
 // Whether the answer to a line of a script is a text as it was stored.
 fn asks_text(line: &str) -> bool {
     line.starts_with("image ") || line.starts_with("source ")
 }
 
-/// Whether a work can be printed as JSON.
+/// Whether this work can be printed as JSON.
 pub(crate) fn is_told_in_json(work: &Work) -> bool {
     match work {
         Work::One(task) => !matches!(task, Task::Asm(_) | Task::Image(_)),

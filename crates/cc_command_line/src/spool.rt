@@ -3,58 +3,45 @@
 ghost use Rattle.std.specs.Prelude.{◌≤◌, IfOk, IfSome};
 ghost use Rattle.cc_command_line.specs.Work.{IsAllowed};
 
-use crate::command_line::{Work, checked_session, kind_of};
-use crate::files::with_file;
-use crate::library::{
-    AREA_RULE, FORMAT, LEAST_AREA, MOST_AREA, MOST_WORKERS, PATH_RULE, WORKERS, WORKERS_RULE,
-    option, path_of, workers_option,
+use crate::command_line::Work;
+use crate::files::FILE;
+use crate::given::{
+    ALL_CHECKED, DISK, FORMAT, WORKERS, area_if_given, kind_of, number_if_given, number_of,
+    path_of, workers_of,
 };
-use crate::numbers::number_in;
+use crate::refused::Refused;
+use crate::row::{Form, Row, Word};
 use cc_task::Kind;
-use clap::error::ErrorKind;
-use clap::{Arg, ArgMatches, Command, Error};
+use clap::ArgMatches;
 use std::alloc::{AllocError, Global};
 
-/// The most clients of a server: scripts that are done at a time.
-pub const MOST_CLIENTS: u64 = 64;
+/// A server has at most this many clients: scripts that are run at a time.
+const MOST_CLIENTS: u64 = 64;
 
-/// The most days for which a server keeps answers.
-pub const MOST_DAYS: u64 = 3650;
+/// A server keeps answers for at most this many days.
+const MOST_DAYS: u64 = 3650;
 
-/// The fewest and the most bytes of answers that a server keeps before it lets old ones go: 1 MiB and 1 TiB.
-pub const LEAST_DONE: u64 = 1_048_576;
+/// A server keeps answers up to a number of bytes before it removes old ones. The number is at least this: 1 MiB.
+const LEAST_DONE: u64 = 1_048_576;
 
-pub const MOST_DONE: u64 = 1_099_511_627_776;
+/// That number is at most this: 1 TiB.
+const MOST_DONE: u64 = 1_099_511_627_776;
 
-/// The most seconds for which a script may be at work while others wait.
-pub const MOST_PATIENCE: u64 = 86_400;
+/// A script may be at work for at most this many seconds while others wait.
+const MOST_PATIENCE: u64 = 86_400;
 
-/// The most seconds for which a script waits for a server.
-pub const MOST_WAIT: u64 = 86_400;
-
-const CLIENTS: &str = "clients";
+/// A script waits for a server for at most this many seconds.
+const MOST_WAIT: u64 = 86_400;
 
 const CLIENTS_RULE: &str = "N is a decimal number from 1 to 64";
 
-const KEEP: &str = "keep";
-
 const KEEP_RULE: &str = "DAYS is a decimal number from 1 to 3650";
-
-const DONE: &str = "done";
 
 const DONE_RULE: &str = "BYTES is a decimal number from 1048576 to 1099511627776";
 
-const PATIENCE: &str = "patience";
-
 const PATIENCE_RULE: &str = "SECONDS is a decimal number from 1 to 86400";
 
-const WAIT: &str = "wait";
-
 const WAIT_RULE: &str = "SECONDS is a decimal number from 1 to 86400";
-
-const COMMAND: &str = "COMMAND";
-
-const WAS: &str = "was";
 
 const WAS_RULE: &str =
     "`update NAME` takes --was OLDFILE, a file with the source that is to be replaced, and no other line does";
@@ -76,7 +63,7 @@ Example:
   cclib serve units.disk spool --format 1048576";
 
 // ORDER ScriptCommand
-// The same for `submit`.
+// What a person reads below the options of `submit`.
 const SUBMIT_HELP: &str = "\
 Without a COMMAND the script comes on standard input. A COMMAND is one line of a script:
   add NAME           the source comes on standard input
@@ -101,27 +88,95 @@ Exit status: 0 for an answer, 1 where a line of it is a fault, 2 for a command l
 Example:
   cclib submit spool add quotient < examples/quotient.c";
 
-/// A server: it does the scripts that are left in a folder, over the library in a file.
+pub(crate) static SERVE: Row = Row {
+    name: "serve",
+    whole: "cclib serve",
+    about: "Serve the scripts that others leave in a folder, many at a time, over a library in a file",
+    words: &[
+        DISK,
+        Word(
+            "FOLDER",
+            Form::Required,
+            "The folder in which scripts are left",
+        ),
+        Word(
+            FORMAT,
+            Form::Value("AREA"),
+            "Make the file if it is not there, with room for AREA bytes of records: 64 to 1073741824",
+        ),
+        WORKERS,
+        Word(
+            "clients",
+            Form::Default("N", "4"),
+            "How many scripts are done at a time: 1 to 64",
+        ),
+        Word(
+            "keep",
+            Form::Default("DAYS", "7"),
+            "For how many days answers that nobody took away are kept: 1 to 3650",
+        ),
+        Word(
+            "done",
+            Form::Default("BYTES", "1073741824"),
+            "How many bytes of answers are kept before the oldest go: 1048576 to 1099511627776",
+        ),
+        Word(
+            "patience",
+            Form::Default("SECONDS", "600"),
+            "For how long a script may be at work while others wait: 1 to 86400",
+        ),
+        ALL_CHECKED,
+    ],
+    help: SERVE_HELP,
+};
+
+pub(crate) static SUBMIT: Row = Row {
+    name: "submit",
+    whole: "cclib submit",
+    about: "Leave a script for a server, wait for its answer and print it",
+    words: &[
+        Word(
+            "FOLDER",
+            Form::Required,
+            "The folder in which a server looks for scripts",
+        ),
+        Word(
+            "wait",
+            Form::Value("SECONDS"),
+            "Take the script back if no server begins it in so many seconds: 1 to 86400",
+        ),
+        Word(
+            "was",
+            Form::Value("OLDFILE"),
+            "The file with the source that `update` is to replace",
+        ),
+        Word("COMMAND", Form::Several, "A line of a script"),
+        FILE,
+    ],
+    help: SUBMIT_HELP,
+};
+
+/// A server: it runs the scripts that are left in a folder over the library in a file.
 #[derive(Drop)]
 pub struct Server {
     /// The path of the file.
     pub disk: String,
     /// The path of the folder.
     pub folder: String,
-    /// How many bytes each of two areas has, where the file is to be made if it is not there: 64 to 1,073,741,824.
+    /// How many bytes each of two areas has, if the file is to be made because it is not there: 64 to 1,073,741,824.
     pub area: Option<u32>,
     /// How many threads compile: 1 to 8.
     pub workers: usize,
     /// How the images of the server are compiled.
     pub kind: Kind,
-    /// How many scripts are done at a time: 1 to 64.
+    /// How many scripts are run at a time: 1 to 64.
     pub clients: usize,
     /// For how many days answers that nobody took away are kept: 1 to 3,650.
     pub keep: u32,
     /// How many bytes of answers are kept before the oldest go: 1 MiB to 1 TiB.
     pub done: u64,
-    /// For how many seconds a script may be at work while others wait for a client, or the end of a generation or of the server waits for it: 1 to
-    /// 86,400.
+    /// For how many seconds a script may be at work while other scripts wait for a client, or while the end of a generation or of the server
+    /// waits for it: 1 to 86,400.
     pub patience: u32,
 }
 
@@ -130,198 +185,87 @@ pub struct Server {
 pub struct Submitter {
     /// The path of the folder.
     pub folder: String,
-    /// The line of a script, whose source is on standard input where it takes one. Where it is not given the script is on standard input.
+    /// The line of a script, whose source is on standard input if it takes one. If it is not given, the script is on standard
+    /// input.
     pub line: Option<String>,
-    /// The words behind the three of a line `call`, with a space between two: its input. It is given just where the line's first word is `call`.
+    /// The words after the three of a line `call`, with a space between two: its input. It is given exactly if the line's first
+    /// word is `call`.
     pub input: Option<String>,
-    /// The path of the file with the source that a line `update` is to replace. It is given just where the line's first word is `update`.
+    /// The path of the file with the source that a line `update` is to replace. It is given exactly if the line's first word is
+    /// `update`.
     pub was: Option<String>,
-    /// For how many seconds it waits, whether or not a server is there, where that is given: 1 to 86,400.
+    /// For how many seconds it waits, whether or not a server is there, if that is given: 1 to 86,400.
     pub wait: Option<u32>,
 }
 
-/// The command `serve` with its options.
-pub(crate) fn serve_command<'a>(alloc: Global) -> Result<Command<'a>, AllocError> {
-    let disk = Arg::new(alloc, "DISK")
-        .required(true)
-        .help("The file that has the library");
-    let folder = Arg::new(alloc, "FOLDER")
-        .required(true)
-        .help("The folder in which scripts are left");
-    let area = option(
-        alloc,
-        FORMAT,
-        "AREA",
-        "Make the file where it is not there, with room for AREA bytes of records: 64 to 1073741824",
-    );
-    let clients = option(
-        alloc,
-        CLIENTS,
-        "N",
-        "How many scripts are done at a time: 1 to 64",
-    );
-    let keep = option(
-        alloc,
-        KEEP,
-        "DAYS",
-        "For how many days answers that nobody took away are kept: 1 to 3650",
-    );
-    let done = option(
-        alloc,
-        DONE,
-        "BYTES",
-        "How many bytes of answers are kept before the oldest go: 1048576 to 1099511627776",
-    );
-    let patience = option(
-        alloc,
-        PATIENCE,
-        "SECONDS",
-        "For how long a script may be at work while others wait: 1 to 86400",
-    );
-    let begun = Command::new(alloc, "serve")
-        .about(
-            "Do the scripts that others leave in a folder, many at a time, over a library in a file",
-        )
-        .after_help(SERVE_HELP)
-        .arg(disk)?
-        .arg(folder)?;
-    let begun = begun.arg(area)?.arg(workers_option(alloc))?;
-    begun
-        .arg(clients.default_value("4"))?
-        .arg(keep.default_value("7"))?
-        .arg(done.default_value("1073741824"))?
-        .arg(patience.default_value("600"))?
-        .arg(checked_session(alloc))
+// The limits of a server. Each has a default.
+struct Limits {
+    clients: usize,
+    keep: u32,
+    done: u64,
+    patience: u32,
 }
 
-/// The command `submit` with its options.
-pub(crate) fn submit_command<'a>(alloc: Global) -> Result<Command<'a>, AllocError> {
-    let folder = Arg::new(alloc, "FOLDER")
-        .required(true)
-        .help("The folder in which a server looks for scripts");
-    let wait = option(
-        alloc,
-        WAIT,
-        "SECONDS",
-        "Take the script back where no server began it in so many seconds: 1 to 86400",
-    );
-    let words = Arg::new(alloc, COMMAND)
-        .num_args(0..)
-        .help("A line of a script");
-    let was = option(
-        alloc,
-        WAS,
-        "OLDFILE",
-        "The file with the source that `update` is to replace",
-    );
-    let begun = Command::new(alloc, "submit")
-        .about("Leave a script for a server, wait for its answer and print it")
-        .after_help(SUBMIT_HELP)
-        .arg(folder)?
-        .arg(wait)?
-        .arg(was)?
-        .arg(words)?;
-    with_file(alloc, begun)
-}
-
-// The error of clap for a value that breaks this rule.
-fn refused_serve(alloc: Global, rule: &'static str) -> Result<Error, AllocError> {
-    let mut part = serve_command(alloc)?.bin_name("cclib serve")?;
-    part.error(ErrorKind::ValueValidation, rule)
-}
-
-fn refused_submit(alloc: Global, rule: &'static str) -> Result<Error, AllocError> {
-    let mut part = submit_command(alloc)?.bin_name("cclib submit")?;
-    part.error(ErrorKind::ValueValidation, rule)
-}
-
-// The number of an option of `serve`, where it is given.
-fn number_of(
-    alloc: Global,
-    given: &ArgMatches<'_>,
-    name: &str,
-    least: u64,
-    most: u64,
-    rule: &'static str,
-) -> Result<Option<u64>, Error>
-    ensures { IfOk result (λ number. IfSome number (λ n. (least ≤ n) × (n ≤ most))) }
+fn limits_of(given: &ArgMatches<'_>) -> Result<Limits, Refused>
+    ensures { IfOk result (λ limits. (1 ≤ limits.clients) × (limits.clients ≤ 64) × (1 ≤ limits.keep) × (limits.keep ≤ 3650)
+        × (1048576 ≤ limits.done) × (limits.done ≤ 1099511627776) × (1 ≤ limits.patience) × (limits.patience ≤ 86400)) }
 {
-    let Some(text) = given.get_str(name) else {
-        return Ok(None);
-    };
-    match number_in(text, least, most) {
-        Some(number) => Ok(Some(number)),
-        None => Err(refused_serve(alloc, rule)?),
-    }
-}
-
-// The same for an option that has a value of its own.
-fn number_given(
-    alloc: Global,
-    given: &ArgMatches<'_>,
-    name: &str,
-    least: u64,
-    most: u64,
-    rule: &'static str,
-) -> Result<u64, Error>
-    ensures { IfOk result (λ n. (least ≤ n) × (n ≤ most)) }
-{
-    match number_of(alloc, given, name, least, most, rule)? {
-        Some(number) => Ok(number),
-        None => Err(refused_serve(alloc, rule)?),
-    }
-}
-
-fn wait_of(alloc: Global, given: &ArgMatches<'_>) -> Result<Option<u32>, Error>
-    ensures { IfOk result (λ wait. IfSome wait (λ seconds. (1 ≤ seconds) × (seconds ≤ 86400))) }
-{
-    let Some(text) = given.get_str(WAIT) else {
-        return Ok(None);
-    };
-    match number_in(text, 1, MOST_WAIT) {
-        Some(seconds) => Ok(Some(seconds as u32)),
-        None => Err(refused_submit(alloc, WAIT_RULE)?),
-    }
-}
-
-/// What `serve` asks for.
-pub(crate) fn serve_of(alloc: Global, given: &ArgMatches<'_>) -> Result<Work, Error>
-    ensures { IfOk result IsAllowed }
-{
-    let area = match number_of(alloc, given, FORMAT, LEAST_AREA, MOST_AREA, AREA_RULE)? {
-        Some(area) => Some(area as u32),
-        None => None,
-    };
-    let workers = number_given(alloc, given, WORKERS, 1, MOST_WORKERS, WORKERS_RULE)?;
-    let clients = number_given(alloc, given, CLIENTS, 1, MOST_CLIENTS, CLIENTS_RULE)?;
-    let keep = number_given(alloc, given, KEEP, 1, MOST_DAYS, KEEP_RULE)?;
-    let done = number_given(alloc, given, DONE, LEAST_DONE, MOST_DONE, DONE_RULE)?;
-    let patience = number_given(alloc, given, PATIENCE, 1, MOST_PATIENCE, PATIENCE_RULE)?;
-    let Some(disk) = path_of(alloc, given, "DISK")? else {
-        return Err(refused_serve(alloc, PATH_RULE)?);
-    };
-    let Some(folder) = path_of(alloc, given, "FOLDER")? else {
-        return Err(refused_serve(alloc, PATH_RULE)?);
-    };
-    Ok(Work::Serve(Server {
-        disk,
-        folder,
-        area,
-        workers: workers as usize,
-        kind: kind_of(given),
+    let clients = number_of(given, "clients", 1, MOST_CLIENTS, CLIENTS_RULE)?;
+    let keep = number_of(given, "keep", 1, MOST_DAYS, KEEP_RULE)?;
+    let done = number_of(given, "done", LEAST_DONE, MOST_DONE, DONE_RULE)?;
+    let patience = number_of(given, "patience", 1, MOST_PATIENCE, PATIENCE_RULE)?;
+    Ok(Limits {
         clients: clients as usize,
         keep: keep as u32,
         done,
         patience: patience as u32,
+    })
+}
+
+/// What `serve` asks for.
+pub(crate) fn serve_of(alloc: Global, given: &ArgMatches<'_>) -> Result<Work, Refused>
+    ensures { IfOk result IsAllowed }
+{
+    let area = area_if_given(given)?;
+    let workers = workers_of(given)?;
+    let Limits {
+        clients,
+        keep,
+        done,
+        patience,
+    } = limits_of(given)?;
+    let disk = path_of(alloc, given, "DISK")?;
+    let folder = path_of(alloc, given, "FOLDER")?;
+    Ok(Work::Serve(Server {
+        disk,
+        folder,
+        area,
+        workers,
+        kind: kind_of(given),
+        clients,
+        keep,
+        done,
+        patience,
     }))
 }
 
-// Whether a word is one of a line too.
+// For how many seconds a script waits, if that is given.
+fn wait_of(given: &ArgMatches<'_>) -> Result<Option<u32>, Refused>
+    ensures { IfOk result (λ wait. IfSome wait (λ seconds. (1 ≤ seconds) × (seconds ≤ 86400))) }
+{
+    match number_if_given(given, "wait", 1, MOST_WAIT, WAIT_RULE) {
+        Ok(Some(seconds)) => Ok(Some(seconds as u32)),
+        Ok(None) => Ok(None),
+        Err(refused) => Err(refused),
+    }
+}
+
+// Whether a word may be a word of a line.
 fn is_word(word: &str) -> bool {
     word.bytes().all(|byte| byte != b' ' && byte != b'\n')
 }
 
-// Whether all of these are.
+// Whether all of these may be.
 fn are_words(words: &[&str]) -> bool {
     for word in words {
         if !is_word(word) {
@@ -331,7 +275,7 @@ fn are_words(words: &[&str]) -> bool {
     true
 }
 
-// The words with a space between two.
+// The line that these words make, with a space between two.
 fn line_of(alloc: Global, words: &[&str]) -> Result<String, AllocError> {
     let mut line = String::new(alloc);
     for word in words {
@@ -343,7 +287,7 @@ fn line_of(alloc: Global, words: &[&str]) -> Result<String, AllocError> {
     Ok(line)
 }
 
-// Whether the first of some words is this one.
+// Whether `first` is the first of these words.
 fn begins_with(words: &[&str], first: &str) -> bool {
     match words.first() {
         Some(word) => *word == first,
@@ -351,34 +295,35 @@ fn begins_with(words: &[&str], first: &str) -> bool {
     }
 }
 
-// Whether the line is one of `update`.
-fn is_update(given: &ArgMatches<'_>) -> bool {
-    match given.get_strs(COMMAND) {
-        Some(words) => begins_with(words, "update"),
-        None => false,
-    }
-}
-
-// The file with the source that `update` is to replace, which that line takes and no other one; none where it is not so.
-fn was_of(alloc: Global, given: &ArgMatches<'_>) -> Result<Option<Option<String>>, AllocError> {
-    match (given.get_str(WAS), is_update(given)) {
-        (None, false) => Ok(Some(None)),
+// The path of the file with the source that a line `update` is to replace. Such a line needs it, and no other line takes it.
+fn was_of(
+    alloc: Global,
+    given: &ArgMatches<'_>,
+    words: &[&str],
+) -> Result<Option<String>, Refused> {
+    match (given.get_str("was"), begins_with(words, "update")) {
+        (None, false) => Ok(None),
         (Some(path), true) if !path.is_empty() && path != "-" => {
-            Ok(Some(Some(String::from_str(alloc, path)?)))
+            Ok(Some(String::from_str(alloc, path)?))
         }
-        _ => Ok(None),
+        _ => Err(Refused::ByCommand(WAS_RULE)),
     }
 }
 
-// What is asked to be sent: the line, and the input of a call.
-#[derive(Drop)]
+// What is sent: the line, and the input of a call.
 struct Sent {
     line: Option<String>,
     input: Option<String>,
 }
 
-// What these words ask to be sent.
+// What is sent for these words.
 fn sent_by(alloc: Global, words: &[&str]) -> Result<Sent, AllocError> {
+    if words.is_empty() {
+        return Ok(Sent {
+            line: None,
+            input: None,
+        });
+    }
     if !begins_with(words, "call") {
         return Ok(Sent {
             line: Some(line_of(alloc, words)?),
@@ -394,33 +339,18 @@ fn sent_by(alloc: Global, words: &[&str]) -> Result<Sent, AllocError> {
     })
 }
 
-// What is asked to be sent; none where a word is none of a line.
-fn sent_of(alloc: Global, given: &ArgMatches<'_>) -> Result<Option<Sent>, AllocError> {
-    match given.get_strs(COMMAND) {
-        Some(words) if are_words(words) => Ok(Some(sent_by(alloc, words)?)),
-        Some(_) => Ok(None),
-        None => Ok(Some(Sent {
-            line: None,
-            input: None,
-        })),
-    }
-}
-
 /// What `submit` asks for.
-pub(crate) fn submit_of(alloc: Global, given: &ArgMatches<'_>) -> Result<Work, Error>
+pub(crate) fn submit_of(alloc: Global, given: &ArgMatches<'_>) -> Result<Work, Refused>
     ensures { IfOk result IsAllowed }
 {
-    let wait = wait_of(alloc, given)?;
-    let Some(folder) = path_of(alloc, given, "FOLDER")? else {
-        return Err(refused_submit(alloc, PATH_RULE)?);
-    };
-    let Some(was) = was_of(alloc, given)? else {
-        return Err(refused_submit(alloc, WAS_RULE)?);
-    };
-    let Some(sent) = sent_of(alloc, given)? else {
-        return Err(refused_submit(alloc, WORD_RULE)?);
-    };
-    let Sent { line, input } = sent;
+    let wait = wait_of(given)?;
+    let words = given.get_strs("COMMAND").unwrap_or(&[]);
+    let folder = path_of(alloc, given, "FOLDER")?;
+    let was = was_of(alloc, given, words)?;
+    if !are_words(words) {
+        return Err(Refused::ByCommand(WORD_RULE));
+    }
+    let Sent { line, input } = sent_by(alloc, words)?;
     Ok(Work::Submit(Submitter {
         folder,
         line,

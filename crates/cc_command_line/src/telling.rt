@@ -1,4 +1,4 @@
-// A command line that asks for no work: what a person is told, and the program's status.
+// A command line that asks for no work: what a person reads, and the program's status.
 
 ghost use Rattle.std.specs.Prelude.{IfOk};
 ghost use Rattle.cc_command_line.specs.Work.{IsAllowed};
@@ -12,8 +12,8 @@ use std::convert::AsStr;
 /// Why there is no work.
 #[derive(Clone, Copy)]
 pub enum NoRequest {
-    /// The command line was refused, or asked for help: the program's status, 2 if it was refused, 0 if the help was printed, 1 if it could not
-    /// be (54).
+    /// The program's status: 2 if the command line was refused, 0 if it asked for help and the help was printed, 1 if the help or the version
+    /// could not be printed (54).
     Told(u8),
     /// The version was printed, and nothing else.
     Version,
@@ -39,7 +39,7 @@ fn tell<R: Eprint + Print>(rt: &R, error: Error) -> NoRequest {
     })
 }
 
-/// Reads the command line as `read_invocation` does. A refusal goes to standard error, a text of help to standard output.
+/// Reads the command line as `read_invocation` does. A refusal goes to standard error; help and the version go to standard output.
 pub fn read_or_tell<'a, R: Eprint + Print, S: AsStr>(
     rt: &R,
     alloc: Global,
@@ -53,7 +53,7 @@ pub fn read_or_tell<'a, R: Eprint + Print, S: AsStr>(
     }
 }
 
-/// Says on standard error that a word of the command line is not UTF-8. The status is 2.
+/// Says on standard error that a word of the command line is not UTF-8. The status is 2, unless memory ran out.
 pub fn tell_bytes<R: Eprint + Print>(rt: &R, alloc: Global) -> NoRequest {
     match refused_bytes(alloc) {
         Ok(error) => tell(rt, error),

@@ -1,25 +1,20 @@
-// The commands `image` and `source`: what is taken out of a library; and `size`. `image` and `size` without a library are tasks for a text.
+// The commands `image` and `source`, which take something out of a library, and `size`. Without a library `image` and `size` are tasks for a
+// program.
 
-ghost use Rattle.std.specs.Prelude.{IfOk};
+ghost use Rattle.std.specs.Prelude.{◌≤◌, IfOk, IfSome};
 ghost use Rattle.cc_command_line.specs.Work.{IsAllowed};
 
-use crate::command_line::{Work, checked_word, kind_of};
-use crate::files::with_file;
+use crate::command_line::Work;
+use crate::files::FILE;
+use crate::given::{CHECKED, DISK, NAME, Unit, kind_of, number_if_given, unit_of};
 use crate::keeping::{Keeping, Measuring};
-use crate::library::{PATH_RULE, option, path_of};
-use crate::numbers::number_in;
+use crate::refused::Refused;
+use crate::row::{Form, Row, Word};
 use cc_task::{Kind, Part, Task};
-use clap::error::ErrorKind;
-use clap::{Arg, ArgMatches, Command, Error};
-use std::alloc::{AllocError, Global};
+use clap::ArgMatches;
+use std::alloc::Global;
 
-const DISK: &str = "DISK";
-
-const NAME: &str = "NAME";
-
-const AT: &str = "at";
-
-/// The most commands of which a library can have the records.
+/// The most commands whose records a library can have.
 pub(crate) const MOST_COMMANDS: u64 = 1_073_741_824;
 
 pub(crate) const AT_RULE: &str = "K is the number of a line of `cclib log DISK`, from 1 on";
@@ -43,14 +38,14 @@ With DISK and NAME the image is that of a unit of a library, as it was stored:
 
 Its code lies from 0x00010000 on, the first values of its globals from 0x00200000 on.";
 
-// The same of `source`.
+// The same for `source`.
 const SOURCE_HELP: &str = "\
 What is printed is the source that was stored, to the byte.
 
 Example:
   cclib source units.disk quotient > quotient.c";
 
-// The same of `size`.
+// The same for `size`.
 const SIZE_HELP: &str = "\
 Without further words the program comes on standard input, or in files:
   cclib size -f main.c -f table.c
@@ -58,7 +53,54 @@ Without further words the program comes on standard input, or in files:
 With DISK and NAME it is a unit of a library, made again along its certificate; of one that is not confirmed so the line of
 `audit` is printed.";
 
-/// A part of a unit of the library in a file.
+pub(crate) static SIZE: Row = Row {
+    name: "size",
+    whole: "cclib size",
+    about: "Show how much memory an image takes: its code, its globals, and a stack that is enough",
+    words: &[
+        CHECKED,
+        Word("DISK", Form::Optional, "The file that has the library"),
+        Word("NAME", Form::Optional, "The name of the unit"),
+        FILE,
+    ],
+    help: SIZE_HELP,
+};
+
+pub(crate) static IMAGE: Row = Row {
+    name: "image",
+    whole: "cclib image",
+    about: "Compile the program and print its image as Intel HEX, or print that of a unit of a library",
+    words: &[
+        CHECKED,
+        Word("DISK", Form::Optional, "The file that has the library"),
+        Word("NAME", Form::Optional, "The name of the unit"),
+        Word(
+            "at",
+            Form::Value("K"),
+            "Print what command K of `cclib log DISK` stored, in place of what the library has now",
+        ),
+        FILE,
+    ],
+    help: IMAGE_HELP,
+};
+
+pub(crate) static SOURCE: Row = Row {
+    name: "source",
+    whole: "cclib source",
+    about: "Print the source of a unit of a library",
+    words: &[
+        DISK,
+        NAME,
+        Word(
+            "at",
+            Form::Value("K"),
+            "Print what command K of `cclib log DISK` stored, in place of what the library has now",
+        ),
+    ],
+    help: SOURCE_HELP,
+};
+
+/// Which part of which unit is wanted from the library in a file.
 #[derive(Drop)]
 pub struct Wanted {
     /// The path of the file.
@@ -71,97 +113,22 @@ pub struct Wanted {
     pub at: Option<u64>,
 }
 
-// The word that says which file, and the one that says which unit.
-fn with_unit<'a>(
-    alloc: Global,
-    command: Command<'a>,
-    is_required: bool,
-) -> Result<Command<'a>, AllocError> {
-    let disk = Arg::new(alloc, DISK)
-        .required(is_required)
-        .help("The file that has the library");
-    let name = Arg::new(alloc, NAME)
-        .required(is_required)
-        .help("The name of the unit");
-    command.arg(disk)?.arg(name)
+// The number of the command that is asked for, if one is.
+fn at_of(given: &ArgMatches<'_>) -> Result<Option<u64>, Refused> {
+    number_if_given(given, "at", 1, MOST_COMMANDS, AT_RULE)
 }
 
-// The same, and the option for what a command stored.
-fn with_unit_at<'a>(
-    alloc: Global,
-    command: Command<'a>,
-    is_required: bool,
-) -> Result<Command<'a>, AllocError> {
-    let at = option(
-        alloc,
-        AT,
-        "K",
-        "Print what command K of `cclib log DISK` stored, in place of what the library has now",
-    );
-    with_unit(alloc, command, is_required)?.arg(at)
-}
-
-/// The command `size` with its words.
-pub(crate) fn size_command<'a>(alloc: Global) -> Result<Command<'a>, AllocError> {
-    let begun = Command::new(alloc, "size")
-        .about("Say how much an image takes: its code, its globals, and a stack that is enough")
-        .after_help(SIZE_HELP)
-        .arg(checked_word(alloc))?;
-    let begun = with_unit(alloc, begun, false)?;
-    with_file(alloc, begun)
-}
-
-/// The command `image` with its words.
-pub(crate) fn image_command<'a>(alloc: Global) -> Result<Command<'a>, AllocError> {
-    let begun = Command::new(alloc, "image")
-        .about(
-            "Compile the program and print its image as Intel HEX, or print that of a unit of a library",
-        )
-        .after_help(IMAGE_HELP)
-        .arg(checked_word(alloc))?;
-    let begun = with_unit_at(alloc, begun, false)?;
-    with_file(alloc, begun)
-}
-
-/// The command `source` with its words.
-pub(crate) fn source_command<'a>(alloc: Global) -> Result<Command<'a>, AllocError> {
-    let begun = Command::new(alloc, "source")
-        .about("Print the source of a unit of a library")
-        .after_help(SOURCE_HELP);
-    with_unit_at(alloc, begun, true)
-}
-
-// The error of clap for words of `image` that break this rule.
-fn refused_image(alloc: Global, rule: &'static str) -> Result<Error, AllocError> {
-    let mut part = image_command(alloc)?.bin_name("cclib image")?;
-    part.error(ErrorKind::ValueValidation, rule)
-}
-
-// The same of `source`.
-fn refused_source(alloc: Global, rule: &'static str) -> Result<Error, AllocError> {
-    let mut part = source_command(alloc)?.bin_name("cclib source")?;
-    part.error(ErrorKind::ValueValidation, rule)
-}
-
-// The same of `size`.
-fn refused_size(alloc: Global, rule: &'static str) -> Result<Error, AllocError> {
-    let mut part = size_command(alloc)?.bin_name("cclib size")?;
-    part.error(ErrorKind::ValueValidation, rule)
-}
-
-// The part of the unit that the words name; none where a path is empty.
+// A part of the unit that the words name.
 fn wanted_of(
     alloc: Global,
     given: &ArgMatches<'_>,
-    name: &str,
     part: Part,
     at: Option<u64>,
-) -> Result<Option<Wanted>, AllocError> {
-    let Some(disk) = path_of(alloc, given, DISK)? else {
-        return Ok(None);
-    };
-    let name = String::from_str(alloc, name)?;
-    Ok(Some(Wanted {
+) -> Result<Work, Refused>
+    ensures { IfOk result IsAllowed }
+{
+    let Unit { disk, name } = unit_of(alloc, given)?;
+    Ok(Work::TakeOut(Wanted {
         disk,
         name,
         part,
@@ -169,71 +136,52 @@ fn wanted_of(
     }))
 }
 
-// The number of the command that is asked for, if one is; none where it is no number.
-fn at_of(given: &ArgMatches<'_>) -> Option<Option<u64>> {
-    let Some(text) = given.get_str(AT) else {
-        return Some(None);
-    };
-    match number_in(text, 1, MOST_COMMANDS) {
-        Some(number) => Some(Some(number)),
-        None => None,
+// The rule of `image` that its words break, if they break one.
+fn broken_rule(given: &ArgMatches<'_>, is_earlier: bool) -> Option<&'static str> {
+    let has_disk = given.get_str("DISK").is_some();
+    let has_name = given.get_str("NAME").is_some();
+    if has_disk && kind_of(given) == Kind::Checked {
+        Some(CHECKED_RULE)
+    } else if has_disk && !has_name || is_earlier && !has_disk {
+        Some(BOTH_RULE)
+    } else {
+        None
     }
 }
 
-/// What `image` asks for: a task for a text where it has no word, else the image of a unit.
-pub(crate) fn image_of(alloc: Global, given: &ArgMatches<'_>) -> Result<Work, Error>
+/// What `image` asks for: the image of a unit if DISK is given, else a task for a program.
+pub(crate) fn image_of(alloc: Global, given: &ArgMatches<'_>) -> Result<Work, Refused>
     ensures { IfOk result IsAllowed }
 {
-    let kind = kind_of(given);
-    let Some(at) = at_of(given) else {
-        return Err(refused_image(alloc, AT_RULE)?);
-    };
-    if given.get_str(DISK).is_none() {
-        if at.is_some() {
-            return Err(refused_image(alloc, BOTH_RULE)?);
-        }
-        return Ok(Work::One(Task::Image(kind)));
+    let at = at_of(given)?;
+    if let Some(rule) = broken_rule(given, at.is_some()) {
+        return Err(Refused::ByCommand(rule));
     }
-    if kind == Kind::Checked {
-        return Err(refused_image(alloc, CHECKED_RULE)?);
+    if given.get_str("DISK").is_none() {
+        return Ok(Work::One(Task::Image(kind_of(given))));
     }
-    let Some(name) = given.get_str(NAME) else {
-        return Err(refused_image(alloc, BOTH_RULE)?);
-    };
-    match wanted_of(alloc, given, name, Part::Image, at)? {
-        Some(wanted) => Ok(Work::TakeOut(wanted)),
-        None => Err(refused_image(alloc, PATH_RULE)?),
-    }
+    wanted_of(alloc, given, Part::Image, at)
 }
 
 /// What `source` asks for.
-pub(crate) fn source_of(alloc: Global, given: &ArgMatches<'_>) -> Result<Work, Error>
+pub(crate) fn source_of(alloc: Global, given: &ArgMatches<'_>) -> Result<Work, Refused>
     ensures { IfOk result IsAllowed }
 {
-    let Some(at) = at_of(given) else {
-        return Err(refused_source(alloc, AT_RULE)?);
-    };
-    let name = given.get_str(NAME).unwrap_or("");
-    match wanted_of(alloc, given, name, Part::Source, at)? {
-        Some(wanted) => Ok(Work::TakeOut(wanted)),
-        None => Err(refused_source(alloc, PATH_RULE)?),
-    }
+    let at = at_of(given)?;
+    wanted_of(alloc, given, Part::Source, at)
 }
 
-/// What `size` asks for: a task for a text where it has no word, else what the image of a unit takes.
-pub(crate) fn size_of(alloc: Global, given: &ArgMatches<'_>) -> Result<Work, Error>
+/// What `size` asks for: what the image of a unit takes if DISK is given, else a task for a program.
+pub(crate) fn size_of(alloc: Global, given: &ArgMatches<'_>) -> Result<Work, Refused>
     ensures { IfOk result IsAllowed }
 {
     let kind = kind_of(given);
-    if given.get_str(DISK).is_none() {
+    if given.get_str("DISK").is_none() {
         return Ok(Work::One(Task::Size(kind)));
     }
-    let Some(name) = given.get_str(NAME) else {
-        return Err(refused_size(alloc, SIZE_BOTH_RULE)?);
-    };
-    let Some(disk) = path_of(alloc, given, DISK)? else {
-        return Err(refused_size(alloc, PATH_RULE)?);
-    };
-    let name = String::from_str(alloc, name)?;
+    if given.get_str("NAME").is_none() {
+        return Err(Refused::ByCommand(SIZE_BOTH_RULE));
+    }
+    let Unit { disk, name } = unit_of(alloc, given)?;
     Ok(Work::Keep(Keeping::Size(Measuring { disk, name, kind })))
 }

@@ -3,141 +3,119 @@
 ghost use Rattle.std.specs.Prelude.{◌≤◌, IfOk};
 ghost use Rattle.cc_command_line.specs.Work.{IsAllowed};
 
-use crate::command_line::{Runner, Work, input_words, steps_of};
-use crate::files::{EMPTY_RULE, with_file};
-use crate::library::option;
-use crate::numbers::number_in;
-use clap::error::ErrorKind;
-use clap::{Arg, ArgMatches, Command, Error};
-use std::alloc::{AllocError, Global};
+use crate::command_line::Work;
+use crate::files::{EMPTY_RULE, FILE};
+use crate::given::{INPUT, STEPS, input_of, number_of, steps_of, text_if_given};
+use crate::refused::Refused;
+use crate::row::{Form, Row, Word};
+use clap::ArgMatches;
+use std::alloc::Global;
 
-/// The most things that a trace keeps.
-pub const MOST_LAST: u64 = 1_000_000;
-
-const LAST: &str = "last";
+/// A trace keeps at most this many things.
+const MOST_LAST: u64 = 1_000_000;
 
 const LAST_RULE: &str = "N is a decimal number from 1 to 1000000";
 
-const LINES: &str = "lines";
-
 const BOTH_RULE: &str = "the input comes as WORDs or by --lines, and not by both";
 
-/// A run whose newest things are wanted.
+pub(crate) static TRACE: Row = Row {
+    name: "trace",
+    whole: "cclib trace",
+    about: "Run the program as `interpret` does, and print the newest things that it did",
+    words: &[
+        STEPS,
+        INPUT,
+        FILE,
+        Word(
+            "last",
+            Form::Default("N", "40"),
+            "How many calls, turns, values and words are printed: 1 to 1000000",
+        ),
+    ],
+    help: "The program comes on standard input: cclib trace 1000 --last 20 < examples/quotient.c",
+};
+
+pub(crate) static COVER: Row = Row {
+    name: "cover",
+    whole: "cclib cover",
+    about: "Run the program as `interpret` does, and print how often each line was reached",
+    words: &[
+        STEPS,
+        INPUT,
+        FILE,
+        Word(
+            "lines",
+            Form::Value("FILE"),
+            "A file with the WORDs of one run in each line",
+        ),
+    ],
+    help: "The program comes on standard input: cclib cover 1000 < examples/quotient.c",
+};
+
+/// A run. The newest things that it does are wanted.
 #[derive(Drop)]
 pub struct Traced {
-    /// How many steps it has at most.
+    /// How many steps the run takes at most.
     pub steps: u64,
-    /// Its input.
+    /// The input of the run.
     pub words: Vec<u32>,
     /// How many things are kept: 1 to 1,000,000.
     pub last: u32,
 }
 
-/// Runs that are asked how often they reach each line.
+/// Runs. How often they reach each line is wanted.
 #[derive(Drop)]
 pub struct Covered {
-    /// How many steps each has at most.
+    /// How many steps each run takes at most.
     pub steps: u64,
-    /// The input of the one run.
+    /// The input of the one run, if there is only one.
     pub words: Vec<u32>,
-    /// The file that has an input in each line, if there are several.
+    /// The path of the file that has the input of a run in each line, if one is named.
     pub lines: Option<String>,
 }
 
-pub(crate) const TRACE: Runner = Runner {
-    name: "trace",
-    whole: "cclib trace",
-    about: "Run the program as `interpret` does, and print the newest things that it did",
-    steps: "The most steps that a run may take: 0 to 1000000000",
-    example: "The program comes on standard input: cclib trace 1000 --last 20 < examples/quotient.c",
-};
-
-pub(crate) const COVER: Runner = Runner {
-    name: "cover",
-    whole: "cclib cover",
-    about: "Run the program as `interpret` does, and print how often each line was reached",
-    steps: "The most steps that a run may take: 0 to 1000000000",
-    example: "The program comes on standard input: cclib cover 1000 < examples/quotient.c",
-};
-
-/// The command `trace`, from its beginning.
-pub(crate) fn with_last<'a>(alloc: Global, begun: Command<'a>) -> Result<Command<'a>, AllocError> {
-    let last = option(
-        alloc,
-        LAST,
-        "N",
-        "How many calls, turns, values and words are printed: 1 to 1000000",
-    );
-    begun.arg(last.default_value("40"))
-}
-
-/// The command `cover`, from its beginning.
-pub(crate) fn with_lines<'a>(alloc: Global, begun: Command<'a>) -> Result<Command<'a>, AllocError> {
-    let lines = option(
-        alloc,
-        LINES,
-        "FILE",
-        "A file with the WORDs of one run in each line",
-    );
-    begun.arg(lines)
-}
-
-// The error of clap for a word that breaks this rule.
-fn refused(alloc: Global, runner: &Runner, rule: &'static str) -> Result<Error, AllocError> {
-    let begun = Command::new(alloc, runner.name).about(runner.about);
-    let mut part = with_file(alloc, begun)?.bin_name(runner.whole)?;
-    part.error(ErrorKind::ValueValidation, rule)
-}
-
-fn last_of(alloc: Global, given: &ArgMatches<'_>) -> Result<u32, Error>
+// How many things are kept.
+fn last_of(given: &ArgMatches<'_>) -> Result<u32, Refused>
     ensures { IfOk result (λ last. (1 ≤ last) × (last ≤ 1000000)) }
 {
-    let text = given.get_str(LAST).unwrap_or("40");
-    match number_in(text, 1, MOST_LAST) {
-        Some(last) => Ok(last as u32),
-        None => Err(refused(alloc, &TRACE, LAST_RULE)?),
+    match number_of(given, "last", 1, MOST_LAST, LAST_RULE) {
+        Ok(last) => Ok(last as u32),
+        Err(refused) => Err(refused),
     }
 }
 
 /// What `trace` asks for.
-pub(crate) fn trace_of(alloc: Global, given: &ArgMatches<'_>) -> Result<Work, Error>
+pub(crate) fn trace_of(alloc: Global, given: &ArgMatches<'_>) -> Result<Work, Refused>
     ensures { IfOk result IsAllowed }
 {
-    let steps = steps_of(alloc, &TRACE, given)?;
-    let last = last_of(alloc, given)?;
-    let words = input_words(alloc, &TRACE, given)?;
+    let steps = steps_of(given)?;
+    let last = last_of(given)?;
+    let words = input_of(alloc, given)?;
     Ok(Work::Trace(Traced { steps, words, last }))
 }
 
-// The file that has an input in each line, if one is named.
-fn lines_of(alloc: Global, given: &ArgMatches<'_>) -> Result<Option<String>, Error> {
-    let Some(name) = given.get_str(LINES) else {
-        return Ok(None);
-    };
-    if name.is_empty() {
-        return Err(refused(alloc, &COVER, EMPTY_RULE)?);
+// The rule that `--lines` breaks, if it breaks one.
+fn broken_by_lines(given: &ArgMatches<'_>) -> Option<&'static str> {
+    match given.get_str("lines") {
+        Some("") => Some(EMPTY_RULE),
+        Some(_) if given.get_strs("WORD").is_some() => Some(BOTH_RULE),
+        _ => None,
     }
-    if given.get_strs("WORD").is_some() {
-        return Err(refused(alloc, &COVER, BOTH_RULE)?);
-    }
-    Ok(Some(String::from_str(alloc, name)?))
 }
 
 /// What `cover` asks for.
-pub(crate) fn cover_of(alloc: Global, given: &ArgMatches<'_>) -> Result<Work, Error>
+pub(crate) fn cover_of(alloc: Global, given: &ArgMatches<'_>) -> Result<Work, Refused>
     ensures { IfOk result IsAllowed }
 {
-    let steps = steps_of(alloc, &COVER, given)?;
-    let lines = lines_of(alloc, given)?;
-    match input_words(alloc, &COVER, given) {
-        Ok(words) => Ok(Work::Cover(Covered {
-            steps,
-            words,
-            lines,
-        })),
-        Err(error) => {
-            drop(lines);
-            Err(error)
-        }
+    let steps = steps_of(given)?;
+    if let Some(rule) = broken_by_lines(given) {
+        return Err(Refused::ByCommand(rule));
     }
+    let words = input_of(alloc, given)?;
+    let lines = text_if_given(alloc, given, "lines")?;
+    Ok(Work::Cover(Covered {
+        steps,
+        words,
+        lines,
+    }))
 }

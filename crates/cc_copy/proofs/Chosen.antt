@@ -13,7 +13,7 @@ use Rattle.std.proofs.lemmas.Map.Text.{is_eq-slice_cmp}
 use Rattle.std.proofs.lemmas.Slice.Eq.{bytes_eq-Decides}
 use Rattle.std.specs.FinMap as map
 use Rattle.cc_unit.specs.declared.unit.StoredUnit.{StoredUnit}
-use Rattle.cc_library.specs.declared.command.LibraryCommand.TheVariants.{Add}
+use Rattle.cc_library.specs.declared.command.Change.TheVariants.{Add}
 use Rattle.cc_library.specs.Apply.{Units, after, kept, exists}
 use Rattle.cc_copy.specs.Choice.{is_among}
 
@@ -39,7 +39,7 @@ by_tie units so_far true q name unit found e is before =
     sym is ∙ (ap (map.get units) (sym same) ∙ sym (ap (λ (b : Bool). if b then map.get units q else None) (or_true so_far)))
 by_tie units so_far false q name unit found e is before = before ∙ sym (ap (λ (b : Bool). if b then map.get units q else None) (or_none so_far))
 
--- if the chosen map has a unit with the name already, it is the map's
+-- if the chosen map has a unit with the name already, that unit is the map's
 again : (units : Units) (so_far tie : Bool) (q name : List ℕ) (unit : StoredUnit) (found : Option StoredUnit) → bytes_eq q name ≡ tie → map.get units name ≡ Some unit
     → (tie ≡ true → is_some found ≡ true) → Chosen units so_far q found → Chosen units (so_far || tie) q found
 again units true true q name unit found e is has before = before
@@ -71,7 +71,7 @@ one_more units chosen new names i q name unit within at is there before =
 pub has : (units : Units) (name : List ℕ) (unit : StoredUnit) → map.get units name ≡ Some unit → IsTrue (map.contains_key units name)
 has units name unit e = ap is_some e
 
--- each key of a map has one
+-- each key of a map has a unit
 pub key_there : (units : Units) (names : List (List ℕ)) (k : ℕ) (d : List ℕ) → names ≡ map.keys units → k < length names → IsTrue (map.contains_key units (get_or names k d))
 key_there units names k d keys within =
     let q = get_or names k d in

@@ -46,13 +46,13 @@ if_confirmed name Confirmed = name ∷ []
 if_confirmed name NoCertificate = []
 if_confirmed name Unconfirmed = []
 
--- a name whose unit is not
+-- a name whose unit is not confirmed
 abbrev pub if_left_out : (name : List ℕ) → Audit → List LeftOut
 if_left_out name Confirmed = []
 if_left_out name NoCertificate = record { name = name; audit = NoCertificate } ∷ []
 if_left_out name Unconfirmed = record { name = name; audit = Unconfirmed } ∷ []
 
--- the confirmed ones of these names, in their order
+-- those of these names whose units are confirmed, in their order
 abbrev pub confirmed_of : (names : List (List ℕ)) → List Audit → List (List ℕ)
 confirmed_of [] audits = []
 confirmed_of (name ∷ names) [] = []

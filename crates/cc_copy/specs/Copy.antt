@@ -10,8 +10,8 @@ use Rattle.cc_library.specs.Compact.{compacted}
 abbrev pub room_for : Units → ℕ
 room_for units = room_of (compacted units)
 
--- why there is no new library: 34 only if the units do not fit the area, or two areas of that size do not fit the disk; 35 if the device
--- failed; else memory ran out. A disk that is not honest may have lost what was just written to it.
+-- why there is no new library: 34 only if the units do not fit in the area, or two areas of that size do not fit on the disk; 35
+-- if the device failed; else memory ran out. A disk that is not honest may have lost what was just written to it.
 abbrev pub CopyFaults : (honest : Bool) (size area : ℕ) → Units → (before after : ℕ) → LibraryFault → Type 0
 CopyFaults honest size area units before after Full = (IsTrue honest → IsArea size area → area < room_for units) × (after ≡ before)
 CopyFaults honest size area units before after DiskFault = (room_for units ≤ area) × (after ≡ before + 1)

@@ -15,32 +15,32 @@ abbrev pub AreOf : Units → (names : List (List ℕ)) → (taken : Units) → T
 AreOf units [] taken = taken ≡ units
 AreOf units (name ∷ names) taken = IsChosen units (name ∷ names) taken
 
--- of these units all, or those that an audit confirms
+-- all of these units, or those that an audit confirms
 abbrev pub IsSelection : (confirmed : Bool) → (taken : Units) → Selection → Type 0
 IsSelection false taken selection = (selection.units ≡ taken) × (selection.left_out.items ≡ [])
 IsSelection true taken selection = IsConfirmed taken selection
 
--- of the units of these names in a map
+-- of the units with these names in a map, all, or those that an audit confirms
 abbrev pub IsSelectedIn : Units → (names : List (List ℕ)) (confirmed : Bool) → Selection → Type 0
 IsSelectedIn units names confirmed selection = (taken : Units) × AreOf units names taken × IsSelection confirmed taken selection
 
--- of the names this one is not a name
+-- the name with this number is not a name
 abbrev pub IsNoName : (names : List (List ℕ)) (number : ℕ) → Type 0
 IsNoName names number = (number < length names) × (is_name (get_or names number []) ≡ false)
 
--- Why none are selected: 33 exactly if one of them is not a name; else 32 exactly if one of the names has no unit, each before which has one; or
--- memory ran out.
+-- Why no units are selected: 33 exactly if one of the texts is not a name; else 32 exactly if one of the names has no unit, while
+-- each before it has one; or memory ran out.
 abbrev pub IsNotSelectedIn : Units → (names : List (List ℕ)) → PartFault → Type 0
 IsNotSelectedIn units names BadName = (number : ℕ) × IsNoName names number
 IsNotSelectedIn units names Absent = All (λ name. IsTrue (is_name name)) names × ((number : ℕ) × IsNotChosen units names (fault.Absent number))
 IsNotSelectedIn units names (Library f) = ⊥
 IsNotSelectedIn units names OutOfMemory = Unit {0}
 
--- the units of the map to which the disk's bytes recover
+-- what is selected from the map to which the disk's bytes recover
 abbrev pub IsSelectedOn : (seen : List ℕ) (names : List (List ℕ)) (confirmed : Bool) → Selection → Type 0
 IsSelectedOn seen names confirmed selection = (units : Units) × Recovers seen units × IsSelectedIn units names confirmed selection
 
--- why none are: the library is not opened; or it is, and none are selected of the map to which the disk recovers
+-- why no units are selected: the library is not opened; or it is, and none are selected from the map to which the disk recovers
 abbrev pub IsNotSelectedOn : (honest : Bool) (seen : List ℕ) (before after : ℕ) (names : List (List ℕ)) → PartFault → Type 0
 IsNotSelectedOn honest seen before after names (Library f) = OpenFaults honest seen before after f
 IsNotSelectedOn honest seen before after names BadName = (after ≡ before) × (IsTrue honest → (units : Units) × Recovers seen units × IsNotSelectedIn units names BadName)

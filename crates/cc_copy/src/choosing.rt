@@ -3,7 +3,7 @@
 ghost use Rattle.std.specs.Prelude.{◌≡◌, Some, IfOk, IfErr, OnOk};
 ghost use Rattle.std.specs.Arc.{arc_value};
 ghost use Rattle.cc_library.specs.Apply.{after};
-ghost use Rattle.cc_library.specs.declared.command.LibraryCommand.TheVariants as command;
+ghost use Rattle.cc_library.specs.declared.command.Change.TheVariants as command;
 ghost use Rattle.cc_copy.specs.Choice.{IsChosen, IsNotChosen};
 
 use cc_library::{LibraryCommand, Name, SharedUnit, UnitMap};

@@ -43,11 +43,11 @@ fn write_units<D: Disk>(
     }
 }
 
-/// Makes a new library with these units on a disk, with areas of `area` bytes. The disk is handed back. After Ok, every crash leaves these
-/// units and no others.
+/// Makes a new library with these units on a disk, with areas of `area` bytes. The disk is handed back. After Ok, every crash
+/// leaves these units and no others.
 ///
-/// Refusals: 34 if the units don't fit such an area, or two of them the disk, which is as before then; 35 if the device failed; 40
-/// if memory ran out.
+/// Refusals: 34 if the units don't fit in such an area, or two such areas don't fit on the disk, which is then as before; 35 if
+/// the device failed; 40 if memory ran out.
 pub fn copy_units<D: Disk + Drop>(
     alloc: Global,
     units: &UnitMap,
@@ -56,7 +56,7 @@ pub fn copy_units<D: Disk + Drop>(
 ) -> (Result<(), LibraryFault>, D)
     requires least { 64 ≤ area }
     requires most { area ≤ 2 ^ 30 }
-    // Of an honest disk every image has one Add a name in areas of that many bytes, and so it recovers to these units.
+    // On an honest disk every image has one Add for each name in areas of this many bytes, and so it recovers to these units.
     ensures records { OnOk result.0 (IsTrue D.honest → AllHold (D.may_leave result.1) area (compacted units.now)) }
     ensures copied { OnOk result.0 (IsTrue D.honest → (image : List ℕ) → D.may_leave result.1 image → RecoversAlone image units.now) }
     ensures fits { OnOk result.0 (room_of (compacted units.now) ≤ area) }

@@ -58,7 +58,8 @@ fn put(judged: &mut Judged, name: &Name, audit: Audit) -> Result<(), AllocError>
     Ok(())
 }
 
-// Which of the units of these names, each of which has one, an audit confirms, in the order of the names. A newline goes to `seen` for each.
+// Which of the units with these names an audit confirms, in the order of the names. Each name has a unit. A newline goes to
+// `seen` for each.
 fn judge<S: Write>(
     alloc: Global,
     units: &UnitMap,
@@ -84,8 +85,8 @@ fn judge<S: Write>(
     Ok(judged)
 }
 
-/// The units of a map that an audit confirms, and those that are left out, in the order of their names. A newline goes to `seen` for each unit
-/// that was audited, so that it may count them. The error is lack of memory.
+/// The units of a map that an audit confirms, and those that are left out, in the order of their names. A newline goes to `seen`
+/// for each unit that was audited, so that `seen` can count them. The error is lack of memory.
 pub fn confirm<S: Write>(
     alloc: Global,
     units: &UnitMap,

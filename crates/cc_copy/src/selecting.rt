@@ -37,7 +37,7 @@ fn names_in(alloc: Global, texts: &[String]) -> Result<Vec<Name>, PartFault>
     Ok(names)
 }
 
-// The units of these names, or all. For the first name without one it is said which one is near.
+// The units of these names, or all. For the first name that has no unit, a near one is reported.
 fn taken<E: Write>(
     alloc: Global,
     units: &UnitMap,
@@ -85,7 +85,7 @@ fn selection<S: Write>(
     selection
 }
 
-// What is selected of a map.
+// What is selected from a map.
 fn selected<S: Write, E: Write>(
     alloc: Global,
     units: &UnitMap,
@@ -115,12 +115,12 @@ fn selected<S: Write, E: Write>(
     }
 }
 
-/// The units of these names in the library on a disk, or all of them if no name is given; of these all, or those that an audit confirms. The disk
-/// is handed back, and nothing is written to it. A newline goes to `seen` for each unit that was audited, and of a name that no unit has it is
-/// written to `explanations` which one is near.
+/// The units of these names in the library on a disk, or all of them if no name is given; all of these, or those that an audit
+/// confirms. The disk is handed back, and nothing is written to it. A newline goes to `seen` for each unit that was audited, and
+/// for a name that no unit has, a near one is written to `explanations`.
 ///
-/// Refusals: first those of `Library::open`, 35, 38, 37 and 40; then 33 if one of the texts is no name; then 32 if one of the names has no unit;
-/// 40 if memory ran out.
+/// Refusals: first those of `Library::open`, 35, 38, 37 and 40; then 33 if one of the texts is no name; then 32 if one of the
+/// names has no unit; 40 if memory ran out.
 pub fn selection_on<D: Disk + Drop, S: Write, E: Write>(
     alloc: Global,
     disk: D,
@@ -129,7 +129,7 @@ pub fn selection_on<D: Disk + Drop, S: Write, E: Write>(
     seen: &mut S,
     explanations: &mut E,
 ) -> (Result<Selection, PartFault>, D)
-    // Of an honest disk they are those of the map to which it recovers.
+    // On an honest disk the units are selected from the map to which it recovers.
     ensures selected { IfOk result.0 (λ selection. IsTrue D.honest → IsSelectedOn (D.seen disk) (map string_bytes names.now) is_confirmed selection) }
     ensures refused { IfErr result.0 (λ fault. IsNotSelectedOn D.honest (D.seen disk) (D.failures disk) (D.failures result.1) (map string_bytes names.now) fault) }
     ensures reads { IsTrue D.honest → OnlyReads D.seen D.may_leave D.moment D.left_since disk result.1 }

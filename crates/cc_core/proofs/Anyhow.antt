@@ -1,4 +1,4 @@
--- What holds for a run, whatever pieces are handed in and whatever units were found at the opening.
+-- What holds for a run, no matter which pieces are handed in and which units were found at the opening.
 use Rattle.std.proofs.Common.{◌⊎◌, inl, inr, ℕ, List, [], ◌∷◌}
 use Rattle.cc_unit.specs.declared.unit.StoredUnit.{StoredUnit}
 use Rattle.cc_core.specs.declared.contents.Contents.{Contents}
@@ -8,7 +8,7 @@ use Rattle.cc_core.specs.Run.{IsAnyPiece, IsBeginning, Turn, Run}
 use Rattle.cc_core.proofs.Whole.{IsLawful}
 use Rattle.cc_core.proofs.Sound.{IsSound, run_IsSound, beginning-IsSound}
 
--- a property of every unit
+-- a property that every unit has
 abbrev pub is_any_unit : StoredUnit → Type 0
 is_any_unit unit = Unit {0}
 
@@ -20,7 +20,7 @@ module _ {P : Type 0} (rules : Rules P) where
   sound_anyhow first events new started run =
       run_IsSound rules IsAnyPiece is_any_unit any_lawful first events new (beginning-IsSound rules IsAnyPiece is_any_unit any_lawful first started (λ name unit at. tt)) run
 
-  -- a run in which each piece keeps something is also one in which pieces keep nothing
+  -- a run whose pieces keep something is also a run whose pieces need not keep anything
   turn_anyhow : (keeps : P → Type 0) (old : Contents P) (event : Event P) (new : Contents P) → Turn rules keeps old event new → Turn rules IsAnyPiece old event new
   turn_anyhow keeps old event new (inl step) = inl (step.0, step.1, step.2, λ worker piece is. tt)
   turn_anyhow keeps old event new (inr stays) = inr stays

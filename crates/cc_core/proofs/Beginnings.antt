@@ -9,7 +9,7 @@ use Rattle.std.proofs.lemmas.Option.{slice_get_within}
 use Rattle.cc_journal.specs.Format.{HoldsRecords, header, records}
 use Rattle.cc_journal.proofs.Bytes.{header_area}
 use Rattle.cc_journal.proofs.Records.{holds_same}
-use Rattle.cc_library.specs.declared.command.LibraryCommand.{LibraryCommand}
+use Rattle.cc_library.specs.Change.{LibraryCommand}
 use Rattle.cc_library.specs.declared.fault.LibraryFault.{LibraryFault}
 use Rattle.cc_library.specs.declared.fault.LibraryFault.TheVariants.{Exists, Absent, Full, DiskFault, Closed, Damaged, NotALibrary, OutOfMemory}
 use Rattle.cc_library.specs.Answers.{OpenFaults}
@@ -29,7 +29,7 @@ use Rattle.cc_core.proofs.Lists.{slice_get-push}
 
 -- ---- the header
 
--- the bytes that were read first give the size of an area and the area byte
+-- the bytes that were read first give the size of an area, and the area byte
 pub header_read : (image : List ℕ) (area : ℕ) (bodies : List (List ℕ)) (h : HoldsRecords image area bodies) (prefix : List ℕ) → prefix ≡ take 16 (drop 0 image)
     → (area ≡ from_le_bytes w32 (get_or prefix 8 0 ∷ get_or prefix 9 0 ∷ get_or prefix 10 0 ∷ get_or prefix 11 0 ∷ [])) × (h.area_byte ≡ get_or prefix 0 0)
 header_read image area bodies h prefix read =
@@ -37,7 +37,7 @@ header_read image area bodies h prefix read =
     let is : prefix ≡ header h.area_byte area = read ∙ ap (λ (l : List ℕ). take 16 l) h.bytes ∙ take_at (header h.area_byte area) rest 16 refl in
     (sym (header_area prefix h.area_byte area is (omega (arith, h.is_area.most))), sym (ap (λ (l : List ℕ). get_or l 0 0) is))
 
--- the same records, in areas of an equal size
+-- equal bytes hold the same records, in areas of equal size
 pub holds_at : (image other : List ℕ) (area size : ℕ) (bodies : List (List ℕ)) (h : HoldsRecords image area bodies) → image ≡ other → area ≡ size
     → (k : HoldsRecords other size bodies) × (k.area_byte ≡ h.area_byte)
 holds_at image other area size bodies h same is =
@@ -64,7 +64,7 @@ order_leads bodies library order upcoming stand o =
     let same = same_commands bodies stand.commands (commands order) stand.spelled o.spelled in
     (stand.map_is ∙ ap library_of same, subst (AreAccepted empty) same stand.accepted)
 
--- these bodies were read so far, and those after them are left
+-- the bodies so far were read, and the bodies `behind` are left
 pub record IsReadTo (bodies behind : List (List ℕ)) (order : List Numbered) (upcoming : ℕ) : Type 0 where
   pub leads : (rest : List LibraryCommand) → AreSpelled behind rest → AreSpelled bodies (commands order ++ rest)
   pub counted : (k : ℕ) (a : Numbered) → slice_get order k ≡ Some a → a.number.value ≡ k
@@ -117,7 +117,7 @@ no_failure image fault o is = let no = subst (OpenFaults true image 0 0) is o in
 
 -- ---- a beginning
 
--- its order is that of whichever records the bytes hold
+-- the order at the beginning is that of whichever records the bytes hold
 pub order_of : (image : List ℕ) (o : Opened) → IsOpenedAt image o → (area : ℕ) (bodies : List (List ℕ)) → HoldsRecords image area bodies → IsOrderOf bodies o.order o.upcoming
 order_of image o at area bodies h =
     let there : HoldsRecords image o.store.area at.bodies = subst (λ (l : List ℕ). HoldsRecords l o.store.area at.bodies) at.bytes at.holds in

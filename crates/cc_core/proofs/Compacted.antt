@@ -1,5 +1,5 @@
--- The shortest journal of a map stands for it too, and never takes more room than any journal that does. How: by entries. Each entry has a
--- name and a unit that some command had.
+-- The shortest journal of a map represents the map, and never takes more room than any other journal that does. The proof goes by
+-- entries: each entry has a name and a unit that some command had.
 use Rattle.std.proofs.Common.{◌≡◌, ℕ, ◌≤◌, Bool, true, false, cond, List, [], ◌∷◌, sym, subst, arith}
 use Rattle.std.specs.Prelude.{Ok, Err}
 use Rattle.std.specs.declared.cmp.Ordering.{Ordering}
@@ -10,8 +10,8 @@ use Rattle.std.specs.FinMap as map
 use Rattle.std.specs.FinMap.Entries.{put, by_order}
 use Rattle.cc_journal.specs.Format.{room_of}
 use Rattle.cc_unit.specs.declared.unit.StoredUnit.{StoredUnit}
-use Rattle.cc_library.specs.declared.command.LibraryCommand.{LibraryCommand}
-use Rattle.cc_library.specs.declared.command.LibraryCommand.TheVariants.{Add, Replace, Withdraw}
+use Rattle.cc_library.specs.Change.{LibraryCommand}
+use Rattle.cc_library.specs.declared.command.Change.TheVariants.{Add, Replace, Withdraw}
 use Rattle.cc_library.specs.Apply.{Units, after, after_all, kept}
 use Rattle.cc_library.specs.Body.{IsCommand}
 use Rattle.cc_library.specs.Compact.{adds, bodies_of, compacted}
@@ -85,7 +85,7 @@ right_empty = subst AreRight (sym (no_entries nat_list_cmp_total)) tt
 
 -- ---- the shortest journal
 
--- takes no more room than any that stands for the map
+-- the shortest journal takes no more room than any other that represents the map
 pub compacted_fits : (bodies : List (List ℕ)) (units : Units) → StandFor bodies units → room_of (compacted units) ≤ room_of bodies
 compacted_fits bodies units stand = omega (arith, compacted_least bodies units stand)
 
@@ -93,7 +93,7 @@ spelled_adds : (es : List Entry) → AreRight es → AreSpelled (bodies_of (adds
 spelled_adds [] all = tt
 spelled_adds (e ∷ es) all = (written (Add e.0 e.1) all.0, spelled_adds es all.1)
 
--- and it represents the map
+-- the shortest journal represents the map
 pub compacted_stands : (bodies : List (List ℕ)) (units : Units) → StandFor bodies units → StandFor (compacted units) units
 compacted_stands bodies units stand =
     let right : IsRight units = subst IsRight (sym stand.map_is) (right_all map.empty bodies stand.commands stand.spelled right_empty) in

@@ -53,7 +53,7 @@ pub record HoldsOrder (store : StoreState) (order : List Numbered) : Type 0 wher
   pub rest : IsAtRest store bodies
   pub stand : StandFor bodies (library_of (commands order))
 
--- in a commit: the disk is at the step that is due, and held the order without the last command
+-- in a commit: the disk is at the point where this step is due; its old records represent the order without the last command
 pub record HoldsFlight (numbered : Numbered) (due : Due) (store : StoreState) (order acknowledged : List Numbered) : Type 0 where
   pub bodies : List (List ℕ)
   pub prefix : List Numbered
@@ -65,7 +65,7 @@ pub record HoldsFlight (numbered : Numbered) (due : Due) (store : StoreState) (o
   pub room : HasRoom due store numbered.command
   pub on_disk : InCommit due store bodies (body_of numbered.command)
 
--- in a rewrite: the disk is at the step that is due, and both the old records and the new ones represent the order
+-- in a rewrite: the disk is at the point where this step is due; the old records and the new ones both represent the order
 pub record HoldsRewrite (commit : Commit) (due : RewriteDue) (store : StoreState) (order : List Numbered) : Type 0 where
   pub bodies : List (List ℕ)
   pub more : List (List ℕ)
@@ -75,11 +75,11 @@ pub record HoldsRewrite (commit : Commit) (due : RewriteDue) (store : StoreState
   pub room : room_of more ≤ store.area
   pub on_disk : InRewrite due store bodies more
 
--- after a failed step: each image ends in this way
+-- after a failed step: `Ends` holds for each image
 abbrev pub HoldsEnds : StoreState → List Numbered → List Numbered → Type 0
 HoldsEnds store order acknowledged = (image : List ℕ) → IsImage store.cells image → Ends store.area order acknowledged image
 
--- after a crash: there is one image, and it ends in this way
+-- after a crash: there is one image, and `Ends` holds for it
 pub record HoldsCrash (store : StoreState) (order acknowledged : List Numbered) : Type 0 where
   pub alone : LeavesAlone (bytes_of store.cells) (IsImage store.cells)
   pub ends : Ends store.area order acknowledged (bytes_of store.cells)
@@ -98,7 +98,7 @@ stand_more bodies prefix numbered order is stand spelled taken =
     subst (StandFor (bodies ++ body_of numbered.command ∷ [])) (sym (ap (λ (l : List Numbered). library_of (commands l)) is ∙ library-push prefix numbered))
     (one_more bodies (library_of (commands prefix)) (body_of numbered.command) numbered.command stand (written numbered.command spelled) taken)
 
--- what an image with the old records, or with one more, recovers to
+-- if an image holds the old records, or these and one more, `Ends` holds for it
 pub ends_of : (numbered : Numbered) (store : StoreState) (order acknowledged : List Numbered) (bodies : List (List ℕ)) (prefix : List Numbered) → order ≡ prefix ++ numbered ∷ [] → All (Contains prefix) acknowledged
     → IsOk (apply (library_of (commands prefix)) numbered.command) → StandFor bodies (library_of (commands prefix)) → IsCommand numbered.command
     → (image : List ℕ) → HoldsInOneOf store.area_byte store.area bodies (body_of numbered.command) image → Ends store.area order acknowledged image
@@ -107,13 +107,13 @@ ends_of numbered store order acknowledged bodies prefix is acked taken stand spe
 ends_of numbered store order acknowledged bodies prefix is acked taken stand spelled image (inr new) =
     record { bodies = bodies ++ body_of numbered.command ∷ []; held = new.holds; known = inl (stand_more bodies prefix numbered order is stand spelled taken) }
 
--- what an image with the old records or with the new ones of a rewrite recovers to
+-- if an image holds the old records or the new ones of a rewrite, `Ends` holds for it
 pub ends_either : (area : ℕ) (order acknowledged : List Numbered) (bodies more : List (List ℕ)) → StandFor bodies (library_of (commands order)) → StandFor more (library_of (commands order))
     → (image : List ℕ) → HoldsOneOf area bodies more image → Ends area order acknowledged image
 ends_either area order acknowledged bodies more stand stand_anew image (inl old) = record { bodies = bodies; held = old.holds; known = inl stand }
 ends_either area order acknowledged bodies more stand stand_anew image (inr new) = record { bodies = more; held = new.holds; known = inl stand_anew }
 
--- in every phase each image ends in this way
+-- in every phase `Ends` holds for each image
 pub each_ends : (phase : Phase) (store : StoreState) (order acknowledged : List Numbered) → IsKept phase store order acknowledged → (image : List ℕ) → IsImage store.cells image → Ends store.area order acknowledged image
 each_ends Idle store order acknowledged k image now = record { bodies = k.bodies; held = (k.rest.images image now).holds; known = inl k.stand }
 each_ends (Committing client numbered due) store order acknowledged k image now =
@@ -123,7 +123,7 @@ each_ends (Rewriting commit due) store order acknowledged k image now =
 each_ends (Failed failed) store order acknowledged k image now = k image now
 each_ends Crashed store order acknowledged k image now = subst (Ends store.area order acknowledged) (sym (k.alone image now)) k.ends
 
--- each further step of a rewrite is kept
+-- after each further step of a rewrite, what holds for the new phase holds
 pub rewrite_kept : (commit : Commit) (due : RewriteDue) (store : StoreState) (order acknowledged : List Numbered) → HoldsRewrite commit due store order
     → IsKept (phase_after commit due) (rewrite_stepped due commit store) order acknowledged
 rewrite_kept commit SyncAll store order acknowledged h = record {
@@ -150,7 +150,7 @@ rewrite_kept commit SyncArea store order acknowledged h = record {
   stand = h.stand_anew;
 }
 
--- so it survives
+-- so such an image survives
 pub ends_survives : (area : ℕ) (order acknowledged : List Numbered) (image : List ℕ) → AreRising order → AreRising acknowledged → All (Contains order) acknowledged → Ends area order acknowledged image
     → Survives image order acknowledged
 ends_survives area order acknowledged image rising rising_acked acked e = at e.known
@@ -177,7 +177,8 @@ ends_survives area order acknowledged image rising rising_acked acked e = at e.k
       recovers = holds_recovers image area e.bodies (library_of (commands lacks.prefix)) (holds_alone image area e.bodies e.held) lacks.stand;
     }
 
--- so what it recovers to is right, if the order's library is, and the library of the order without its last command
+-- so the library that an image recovers to is right, if the order's library is right and so is the library of the order without
+-- its last command
 pub ends_right : (is_right : StoredUnit → Type 0) (area : ℕ) (order acknowledged : List Numbered) (image : List ℕ) → Ends area order acknowledged image → EachUnit is_right (library_of (commands order))
     → ((prefix : List Numbered) (last : Numbered) → order ≡ prefix ++ last ∷ [] → EachUnit is_right (library_of (commands prefix))) → (library : Units) → Recovers image library → EachUnit is_right library
 ends_right is_right area order acknowledged image e whole before library recovered = at e.known
@@ -188,13 +189,13 @@ ends_right is_right area order acknowledged image e whole before library recover
         subst (EachUnit is_right) (sym ((holds_recovers image area e.bodies (library_of (commands lacks.prefix)) (holds_alone image area e.bodies e.held) lacks.stand).alone library recovered))
         (before lacks.prefix lacks.last lacks.is)
 
--- if both lists of records represent one library, what it recovers to is right
+-- if both lists of records represent one library and it is right, the library that an image recovers to is right
 pub one_right : (is_right : StoredUnit → Type 0) (area : ℕ) (bodies more : List (List ℕ)) (units : Units) → StandFor bodies units → StandFor more units → EachUnit is_right units
     → (image : List ℕ) → HoldsOneOf area bodies more image → (library : Units) → Recovers image library → EachUnit is_right library
 one_right is_right area bodies more units stand stand_anew each image (inl old) library recovered = subst (EachUnit is_right) (sym ((holds_recovers image area bodies units old stand).alone library recovered)) each
 one_right is_right area bodies more units stand stand_anew each image (inr new) library recovered = subst (EachUnit is_right) (sym ((holds_recovers image area more units new stand_anew).alone library recovered)) each
 
--- no command is under way: the disk holds the whole order
+-- no command is in commit or has failed: the disk holds the whole order
 abbrev pub IsWhole : Phase → Type 0
 IsWhole Idle = Unit {0}
 IsWhole (Committing client numbered due) = ⊥
@@ -202,7 +203,7 @@ IsWhole (Rewriting commit due) = Unit {0}
 IsWhole (Failed failed) = ⊥
 IsWhole Crashed = ⊥
 
--- so each image recovers to its library
+-- so each image recovers to a right library, if the order's library is right
 pub each_right : (is_right : StoredUnit → Type 0) (phase : Phase) (store : StoreState) (order acknowledged : List Numbered) → IsWhole phase → IsKept phase store order acknowledged
     → EachUnit is_right (library_of (commands order)) → (image : List ℕ) (library : Units) → IsImage store.cells image → Recovers image library → EachUnit is_right library
 each_right is_right Idle store order acknowledged w k each image library now =

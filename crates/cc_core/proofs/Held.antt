@@ -1,5 +1,6 @@
--- What the images of the disk hold during a commit, one device step after the other. The reason: a write leaves each image as an earlier
--- image, except in its range; a sync leaves only one image; and the journal's lemmas say what such bytes hold.
+-- What the images of the disk hold during a commit, one device step after the other. The reason: after a write each image is an
+-- earlier image, except in the range of the write; after a sync there is only one image; and the journal's lemmas say what such
+-- bytes hold.
 use Rattle.std.proofs.Common.{◌≡◌, ◌⊎◌, inl, inr, ⊎_elim, true, false, cond, ℕ, ◌+◌, zero, suc, ◌*◌, ◌%◌, ◌<◌, ◌≤◌, List, [], ◌∷◌, ◌++◌, length, take, drop, get_or, refl, sym, ◌∙◌, ap, subst, arith, length-append}
 use Rattle.std.proofs.lemmas.Nat.{mod_below}
 use Rattle.std.proofs.lemmas.List.{take_at, drop_at, drop_more, take-take, take-append-le, length-take-le, length-map}
@@ -12,7 +13,7 @@ use Rattle.cc_journal.specs.Commit.{area_begin}
 use Rattle.cc_journal.specs.Journal.{HoldsFrom}
 use Rattle.cc_journal.proofs.Records.{length-records_push, length-record_bytes}
 use Rattle.cc_journal.proofs.Images.{frame, length-frame, behind_gate, at_gate, committed, length-written}
-use Rattle.cc_library.specs.declared.command.LibraryCommand.{LibraryCommand}
+use Rattle.cc_library.specs.Change.{LibraryCommand}
 use Rattle.cc_library.specs.Body.{body_of}
 use Rattle.cc_core.specs.declared.contents.Due.{Due}
 use Rattle.cc_core.specs.declared.contents.Due.TheVariants.{WriteBody, SyncBody, WriteGate, SyncGate, Acknowledge}
@@ -20,12 +21,12 @@ use Rattle.cc_core.specs.StoreState.{StoreState}
 use Rattle.cc_core.specs.Store.{gate_of, stepped, due_after, FailsTo}
 use Rattle.cc_core.specs.internal.Ready.{HasRoom}
 
--- these records are in the area of the image that this area byte names
+-- the image holds these records, in the area that this area byte names
 pub record HoldsIn (byte area : ℕ) (bodies : List (List ℕ)) (image : List ℕ) : Type 0 where
   pub holds : HoldsRecords image area bodies
   pub header_is : take 16 image ≡ header byte area
 
--- these records, or these with one more
+-- the image holds these records, or these and one more
 abbrev pub HoldsInOneOf : ℕ → ℕ → List (List ℕ) → List ℕ → List ℕ → Type 0
 HoldsInOneOf byte area bodies body image = HoldsIn byte area bodies image ⊎ HoldsIn byte area (bodies ++ body ∷ []) image
 
@@ -52,7 +53,7 @@ first_of-header b c area same = ap first_of same
 pub begins_behind : (b byte area n : ℕ) → b ≡ byte → n ≡ b % 2 * area → area_begin byte area ≡ 16 + n
 begins_behind b byte area n same is = ap (λ (k : ℕ). 16 + k) (ap (λ (k : ℕ). k % 2 * area) (sym same) ∙ sym is)
 
--- the area byte of these records
+-- if an image holds records under this area byte, its own area byte is that one
 pub byte_of : (byte area : ℕ) (bodies : List (List ℕ)) (image : List ℕ) (a : HoldsIn byte area bodies image) → a.holds.area_byte ≡ byte
 byte_of byte area bodies image a =
     let h = a.holds in
@@ -60,7 +61,7 @@ byte_of byte area bodies image a =
     sym (take_at (header h.area_byte area) (h.other ++ (records bodies ++ h.gate ∷ h.behind)) 16 refl) ∙ sym (ap (λ (l : List ℕ). take 16 l) h.bytes) ∙ a.header_is in
     first_of-header h.area_byte byte area prefix
 
--- the records of an image are in the area that its header names
+-- an image that holds records holds them in the area that its header names
 pub holds_in : (area : ℕ) (bodies : List (List ℕ)) (image : List ℕ) (h : HoldsRecords image area bodies) → HoldsIn h.area_byte area bodies image
 holds_in area bodies image h = record {
   holds = h;
@@ -71,19 +72,19 @@ abbrev pub holds_from : (byte area : ℕ) (bodies : List (List ℕ)) (image : Li
 holds_from byte area bodies image a =
     record { holds = a.holds; begins = begins_behind a.holds.area_byte byte area (length a.holds.other) (byte_of byte area bodies image a) a.holds.offset }
 
--- the bytes in front of a range that differs
+-- if two images differ only within a range after the header, they have the same header
 same_header : (place n : ℕ) (old new : List ℕ) (prefix : List ℕ) → 16 ≤ place → DiffersWithin place n old new → take 16 old ≡ prefix → take 16 new ≡ prefix
 same_header place n old new prefix le differs is =
     sym (take-take 16 place new le) ∙ ap (λ (l : List ℕ). take 16 l) differs.before ∙ take-take 16 place old le ∙ is
 
--- the bytes in front of a range that was written
+-- if bytes were written after the header, the header is the same
 pub written_header : (place : ℕ) (bytes old new prefix : List ℕ) → 16 ≤ place → place ≤ length old → IsWritten old place bytes new → take 16 old ≡ prefix → take 16 new ≡ prefix
 written_header place bytes old new prefix le within is same =
     ap (λ (l : List ℕ). take 16 l) is
     ∙ take-append-le 16 (take place old) (bytes ++ drop (place + length bytes) old) (omega (arith, le, length-take-le place old within))
     ∙ take-take 16 place old le ∙ same
 
--- writing a byte in front of bytes that were written before is like writing both at once
+-- to write bytes, and then one byte just before them, is to write both at once
 pub two_writes : (old : List ℕ) (g x : ℕ) (xs written new : List ℕ) → g + 1 ≤ length old → IsWritten old (g + 1) xs written → IsWritten written g (x ∷ []) new → IsWritten old g (x ∷ xs) new
 two_writes old g x xs written new within first second =
     let rest = drop (g + 1 + length xs) old in
@@ -95,7 +96,7 @@ two_writes old g x xs written new within first second =
     second ∙ ap (λ (l : List ℕ). l ++ x ∷ drop (g + 1) written) prefix ∙ ap (λ (l : List ℕ). take g old ++ x ∷ l) (back ∙ ap (λ (k : ℕ). xs ++ drop k old) place)
 
 module _ (byte area used : ℕ) (bodies : List (List ℕ)) (taken : used ≡ length (records bodies)) where
-  -- whatever comes after the closed gate, the old records are held
+  -- whatever is changed after the closed gate, the old records are still held
   behind_held : (n : ℕ) (old image : List ℕ) → HoldsIn byte area bodies old → DiffersWithin (area_begin byte area + used + 1) n old image → HoldsIn byte area bodies image
   behind_held n old image a differs =
       let least = begin_least byte area in
@@ -104,7 +105,8 @@ module _ (byte area used : ℕ) (bodies : List (List ℕ)) (taken : used ≡ len
         header_is = same_header (area_begin byte area + used + 1) n old image (header byte area) (omega (arith, least)) differs a.header_is;
       }
 
-  -- if a body was written after the gate, then, whatever the gate is, the old records or these and the new one are held
+  -- if a body was written after the gate, then, whatever byte the gate is, the image holds the old records, or these and the new
+  -- one
   at_gate_held : (body old written image : List ℕ) → HoldsIn byte area bodies old → used + length body + 6 ≤ area → IsWritten old (area_begin byte area + used + 1) (frame body) written → length written ≡ length old
       → DiffersWithin (area_begin byte area + used) 1 written image → HoldsInOneOf byte area bodies body image
   at_gate_held body old written image a room is long differs =
@@ -119,7 +121,7 @@ module _ (byte area used : ℕ) (bodies : List (List ℕ)) (taken : used ≡ len
       (λ alone. inr (record { holds = alone.holds; header_is = head }))
       (at_gate old begin area used bodies (holds_from byte area bodies old a) taken body written image room is long differs)
 
-  -- and if the gate is open, the new one is held too
+  -- if a body was written after the gate and the gate is open, the image holds the new record too
   opened_held : (body old written new : List ℕ) → HoldsIn byte area bodies old → used + length body + 6 ≤ area → IsWritten old (area_begin byte area + used + 1) (frame body) written
       → IsWritten written (area_begin byte area + used) (open_gate ∷ []) new → HoldsIn byte area (bodies ++ body ∷ []) new
   opened_held body old written new a room first second =
@@ -135,7 +137,7 @@ module _ (byte area used : ℕ) (bodies : List (List ℕ)) (taken : used ≡ len
 
 -- ---- the disk at each point of a commit
 
--- the records, and nothing unsettled that could change them
+-- the disk holds the records, and nothing unsettled could change them
 pub record IsAtRest (store : StoreState) (bodies : List (List ℕ)) : Type 0 where
   pub taken : store.used ≡ length (records bodies)
   pub images : (image : List ℕ) → IsImage store.cells image → HoldsIn store.area_byte store.area bodies image
@@ -148,7 +150,7 @@ pub record IsBodyWritten (store : StoreState) (bodies : List (List ℕ)) (body :
   pub long : length (bytes_of store.cells) ≡ length before
   pub seen : IsWritten before (gate_of store + 1) (frame body) (bytes_of store.cells)
 
--- and settled
+-- the body was written and is settled
 pub record IsBodySettled (store : StoreState) (bodies : List (List ℕ)) (body : List ℕ) : Type 0 where
   pub body_written : IsBodyWritten store bodies body
   pub alone : LeavesAlone (bytes_of store.cells) (IsImage store.cells)
@@ -159,7 +161,7 @@ pub record IsGateWritten (store : StoreState) (bodies : List (List ℕ)) (body :
   pub images : (image : List ℕ) → IsImage store.cells image → HoldsInOneOf store.area_byte store.area bodies body image
   pub seen : HoldsIn store.area_byte store.area (bodies ++ body ∷ []) (bytes_of store.cells)
 
--- the point of the commit, by the step that is due
+-- the point of the commit at which this step is due
 abbrev pub InCommit : Due → StoreState → List (List ℕ) → List ℕ → Type 0
 InCommit WriteBody store bodies body = IsAtRest store bodies
 InCommit SyncBody store bodies body = IsBodyWritten store bodies body
@@ -183,7 +185,7 @@ length-bytes_of cells = length-map cells (λ (c : Cell). c.byte)
 pub size_of : (store : StoreState) (bodies : List (List ℕ)) → HoldsIn store.area_byte store.area bodies (bytes_of store.cells) → 16 + 2 * store.area ≤ length store.cells
 size_of store bodies a = omega (arith, a.holds.is_area.room, length-bytes_of store.cells)
 
--- the bytes after the gate are written, whatever they are
+-- whatever bytes are written after the gate, each image still holds the old records
 body_images : (store : StoreState) (bodies : List (List ℕ)) (bytes : List ℕ) → IsAtRest store bodies → store.used + length bytes + 1 ≤ store.area
     → (image : List ℕ) → IsImage (written store.cells (gate_of store + 1) bytes) image → HoldsIn store.area_byte store.area bodies image
 body_images store bodies bytes rest room image now =
@@ -191,7 +193,7 @@ body_images store bodies bytes rest room image now =
     let from = written_images store.cells (gate_of store + 1) bytes (omega (arith, size, room, begin_most store.area_byte store.area)) image now in
     behind_held store.area_byte store.area store.used bodies rest.taken (length bytes) from.0 image (rest.images from.0 from.1) from.2
 
--- the gate is written, whatever it is
+-- whatever byte is written as the gate, each image holds the old records, or these and the new one
 gate_images : (store : StoreState) (bodies : List (List ℕ)) (body : List ℕ) (byte : ℕ) → IsBodySettled store bodies body → store.used + length body + 6 ≤ store.area
     → (image : List ℕ) → IsImage (written store.cells (gate_of store) (byte ∷ [])) image → HoldsInOneOf store.area_byte store.area bodies body image
 gate_images store bodies body byte s room image now =
@@ -246,7 +248,7 @@ commit_goes_on SyncGate store bodies command room c =
     }
 commit_goes_on Acknowledge store bodies command room c = c
 
--- there is still room
+-- after a step there is still room for the command
 pub room_goes_on : (due : Due) (store : StoreState) (command : LibraryCommand) → HasRoom due store command → HasRoom (due_after due) (stepped due command store) command
 room_goes_on WriteBody store command room = room
 room_goes_on SyncBody store command room = room
@@ -254,7 +256,7 @@ room_goes_on WriteGate store command room = room
 room_goes_on SyncGate store command room = tt
 room_goes_on Acknowledge store command room = tt
 
--- what a failed step leaves
+-- after a failed step, each image holds the old records, or these and the new one
 pub failed_images : (due : Due) (store new : StoreState) (bodies : List (List ℕ)) (command : LibraryCommand) → HasRoom due store command → InCommit due store bodies (body_of command) → FailsTo due command store new
     → (image : List ℕ) → IsImage new.cells image → HoldsInOneOf new.area_byte new.area bodies (body_of command) image
 failed_images WriteBody store new bodies command room c f =
@@ -286,7 +288,7 @@ crashed_image (cell ∷ cells) (byte ∷ choice) = (left_byte cell byte, crashed
     left_byte : (cell : Cell) (byte : ℕ) → cell.settled ≡ true → (left cell byte).byte ≡ cell.byte
     left_byte cell byte is = ap (λ b. (cond b (settled cell.byte) (settled byte)).byte) is
 
--- and it settles everything
+-- after a crash every byte is settled
 pub crashed_alone : (cells : List Cell) (choice : List ℕ) → LeavesAlone (bytes_of (crashed cells choice)) (IsImage (crashed cells choice))
 crashed_alone [] choice [] now = refl
 crashed_alone [] choice (b ∷ image) now = absurd now
@@ -301,7 +303,7 @@ crashed_alone (cell ∷ cells) (byte ∷ choice) (b ∷ image) now = (λ i. now.
     left_settled : (cell : Cell) (byte : ℕ) → (left cell byte).settled ≡ true
     left_settled cell byte = elim (cell.settled) as (λ b. (cond b (settled cell.byte) (settled byte)).settled ≡ true) [ true ↦ refl | false ↦ refl ]
 
--- a disk that a crash cannot change has the same bytes after one
+-- if a crash cannot change a disk, the disk has the same bytes after a crash
 pub crashed_same : (cells : List Cell) (choice : List ℕ) → LeavesAlone (bytes_of cells) (IsImage cells) → bytes_of (crashed cells choice) ≡ bytes_of cells
 crashed_same cells choice alone = alone (bytes_of (crashed cells choice)) (crashed_image cells choice)
 
@@ -310,7 +312,7 @@ length-crashed cells choice = sym (length-bytes_of (crashed cells choice)) ∙ l
 
 -- ---- the number of bytes that records take
 
--- one more record was counted
+-- counting one more record: the bytes counted and those of the records that are left are still the bytes of all records
 pub taken_more : (bodies : List (List ℕ)) (i taken : ℕ) (d : List ℕ) → i < length bodies → taken + length (records (drop i bodies)) ≡ length (records bodies)
     → taken + (length (get_or bodies i d) + 5) + length (records (drop (i + 1) bodies)) ≡ length (records bodies)
 taken_more bodies i taken d within so_far =

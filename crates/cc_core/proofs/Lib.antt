@@ -1,18 +1,19 @@
--- How the crash theorem is shown. Each handler gives its clause of `Step`. What the disk's images hold is described by phase, and a device
--- step leads from one point of a commit to the next (Held). In every phase an image holds records that represent the order, or all but its
--- last command, which was then not acknowledged (Ending); each step keeps this (Sound). What a recovery keeps of the order is decided by
--- whether the last command is in effect (Orders). In a rewrite the old records and the new ones both represent the whole order, so
--- whichever a crash leaves, nothing is lost; that an image has the one or the other is the journal's lemma on its commit (Rewrites). After
--- a crash in the write of the area byte it is not known which area is in use: the recovery reads it. The new records always fit: a command
--- puts at most one entry into the map, whose record is as long as that command's (Compacted).
+-- How the crash theorem is shown. Each handler gives its clause of `Step`. What the disk's images hold is described by phase, and
+-- a device step leads from one point of a commit to the next (Held). In every phase an image holds records that represent the
+-- order, or all but its last command, which was then not acknowledged (Ending); each step keeps this (Sound). Whether the last
+-- command is in effect decides what a recovery keeps of the order (Orders). In a rewrite the old records and the new ones both
+-- represent the whole order, so whichever a crash leaves, nothing is lost; the journal's lemma about its commit says that an
+-- image has one or the other (Rewrites). After a crash during the write of the area byte it is not known which area is in use;
+-- the recovery reads that byte. The new records always fit: a command puts at most one entry into the map, whose record is as
+-- long as that command's (Compacted).
 --
 -- From small to large: lists and orders, what the disk holds during a commit and a rewrite, what each step keeps, whole runs.
 --
 -- structs without fields at run time
 pub mod Walks
--- a write to one piece of one job
+-- one piece of one job is written
 pub mod Jobs
--- lists with one element written or one more
+-- lists in which one element is written or pushed
 pub mod Lists
 -- a command that a job begins has a right unit
 pub mod Whole
@@ -26,7 +27,7 @@ pub mod Compacted
 pub mod Rewrites
 -- what each image recovers to, by phase
 pub mod Ending
--- what an event asks for gives it its step
+-- if what an event asks for holds, the event has a step
 pub mod Possible
 -- what the records of an opened disk show
 pub mod Beginnings

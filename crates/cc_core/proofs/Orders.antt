@@ -1,4 +1,4 @@
--- Orders of commands: one more at the end, the prefix that a recovery keeps, and what a command leaves in the library.
+-- Orders of commands: an order with one more command, the prefix that a recovery keeps, and what a command does to the library.
 use Rattle.std.proofs.Common.{◌≡◌, ◌⊎◌, inl, inr, ℕ, ◌+◌, ◌-◌, Bool, true, false, cond, List, [], ◌∷◌, ◌++◌, length, take, Option, Some, None, Result, Ok, Err, refl, sym, ap, subst, ◌∙◌, arith, eqb}
 use Rattle.std.specs.Prelude.{IsOk, is_some, ◌↔◌}
 use Rattle.std.specs.declared.cmp.Ordering.{Ordering}
@@ -13,8 +13,8 @@ use Rattle.std.proofs.lemmas.Option.{same_Some}
 use Rattle.std.proofs.lemmas.Slice.Eq.{slice_eq-Decides}
 use lib.Pointwise.{pointwise}
 use Rattle.cc_unit.specs.declared.unit.StoredUnit.{StoredUnit}
-use Rattle.cc_library.specs.declared.command.LibraryCommand.{LibraryCommand}
-use Rattle.cc_library.specs.declared.command.LibraryCommand.TheVariants as command
+use Rattle.cc_library.specs.Change.{LibraryCommand}
+use Rattle.cc_library.specs.declared.command.Change.TheVariants as command
 use Rattle.cc_library.specs.Apply.{Units, apply, kept, after, after_all, library_of, AreAccepted}
 use Rattle.cc_core.specs.declared.command.Numbered.{Numbered}
 use Rattle.cc_core.specs.Step.{commands, IsLongest}
@@ -144,7 +144,7 @@ get_removed library name =
     get-remove nat_list_cmp_total library name name
     ∙ ap (λ b. cond b None (get library name)) ((eq_by_cmp_equiv nat_list_cmp_total).refl name)
 
--- inserting what is there already changes nothing
+-- inserting a unit that is already there under this name changes nothing
 inserted_same : (library : Units) (name : List ℕ) (unit : StoredUnit) → get library name ≡ Some unit → insert library name unit ≡ library
 inserted_same library name unit is =
     same_map nat_list_cmp_total (slice_cmp-IsAntisymmetric nat_cmp-IsAntisymmetric) (insert library name unit) library
@@ -196,7 +196,7 @@ same_certificates (Some a) None = inr (λ same. no_longer_none a (sym same))
 same_certificates (Some a) (Some b) =
     elim (same_numbers a b) [ inl same ↦ inl (ap Some same) | inr differ ↦ inr (λ same. differ (same_Some a b same)) ]
 
--- units are the same if their source, code, globals and certificate are
+-- two units with the same source, code, globals and certificate are the same
 same_unit : (a b : StoredUnit) → a.source ≡ b.source → a.image.code ≡ b.image.code → a.image.globals ≡ b.image.globals → a.certificate ≡ b.certificate → a ≡ b
 same_unit a b source code globals certificate = λ i. record { source = source i; image = record { code = code i; globals = globals i }; certificate = certificate i }
 
@@ -243,7 +243,7 @@ pub no_push : {A : Type 0} (prefix : List A) (last : A) → [] ≡ prefix ++ las
 no_push [] last e = absurd (cc)
 no_push (x ∷ prefix) last e = absurd (cc)
 
--- the test of the last command keeps some prefix
+-- every order has a prefix that the test of the last command keeps
 pub some_prefix : (library : Units) (order : List Numbered) → (kept : List Numbered) × IsPrefixKept library order kept
 some_prefix library order =
     elim (split_last order) [
@@ -265,7 +265,7 @@ longest_whole library order leads = record {
   longest = λ n more within other. absurd (omega arith);
 }
 
--- what the test of the last command keeps is the longest prefix whose library was recovered
+-- what the test of the last command keeps is the longest prefix whose library is the recovered one
 pub prefix_longest : (library : Units) (old new : List Numbered) → AreAccepted empty (commands old) → IsOfOrder library old → IsPrefixKept library old new → IsLongest library old new
 prefix_longest library old new all (inl whole) (inl keeps) =
     subst (IsLongest library old) (sym keeps.0) (longest_whole library old (sym whole))

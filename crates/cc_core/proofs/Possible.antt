@@ -1,5 +1,5 @@
--- If what an event asks for holds, it has a step: the new state is the one that the step names. And when a handler's answer is that of the
--- event.
+-- If what an event asks for holds, the event has a step: the new state is the one that the step names. The file also shows when a
+-- handler's answer is right for its event.
 use Rattle.std.proofs.Common.{◌≡◌, ◌⊎◌, inl, inr, ℕ, ◌+◌, ◌≤◌, refl, sym, subst, ap, ◌∙◌, Option, Some, None, arith, length, List}
 use Rattle.std.specs.Prelude.{slice_get, IsTrue, OnOk, OnErr, IsErr, IsErrAnd, IsErrOf, is_err, true, false, ◌↔◌, Result, Ok, Err, ◌++◌, ◌∷◌, []}
 use Rattle.std.specs.FinMap.{get, insert, remove, empty}
@@ -7,12 +7,12 @@ use Rattle.std.proofs.lemmas.List.{length-append, length-take-le}
 use Rattle.cc_journal.specs.Commit.{Commit, behind_gate}
 use Rattle.cc_journal.specs.Format.{records, room_of}
 use Rattle.cc_disk.specs.Model.{written}
-use Rattle.cc_library.specs.declared.command.LibraryCommand.{LibraryCommand}
+use Rattle.cc_library.specs.Change.{LibraryCommand}
 use Rattle.cc_library.specs.Apply.{after}
 use Rattle.cc_library.specs.Body.{body_of}
 use Rattle.cc_library.specs.Compact.{compacted}
-use Rattle.cc_core.specs.declared.command.Request.{Request}
-use Rattle.cc_core.specs.declared.command.Request.TheVariants as request
+use Rattle.cc_core.specs.Request.{Request}
+use Rattle.cc_library.specs.declared.command.Change.TheVariants as request
 use Rattle.cc_core.specs.declared.command.Numbered.{Numbered}
 use Rattle.cc_core.specs.declared.command.Reply.{Reply}
 use Rattle.cc_core.specs.declared.command.Reply.TheVariants as replies
@@ -46,7 +46,7 @@ use Rattle.cc_core.specs.internal.Answers.{Answers}
 use Rattle.cc_core.specs.internal.Ready.{IsRecoverable}
 use Rattle.cc_core.proofs.Orders.{prefix_longest, some_prefix}
 
--- a phase that was matched by its parts
+-- if a command is in commit, the client and the step that is due may be replaced with equal ones
 pub committing_is : (phase : Phase) (a b : ClientId) (numbered : Numbered) (d e : Due) → phase ≡ Committing a numbered d → d ≡ e → a.number ≡ b.number → phase ≡ Committing b numbered e
 committing_is phase a b numbered d e is due_is client_is = is ∙ (λ i. Committing (record { number = client_is i }) numbered (due_is i))
 
@@ -126,17 +126,17 @@ begun old client (Ok command) = (
 )
 begun old client (Err refused) = (Some (replies.Refused refused), ticked old, (refl, refl))
 
--- what an error leaves, if there was one
+-- if a result is an error, what holds for an error holds
 pub where_refused : {T E X : Type 0} (r : Result T E) → OnErr r X → true ≡ is_err r → X
 where_refused (Ok value) kept err = absurd (cc)
 where_refused (Err fault) kept err = kept
 
--- and what an Ok says, if there was one
+-- if a result is Ok, what holds for Ok holds
 pub where_done : {T E X : Type 0} (r : Result T E) → OnOk r X → false ≡ is_err r → X
 where_done (Ok value) done err = done
 where_done (Err fault) done err = absurd (cc)
 
--- if memory ran out, everything is as before and the event has a step
+-- if memory ran out, and everything is as before and the event has a step, the answer is right for the event
 pub memory_answers : {S : Type 0} (step : Option Reply → S → Type 0) (result : Result (Option Reply) CoreFault) (old new : S) → IsErr result → IsErrAnd result (λ fault. fault ≡ faults.OutOfMemory)
     → (reply : Option Reply) × (after : S) × step reply after → new ≡ old → Answers step result old new
 memory_answers step (Ok reply) old new err is some same = absurd (cc)
@@ -151,7 +151,7 @@ same_order old new is = not_longer old new (omega (arith, ap length is))
 committing_apart : {a : ClientId} {n : Numbered} {d : Due} {c : Commit} {e : RewriteDue} → Committing a n d ≡ Rewriting c e → ⊥
 committing_apart is = absurd (cc)
 
--- if the second of two steps is impossible, the first one's answer is that of both
+-- if the second of two steps is impossible, an answer for the first one is an answer for either
 pub answers_first : {S : Type 0} (A B : Option Reply → S → Type 0) (result : Result (Option Reply) CoreFault) (old new : S) → ((reply : Option Reply) (after : S) → B reply after → ⊥)
     → Answers A result old new → Answers (λ reply after. A reply after ⊎ B reply after) result old new
 answers_first A B (Ok reply) old new none a = (
@@ -214,7 +214,7 @@ module _ {P : Type 0} where
 
   -- ---- how a handler answers
 
-  -- a handler of the core answers for the event
+  -- a handler of the core answers for its event
   pub core_answers : (step : Core → Option Reply → Core → Type 0) (old new : Contents P) (result : Result (Option Reply) CoreFault) → Answers (step old.core) result old.core new.core
       → new.jobs ≡ old.jobs → new.workers ≡ old.workers → Answers (StepsCore step old) result old new
   core_answers step old new (Ok reply) a jobs workers = (
@@ -230,7 +230,7 @@ module _ {P : Type 0} where
     λ i. record { core = a.3 i; jobs = jobs i; workers = workers i },
   )
 
-  -- so does one that ends a job, or all jobs, if it refuses
+  -- a handler that ends a job, or all jobs, answers for its event if it refuses
   pub ends_refused : (client : ClientId) (step : Core → Option Reply → Core → Type 0) (old new : Contents P) (fault : CoreFault) → Answers (step old.core) (Err fault) old.core new.core
       → new.jobs ≡ old.jobs → new.workers ≡ old.workers → Answers (EndsJob client step old) (Err fault) old new
   ends_refused client step old new fault a jobs workers = (
@@ -249,7 +249,7 @@ module _ {P : Type 0} where
     λ i. record { core = a.3 i; jobs = jobs i; workers = workers i },
   )
 
-  -- a failure names the client in commit
+  -- a handler that refuses a failed device step of the commit answers for that failure
   pub fails_refused : (client : ClientId) (numbered : Numbered) (d : Due) (old new : Contents P) (fault : CoreFault) → old.core.phase ≡ Committing client numbered d
       → Answers (Fails client old.core) (Err fault) old.core new.core → new.jobs ≡ old.jobs → new.workers ≡ old.workers → Answers (FailsJob old) (Err fault) old new
   fails_refused client numbered d old new fault committing a jobs workers = (
@@ -276,7 +276,7 @@ module _ {P : Type 0} where
   out_of_rewrite old new none result a =
       answers_first (FailsJob old) (StepsCore RewriteFails old) result old new (λ reply after step. none step.core_step.commit step.core_step.due step.core_step.rewriting) a
 
-  -- an answer that is a step, or 29 if there is none, or 40 if there is one, is 29 exactly if there is none
+  -- an answer that is a step, or 29 if there is no step, or 40 if there is one, is 29 exactly if there is no step
   pub exact : (rules : Rules P) (old : Contents P) (event : Event P) (result : Result (Option Reply) CoreFault) (new : Contents P)
       → Answers (Step rules old event) result old new → IsErrOf result faults.NotNow ↔ IsImpossible rules old event
   exact rules old event (Ok reply) new a = (a.1, λ none. absurd (none reply new a.0))
@@ -284,7 +284,7 @@ module _ {P : Type 0} where
   exact rules old event (Err faults.OutOfMemory) new a =
       (a.1, λ none. let some = a.2 refl in absurd (none some.0 some.1 some.2))
 
-  -- the events that put nothing in the order
+  -- the events that put nothing into the order
   abbrev pub IsNoBegin : Event P → Type 0
   IsNoBegin (event.Submit client call request) = Unit {0}
   IsNoBegin (event.Take worker client part) = Unit {0}
@@ -304,7 +304,7 @@ module _ {P : Type 0} where
   IsNoBegin (event.Crash choice) = Unit {0}
   IsNoBegin event.Recover = Unit {0}
 
-  -- a step whose core is as before
+  -- a step that leaves the core as it was puts nothing into the order
   same_core : (old new : Contents P) → new.core ≡ old.core → PutsCommand old.core new.core
   same_core old new is = same_order old.core new.core (ap (λ (s : Core). s.order) is)
 
@@ -331,7 +331,7 @@ module _ {P : Type 0} where
       not_longer old.core new.core
       (omega (arith, ap (λ (s : Core). length s.order) r.new_is, ap length r.longest.prefix, length-take-le r.longest.count old.core.order r.longest.within, r.longest.within))
 
-  -- the same for what an event answers
+  -- an event of that kind, whatever it answers, puts nothing into the order
   pub puts_none : (rules : Rules P) (old : Contents P) (e : Event P) (result : Result (Option Reply) CoreFault) (new : Contents P) → IsNoBegin e
       → Answers (Step rules old e) result old new → OnOk result (PutsCommand old.core new.core)
   puts_none rules old e (Ok reply) new plain a = step_puts_none rules old e reply new plain a.0

@@ -1,5 +1,6 @@
--- What the images of the disk hold during a rewrite, one device step after the other: the old records or the new ones. The reason: the
--- journal's lemma says so for the middle of its commit; each state of the disk here is such a middle, or after the commit.
+-- What the images of the disk hold during a rewrite, one device step after the other: the old records or the new ones. The
+-- reason: the journal's lemma says so for the middle of its commit; each state of the disk here is in that middle, or after the
+-- commit.
 use Rattle.std.proofs.Common.{◌≡◌, inl, inr, ℕ, ◌+◌, ◌*◌, ◌≤◌, List, [], ◌∷◌, ◌++◌, length, take, drop, sym, ◌∙◌, ap, subst, arith, length-append}
 use Rattle.std.proofs.lemmas.List.{drop-take}
 use Rattle.cc_disk.specs.Model.{bytes_of, IsImage, written}
@@ -29,12 +30,12 @@ module _ (byte area : ℕ) (bodies more : List (List ℕ)) (old : List ℕ) (hel
   commit_at : rewrite_commit byte area more ≡ rewrite_commit held.holds.area_byte area more
   commit_at = ap (λ (b : ℕ). rewrite_commit b area more) (sym (byte_of byte area bodies old held))
 
-  -- in the middle of it
+  -- in the middle of the commit, an image holds the old records or the new ones
   mid_held : (image : List ℕ) → IsMidCommit (rewrite_commit byte area more) old image → HoldsOneOf area bodies more image
   mid_held image mid =
       rewriting old (area_begin byte area) area bodies (holds_from byte area bodies old held) more room image (subst (λ (c : Commit). IsMidCommit c old image) commit_at mid)
 
-  -- after it
+  -- after the commit, the disk holds the new records in the other area
   pub done_held : (new : List ℕ) → IsCommitted (rewrite_commit byte area more) old new → HoldsIn (other_area byte) area more new
   done_held new done =
       let there = rewritten old (area_begin byte area) area bodies (holds_from byte area bodies old held) more room new (subst (λ (c : Commit). IsCommitted c old new) commit_at done) in
@@ -55,7 +56,7 @@ pub record IsAreaWritten (store : StoreState) (bodies more : List (List ℕ)) : 
   pub long : length (bytes_of store.cells) ≡ length before
   pub seen : IsWritten before (area_begin (other_area store.area_byte) store.area) (whole more) (bytes_of store.cells)
 
--- and settled
+-- the new area was written and is settled
 pub record IsAreaSettled (store : StoreState) (bodies more : List (List ℕ)) : Type 0 where
   pub area_written : IsAreaWritten store bodies more
   pub alone : LeavesAlone (bytes_of store.cells) (IsImage store.cells)
@@ -65,7 +66,7 @@ pub record IsByteWritten (store : StoreState) (bodies more : List (List ℕ)) : 
   pub images : (image : List ℕ) → IsImage store.cells image → HoldsOneOf store.area bodies more image
   pub seen : HoldsIn (other_area store.area_byte) store.area more (bytes_of store.cells)
 
--- the point of the rewrite, by the step that is due
+-- the point of the rewrite at which this step is due
 abbrev pub InRewrite : RewriteDue → StoreState → List (List ℕ) → List (List ℕ) → Type 0
 InRewrite SyncAll store bodies more = IsAreaWritten store bodies more
 InRewrite WriteArea store bodies more = IsAreaSettled store bodies more
@@ -78,16 +79,16 @@ rewrite_images SyncAll store bodies more room r = r.images
 rewrite_images WriteArea store bodies more room r = r.area_written.images
 rewrite_images SyncArea store bodies more room r = r.images
 
--- the commit of a rewrite, by the state
+-- the commit of a rewrite, given the state
 abbrev pub commit_of : StoreState → List (List ℕ) → Commit
 commit_of store more = rewrite_commit store.area_byte store.area more
 
--- its first write lies within the disk
+-- the first write of a rewrite lies within the disk
 pub first_within : (store : StoreState) (more : List (List ℕ)) → 16 + 2 * store.area ≤ length store.cells → room_of more ≤ store.area
     → area_begin (other_area store.area_byte) store.area + length (whole more) ≤ length store.cells
 first_within store more size room = omega (arith, size, room, length-whole more, begin_most (other_area store.area_byte) store.area)
 
--- the first write is done
+-- after the first write, the disk is at the point where the sync of the new area is due
 pub rewrite_begins : (store : StoreState) (bodies more : List (List ℕ)) → IsAtRest store bodies → room_of more ≤ store.area → InRewrite SyncAll (first_written (commit_of store more) store) bodies more
 rewrite_begins store bodies more rest room =
     let b = store.area_byte in
@@ -106,7 +107,7 @@ rewrite_begins store bodies more rest room =
       seen = is;
     }
 
--- the area byte is written, whatever it is
+-- whatever byte is written as the area byte, each image holds the old records or the new ones
 byte_images : (store : StoreState) (bodies more : List (List ℕ)) (byte : ℕ) → room_of more ≤ store.area → IsAreaSettled store bodies more
     → (image : List ℕ) → IsImage (written store.cells 0 (byte ∷ [])) image → HoldsOneOf store.area bodies more image
 byte_images store bodies more byte room s image at =
@@ -115,7 +116,7 @@ byte_images store bodies more byte room s image at =
     let differs = subst (λ (old : List ℕ). DiffersWithin 0 1 old image) (s.alone from.0 from.1) from.2 in
     mid_held store.area_byte store.area bodies more w.before w.held room image (inr (bytes_of store.cells, w.seen, differs))
 
--- each further step leads to the next point
+-- each further step leads to the next point of the rewrite
 pub all_synced : (store : StoreState) (bodies more : List (List ℕ)) (c : Commit) → InRewrite SyncAll store bodies more → InRewrite WriteArea (rewrite_stepped SyncAll c store) bodies more
 all_synced store bodies more c r =
     let same = sym (bytes_of-synced store.cells) in
@@ -139,14 +140,14 @@ byte_written store bodies more room r =
       seen = done_held store.area_byte store.area bodies more w.before w.held room _ (bytes_of store.cells, w.seen, bytes_of-written store.cells 0 (x ∷ []));
     }
 
--- after the last one the new records are at rest
+-- after the last step, the new records are at rest
 pub rewrite_ends : (store : StoreState) (bodies more : List (List ℕ)) → InRewrite SyncArea store bodies more → IsAtRest (rewrite_stepped SyncArea (commit_of store more) store) more
 rewrite_ends store bodies more r = record {
   taken = omega (arith, length-whole more);
   images = λ image at. subst (λ (l : List ℕ). HoldsIn (other_area store.area_byte) store.area more l) (sym (synced_alone store.cells image at)) r.seen;
 }
 
--- what a failed step leaves
+-- after a failed step, each image holds the old records or the new ones
 pub rewrite_failed_images : (due : RewriteDue) (store new : StoreState) (bodies more : List (List ℕ)) → room_of more ≤ store.area → InRewrite due store bodies more → RewriteFailsTo due (commit_of store more) store new
     → (image : List ℕ) → IsImage new.cells image → HoldsOneOf new.area bodies more image
 rewrite_failed_images SyncAll store new bodies more room r f =

@@ -1,4 +1,4 @@
--- A run goes on by one turn, and what is reached stays reached.
+-- A run goes on by one turn, and a step from contents that are reached leads to contents that are reached.
 use Rattle.std.proofs.Common.{inl, List, [], ◌∷◌, ◌++◌, Option, Result, Ok, Err, refl, sym, subst}
 use Rattle.std.specs.Prelude.{OnOk}
 use Rattle.cc_unit.specs.declared.unit.StoredUnit.{StoredUnit}
@@ -12,12 +12,12 @@ use Rattle.cc_core.specs.Run.{Turn, Run, Reached, PutsCommand, HandsIn}
 use Rattle.cc_core.specs.internal.Answers.{Answers}
 
 module _ {P : Type 0} (rules : Rules P) (keeps : P → Type 0) where
-  -- a run and one more turn
+  -- a run followed by one more turn is a run
   pub Run-push : (old : Contents P) (events : List (Event P)) (mid : Contents P) (e : Event P) (new : Contents P) → Run rules keeps old events mid → Turn rules keeps mid e new → Run rules keeps old (events ++ e ∷ []) new
   Run-push old [] mid e new run turn = (new, (subst (λ s. Turn rules keeps s e new) run turn, refl))
   Run-push old (first ∷ events) mid e new run turn = (run.0, (run.1.0, Run-push run.0 events mid e new run.1.1 turn))
 
-  -- what a step reaches from what is reached is reached; a refused event changes nothing
+  -- a step from contents that are reached leads to contents that are reached; a refused event changes nothing
   pub Reached-step : (is_right : StoredUnit → Type 0) (old : Contents P) (e : Event P) (result : Result (Option Reply) CoreFault) (new : Contents P)
       → Reached rules keeps is_right old → Answers (Step rules old e) result old new → OnOk result (PutsCommand old.core new.core) → OnOk result (HandsIn keeps e) → Reached rules keeps is_right new
   Reached-step is_right old e (Ok reply) new reached a puts hands = record {

@@ -1,6 +1,6 @@
--- What holds for the contents after any events. One record states it, each step keeps it, and so does a run. Besides the order and the jobs
--- it says, by phase, what the disk's images hold. A device step leads from one point of the commit to the next, a crash leaves one of the
--- images, and a recovery reads it.
+-- What holds for the contents after any events. One record states it, and each step keeps it, so a whole run does. Besides the
+-- order and the jobs it says, by phase, what the disk's images hold. A device step leads from one point of the commit to the
+-- next, a crash leaves one of the images, and a recovery reads that image.
 use Rattle.std.proofs.Common.{◌≡◌, ◌⊎◌, inl, inr, ℕ, zero, suc, ◌+◌, ◌*◌, ◌<◌, ◌≤◌, ◌^◌, List, [], ◌∷◌, ◌++◌, length, take, drop, Option, Some, None, Result, Ok, Err, refl, sym, ap, subst, ◌∙◌, arith, All, Contains}
 use Rattle.std.specs.Prelude.{IsOk, slice_get, replicate}
 use Rattle.std.specs.Ordering.{nat_cmp}
@@ -20,14 +20,14 @@ use Rattle.cc_journal.proofs.Images.{frame}
 use Rattle.cc_journal.proofs.Records.{holds_alone, holds_same}
 use Rattle.cc_journal.proofs.Bytes.{empty_holds}
 use Rattle.cc_unit.specs.declared.unit.StoredUnit.{StoredUnit}
-use Rattle.cc_library.specs.declared.command.LibraryCommand.{LibraryCommand}
+use Rattle.cc_library.specs.Change.{LibraryCommand}
 use Rattle.cc_library.specs.Apply.{Units, apply, after, library_of, AreAccepted}
 use Rattle.cc_library.specs.Body.{IsCommand, body_of}
 use Rattle.cc_library.specs.Compact.{compacted}
 use Rattle.cc_library.specs.Recovered.{StandFor, Recovers}
 use Rattle.cc_library.proofs.Standing.{holds_recovers}
-use Rattle.cc_core.specs.declared.command.Request.{Request}
-use Rattle.cc_core.specs.declared.command.Request.TheVariants as request
+use Rattle.cc_core.specs.Request.{Request}
+use Rattle.cc_library.specs.declared.command.Change.TheVariants as request
 use Rattle.cc_core.specs.declared.command.Numbered.{Numbered}
 use Rattle.cc_core.specs.declared.command.Reply.{Reply}
 use Rattle.cc_core.specs.declared.job.Job.{Job}
@@ -102,12 +102,12 @@ formatted_holds area store order f none =
       stand = subst (λ (l : List Numbered). StandFor [] (library_of (commands l))) (sym none) (record { commands = []; spelled = tt; accepted = tt; map_is = refl });
     }
 
--- the area of a disk that is kept is within its limits
+-- if a disk is kept in this way, the size of its areas is within its limit
 area_most : (phase : Phase) (store : StoreState) (order acknowledged : List Numbered) → IsKept phase store order acknowledged → store.area ≤ 2 ^ 30
 area_most phase store order acknowledged k =
     (each_ends phase store order acknowledged k (bytes_of store.cells) (bytes_are_image store.cells)).held.is_area.most
 
--- what is at an index of the prefix is there in the whole
+-- an element at an index of a prefix is at the same index of the whole list
 slice_get-prefix : {X : Type 0} (xs ys : List X) (k : ℕ) (x : X) → slice_get xs k ≡ Some x → slice_get (xs ++ ys) k ≡ Some x
 slice_get-prefix [] ys k x is = absurd (cc)
 slice_get-prefix (z ∷ xs) ys zero x is = is
@@ -140,7 +140,7 @@ recoverable store order acknowledged all h = at h.ends.known
       known = inr (lacks.prefix, lacks.last, lacks.is, refl);
     }
 
--- the number above that of each acknowledged command
+-- if the acknowledged commands are all before the last command of the order, each of them has a lower number than that
 acked_below : (order acknowledged prefix : List Numbered) (last : Numbered) → order ≡ prefix ++ last ∷ [] → AreRising order → All (Contains prefix) acknowledged → AreBelow last.number.value acknowledged
 acked_below order acknowledged prefix last is rising all k a there =
     let found = All-slice_get (Contains prefix) acknowledged k a all there in
@@ -149,7 +149,7 @@ acked_below order acknowledged prefix last is rising all k a there =
     let second : slice_get order (length prefix) ≡ Some last = ap (λ (l : List Numbered). slice_get l (length prefix)) is ∙ slice_get-last prefix last in
     rising at.0 (length prefix) a last (slice_get_within prefix at.0 a at.1) first second
 
--- phases that differ
+-- phases with different constructors are not equal
 numbered_of : {a b : ClientId} {m n : Numbered} {d e : Due} → Committing a m d ≡ Committing b n e → m ≡ n
 numbered_of is = cc
 
@@ -181,7 +181,7 @@ begun_not_crashed : (s : Core) (client : ClientId) (v : Result LibraryCommand Re
 begun_not_crashed s client (Err refused) reply new free begun crashed = subst IsFree (sym (ap (λ (c : Core). c.phase) begun.1) ∙ crashed) free
 begun_not_crashed s client (Ok command) reply new free begun crashed = absurd (crashed_not_committing client (numbered_now s command) due.WriteBody (sym crashed ∙ ap (λ (c : Core). c.phase) begun.1))
 
--- after a step of a rewrite the rewrite goes on, or nothing is under way
+-- after a step of a rewrite the phase is no commit
 after_not_committing : (commit : Commit) (rest : RewriteDue) (client : ClientId) (numbered : Numbered) (due : Due) → phase_after commit rest ≡ Committing client numbered due → ⊥
 after_not_committing commit left.SyncAll client numbered due is = rewriting_not_committing commit left.WriteArea client numbered due is
 after_not_committing commit left.WriteArea client numbered due is = rewriting_not_committing commit left.SyncArea client numbered due is
@@ -205,11 +205,11 @@ live_after commit left.SyncArea order = refl
 nothing_held : {X : Type 0} (m : FinMap nat_cmp X) (k : ℕ) (x : X) → m ≡ empty → get m k ≡ Some x → ⊥
 nothing_held m k x is found = let none = sym (get-empty nat_cmp k) ∙ ap (λ n. get n k) (sym is) ∙ found in absurd (cc)
 
--- what a second crash may leave the first one may leave
+-- what a second crash may leave, the first one may leave too
 crashed_is_image : (cells : List Cell) (choice image : List ℕ) → IsImage (crashed cells choice) image → IsImage cells image
 crashed_is_image cells choice image now = subst (IsImage cells) (sym (crashed_alone cells choice image now)) (crashed_image cells choice)
 
--- what holds of the core after any events
+-- what holds for the core after any events
 pub record IsSoundCore (is_right : StoredUnit → Type 0) (s : Core) : Type 0 where
   pub replay : s.library ≡ live s.phase s.order
   pub accepted : AreAccepted empty (commands s.order)
@@ -223,7 +223,7 @@ pub record IsSoundCore (is_right : StoredUnit → Type 0) (s : Core) : Type 0 wh
   pub disk : IsKept s.phase s.store s.order s.acknowledged
 
 module _ {P : Type 0} (rules : Rules P) (keeps : P → Type 0) where
-  -- a fresh job's pieces all wait
+  -- the pieces of a new job all wait
   planned_named : (call : CallId) (asked : Request) (plan : Result ℕ ℕ) → ((source : List ℕ) → source_in asked ≡ Some source → rules.plan source plan) → IsNamed rules keeps (planned {P = P} call asked plan)
   planned_named call asked (Ok n) plans = record {
     counted = λ source from none. subst (λ (m : ℕ). rules.plan source (Ok m)) (sym (length-replicate n Waiting)) (plans source from);
@@ -241,7 +241,8 @@ module _ {P : Type 0} (rules : Rules P) (keeps : P → Type 0) where
   job_named call (request.Replace name source) plan so = planned_named call (request.Replace name source) plan (λ s from. let same : source ≡ s = cc in subst (λ (t : List ℕ). rules.plan t plan) same so)
   job_named call (request.Withdraw name) plan so = planned_named call (request.Withdraw name) plan (λ s from. absurd (cc))
 
-  -- another progress of a piece, which names its source and index, and keeps what its type keeps, if it is made
+  -- a job stays named if a piece makes progress: if the piece is now made, it names the source and its index, and keeps what its
+  -- type keeps
   with_piece_named : (job : Job P) (part : PartIndex) (progress : Progress P) → IsNamed rules keeps job
       → ((source : List ℕ) (p : P) → source_in job.request ≡ Some source → progress ≡ Made p → (rules.source_of p ≡ source) × (rules.part_of p ≡ part.index))
       → ((p : P) → progress ≡ Made p → keeps p)
@@ -272,7 +273,7 @@ module _ {P : Type 0} (rules : Rules P) (keeps : P → Type 0) where
   AllNamed-empty : (jobs : FinMap nat_cmp (Job P)) → jobs ≡ empty → AllNamed jobs
   AllNamed-empty jobs is client job found = absurd (nothing_held jobs client job is found)
 
-  -- what holds of the contents after any events
+  -- what holds for the contents after any events
   pub record IsSound (is_right : StoredUnit → Type 0) (s : Contents P) : Type 0 where
     pub core : IsSoundCore is_right s.core
     pub named : AllNamed s.jobs
@@ -332,7 +333,7 @@ module _ {P : Type 0} (rules : Rules P) (keeps : P → Type 0) where
           quiet = λ crashed. absurd (idle_not_crashed (sym o.phase ∙ crashed));
         }
 
-    -- a step that changes only jobs and workers
+    -- a step that changes only jobs and workers keeps the contents sound
     kept_IsSound : (s : Contents P) (jobs : _) (workers : _) → IsSound is_right s → AllNamed jobs → (s.core.phase ≡ Crashed → ⊥) → IsSound is_right (record s { jobs = jobs; workers = workers })
     kept_IsSound s jobs workers sound named up = record { core = sound.core; named = named; quiet = λ crashed. absurd (up crashed) }
 
@@ -391,11 +392,11 @@ module _ {P : Type 0} (rules : Rules P) (keeps : P → Type 0) where
         } in
         subst (IsSoundCore is_right) (sym begun.1) there
 
-    -- the command that is in commit
+    -- if a command is in commit, the disk holds what belongs to that point of the commit
     flight : (s : Core) (client : ClientId) (numbered : Numbered) (due : Due) → IsSoundCore is_right s → s.phase ≡ Committing client numbered due → HoldsFlight numbered due s.store s.order s.acknowledged
     flight s client numbered due sound committing = subst (λ phase. IsKept phase s.store s.order s.acknowledged) committing sound.disk
 
-    -- the library of the order without its last command is right, and so is the one with it
+    -- if a command is in commit, the library of the order is right both without its last command and with it
     prefix_right : (s : Core) (client : ClientId) (numbered : Numbered) (due : Due) → IsSoundCore is_right s → s.phase ≡ Committing client numbered due
         → (prefix : List Numbered) (last : Numbered) → s.order ≡ prefix ++ last ∷ [] → EachUnit is_right (library_of (commands prefix))
     prefix_right s client numbered due sound committing prefix last is =
@@ -482,7 +483,7 @@ module _ {P : Type 0} (rules : Rules P) (keeps : P → Type 0) where
         } in
         subst (IsSoundCore is_right) (sym step.new_is) there
 
-    -- the live map while a rewrite is under way
+    -- while a rewrite is under way, the live map is the library of the whole order
     whole_order : (s : Core) (commit : Commit) (due : RewriteDue) → IsSoundCore is_right s → s.phase ≡ Rewriting commit due → s.library ≡ library_of (commands s.order)
     whole_order s commit due sound rewriting = sound.replay ∙ ap (λ phase. live phase s.order) rewriting
 
@@ -610,7 +611,7 @@ module _ {P : Type 0} (rules : Rules P) (keeps : P → Type 0) where
     AllNamed-begun jobs client (Ok command) all = all
     AllNamed-begun jobs client (Err refused) all = AllNamed-remove jobs client.number all
 
-    -- what a beginning needs
+    -- a Begin keeps the contents sound
     begins_sound : (client : ClientId) (old : Contents P) (reply : Option Reply) (new : Contents P) → IsSound is_right old → BeginsCommit rules client old reply new → PutsCommand old.core new.core → IsSound is_right new
     begins_sound client old reply new sound step puts =
         let core = old.core in
@@ -627,7 +628,7 @@ module _ {P : Type 0} (rules : Rules P) (keeps : P → Type 0) where
           quiet = λ crashed. absurd (begun_not_crashed core client v reply new.core step.free step.begun crashed);
         }
 
-    -- each step keeps it
+    -- each step keeps the contents sound
     pub step_IsSound : (old : Contents P) (e : Event P) (reply : Option Reply) (new : Contents P) → IsSound is_right old → Step rules old e reply new → PutsCommand old.core new.core → HandsIn keeps e → IsSound is_right new
     step_IsSound old (event.Submit client call asked) reply new sound step puts hands =
         subst (IsSound is_right) (sym step.new_is) (kept_IsSound old _ _ sound (AllNamed-insert old.jobs client.number _ sound.named (job_named call asked step.plan step.planned_so)) (λ crashed. subst IsUp crashed step.up))
@@ -681,17 +682,17 @@ module _ {P : Type 0} (rules : Rules P) (keeps : P → Type 0) where
     turn_IsSound old e new sound (inl step) = step_IsSound old e step.0 new sound step.1 step.2 step.3
     turn_IsSound old e new sound (inr stays) = subst (IsSound is_right) (sym stays.1) sound
 
-    -- and so does a run
+    -- so does a run
     pub run_IsSound : (old : Contents P) (events : List (Event P)) (new : Contents P) → IsSound is_right old → Run rules keeps old events new → IsSound is_right new
     run_IsSound old [] new sound run = subst (IsSound is_right) (sym run) sound
     run_IsSound old (e ∷ events) new sound run = run_IsSound run.0 events new (turn_IsSound old e run.0 sound run.1.0) run.1.1
 
-    -- it holds at each beginning
+    -- each beginning is sound
     pub beginning-IsSound : (s : Contents P) → IsBeginning s → EachUnit is_right s.core.library → IsSound is_right s
     beginning-IsSound s (inl start) units = start-IsSound start.0 s start.1
     beginning-IsSound s (inr opened) units = opened-IsSound s opened units
 
-    -- so it holds for whatever is reached
+    -- so everything that is reached is sound
     pub reached_IsSound : (s : Contents P) → Reached rules keeps is_right s → IsSound is_right s
     reached_IsSound s reached = run_IsSound reached.first reached.events s (beginning-IsSound reached.first reached.started reached.right) reached.run
 
@@ -737,7 +738,7 @@ module _ {P : Type 0} (rules : Rules P) (keeps : P → Type 0) where
     crashed_no_rewrite : (s : Core) (commit : Commit) (due : RewriteDue) → s.phase ≡ Crashed → s.phase ≡ Rewriting commit due → ⊥
     crashed_no_rewrite s commit due crashed rewriting = rewriting_not_crashed commit due (sym rewriting ∙ crashed)
 
-    -- and nothing else is, except another crash
+    -- after a crash nothing else is possible, except another crash
     pub of_crash : (s : Contents P) (e : Event P) (reply : Option Reply) (new : Contents P) → IsSound is_right s → s.core.phase ≡ Crashed → Step rules s e reply new → IsOfCrash e
     of_crash s (event.Submit client call asked) reply new sound crashed step = absurd (subst IsUp crashed step.up)
     of_crash s (event.Take worker client part) reply new sound crashed step = absurd (nothing_held s.jobs client.number step.job (sound.quiet crashed).0 step.held)
@@ -806,7 +807,7 @@ module _ {P : Type 0} (rules : Rules P) (keeps : P → Type 0) where
         let some = rewrites_all s.core idle fits in
         (some.0, record s { core = some.1 }, record { core_step = some.2; jobs = refl; workers = refl })
 
-    -- its four device steps leave one Add per name
+    -- the four device steps of a rewrite leave one Add per name
     pub rewrites_leave : (s new : Core) → IsSoundCore is_right s → Rewrites s new → LeavesCompacted s new
     rewrites_leave s new sound r =
         let h : HoldsOrder s.store s.order = subst (λ phase. IsKept phase s.store s.order s.acknowledged) r.writes_all.idle sound.disk in

@@ -8,13 +8,12 @@ use Rattle.std.specs.Cmp.{nat_cmp_total, eq_by_cmp_equiv}
 use Rattle.std.specs.FinMap.{FinMap, get, insert, remove, empty, get-empty, get-insert, get-remove, nat_cmp-IsAntisymmetric}
 use Rattle.std.proofs.lemmas.List.{append-nil, length-append, length-take}
 use Rattle.cc_unit.specs.declared.unit.StoredUnit.{StoredUnit}
-use Rattle.cc_library.specs.declared.command.LibraryCommand.{LibraryCommand}
-use Rattle.cc_library.specs.declared.command.LibraryCommand.TheVariants as command
+use Rattle.cc_library.specs.Change.{LibraryCommand}
+use Rattle.cc_library.specs.declared.command.Change.TheVariants as command
 use Rattle.cc_library.specs.Body.{IsCommand}
 use Rattle.cc_core.specs.declared.command.Numbered.{Numbered}
 use Rattle.cc_core.specs.declared.command.Reply.{Reply}
-use Rattle.cc_core.specs.declared.command.Request.{Request}
-use Rattle.cc_core.specs.declared.command.Request.TheVariants as request
+use Rattle.cc_core.specs.Request.{Request}
 use Rattle.cc_core.specs.declared.contents.Contents.{Contents}
 use Rattle.cc_core.specs.declared.contents.Core.{Core}
 use Rattle.cc_core.specs.declared.event.Event.{Event}
@@ -50,7 +49,7 @@ tied_at Less e = absurd (cc)
 tied_at Equal e = refl
 tied_at Greater e = absurd (cc)
 
--- keys compare as equal only if they are the same
+-- two keys are the same, or they do not compare as equal
 apart_or : (k n : ℕ) → (k ≡ n) ⊎ (eq_by_cmp nat_cmp k n ≡ false)
 apart_or k n = at (eq_by_cmp nat_cmp k n) refl
   where
@@ -65,7 +64,7 @@ other_inserted m n v k apart =
       | inr tied ↦ get-insert nat_cmp_total m n v k ∙ ap (λ b. cond b (Some v) (get m k)) tied
     ]
 
--- a key without a value has none after an insertion at a key that had one, nor after a removal
+-- a key without a value has none after an insertion at another key that had one, nor after a removal
 none_put : {X : Type 0} (m : FinMap nat_cmp X) (n : ℕ) (v w : X) (k : ℕ) → get m n ≡ Some v → get m k ≡ None → get (insert m n w) k ≡ None
 none_put m n v w k there none = other_inserted m n w k (λ same. let h = sym (ap (get m) same) ∙ none in let never : Some v ≡ None = sym there ∙ h in absurd (cc)) ∙ none
 
@@ -97,7 +96,7 @@ longer_than l n x is = omega (arith, ap length is, length-append l (x ∷ []), s
     short (y ∷ l) (suc n) = let h = short l n in omega arith
 
 module _ {P : Type 0} where
-  -- some pieces are made, and the others wait
+  -- the progress of a job's pieces if the first ones are made and the others wait
   abbrev progress : List P → ℕ → List (Progress P)
   progress prefix waiting = map (λ (p : P). Made p) prefix ++ replicate waiting Waiting
 
@@ -158,7 +157,7 @@ module _ {P : Type 0} (rules : Rules P) where
       subst IsCommand (ap (λ (n : Numbered). n.command) same) (is_put d refl)
   puts_begun old client (Err refused) reply new is_put begun numbered is = absurd (longer old.order numbered (sym (ap (λ (c : Core). c.order) begun.1) ∙ is))
 
-  -- a step puts only commands with a spelling in the order, if the one that begins has one
+  -- a step puts only commands with a spelling into the order, if the command that begins has one
   puts : (keeps : P → Type 0) (old : Contents P) (e : Event P) (reply : Option Reply) (new : Contents P) → BeginsSpelled rules old e → Step rules old e reply new → PutsCommand old.core new.core
   puts keeps old (event.Begin client) reply new spelled step numbered is =
       puts_begun old.core client (verdict rules old.core.phase old.core.library old.core.store step.job) reply new.core
@@ -234,7 +233,7 @@ module _ {P : Type 0} (rules : Rules P) where
   no_work old event.Recover reply new step not k none = none_same old.workers new.workers k step.workers none
 
 module _ {P : Type 0} (rules : Rules P) (keeps : P → Type 0) where
-  -- an event that begins no job, and hands in no piece or one that keeps what its type keeps, is a turn
+  -- an event that begins no job, and hands in no piece or one that keeps what its type keeps, takes its step as a turn
   plain_turn : (old : Contents P) (e : Event P) (reply : Option Reply) (new : Contents P) → ((client : ClientId) → e ≡ event.Begin client → ⊥) → HandsIn keeps e → Step rules old e reply new → Turn rules keeps old e new
   plain_turn old e reply new none hands step = step_turn rules keeps old e reply new step hands (λ client job c is. absurd (none client is))
 
@@ -243,7 +242,7 @@ module _ {P : Type 0} (rules : Rules P) (keeps : P → Type 0) where
   abbrev job_at : CallId → Request → List (Progress P) → Job P
   job_at call asked pieces = record { call = call; request = asked; refusal = None; pieces = pieces }
 
-  -- a worker has handed in the pieces of this job
+  -- some events lead to contents in which a worker has handed in all pieces of this job
   record IsHandedIn (old : Contents P) (client : ClientId) (worker : WorkerId) (its : Job P) : Type 0 where
     events : List (Event P)
     new : Contents P
@@ -253,7 +252,8 @@ module _ {P : Type 0} (rules : Rules P) (keeps : P → Type 0) where
     others : (k : ℕ) → (k ≡ client.number → ⊥) → get new.jobs k ≡ get old.jobs k
     idle : get new.workers worker.number ≡ None
 
-  -- if a client's job has its first pieces made and waits for these, the worker hands them in one after the other
+  -- if the first pieces of a client's job are made and the job waits for the pieces `rest`, the worker can hand them in one after
+  -- the other
   hands_all : (old : Contents P) (client : ClientId) (worker : WorkerId) (call : CallId) (asked : Request) (source : List ℕ) (prefix rest : List P)
       → source_in asked ≡ Some source → get old.jobs client.number ≡ Some (job_at call asked (progress prefix (length rest))) → get old.workers worker.number ≡ None
       → ((k : ℕ) (q : P) → slice_get rest k ≡ Some q → (rules.source_of q ≡ source) × (rules.part_of q ≡ length prefix + k) × keeps q)
@@ -296,7 +296,7 @@ module _ {P : Type 0} (rules : Rules P) (keeps : P → Type 0) where
         idle = more.idle;
       }
 
-  -- the command of a job whose pieces are all made
+  -- if all pieces of a job are made and give a unit, the job is built to that unit
   built_is : (call : CallId) (asked : Request) (source : List ℕ) (pieces : List P) (unit : StoredUnit) → rules.unit source pieces ≡ Ok unit
       → built rules (job_at call asked (map (λ (p : P). Made p) pieces)) source ≡ Ok unit
   built_is call asked source pieces unit is =
@@ -336,18 +336,18 @@ module _ {P : Type 0} (rules : Rules P) (keeps : P → Type 0) where
 
     pub can_be_ready : (c : LibraryCommand) → HasBuilt rules keeps c → CanBeReady rules keeps old client worker c
     can_be_ready (command.Add name unit) b =
-        with_source (request.Add name unit.source) (command.Add name unit) unit refl (λ n so. so) (λ its is. ap (with_unit (command.Add name)) is) b
+        with_source (command.Add name unit.source) (command.Add name unit) unit refl (λ n so. so) (λ its is. ap (with_unit (command.Add name)) is) b
     can_be_ready (command.Replace name unit) b =
-        with_source (request.Replace name unit.source) (command.Replace name unit) unit refl (λ n so. so) (λ its is. ap (with_unit (command.Replace name)) is) b
+        with_source (command.Replace name unit.source) (command.Replace name unit) unit refl (λ n so. so) (λ its is. ap (with_unit (command.Replace name)) is) b
     can_be_ready (command.Withdraw name) b = record {
-      events = event.Submit client call (request.Withdraw name) ∷ [];
-      new = submitted (request.Withdraw name) [];
-      run = (submitted (request.Withdraw name) [], (submits (request.Withdraw name) 0 refl, refl));
+      events = event.Submit client call (command.Withdraw name) ∷ [];
+      new = submitted (command.Withdraw name) [];
+      run = (submitted (command.Withdraw name) [], (submits (command.Withdraw name) 0 refl, refl));
       core = refl;
-      job = job_at call (request.Withdraw name) [];
-      held = got_inserted old.jobs client.number (job_at call (request.Withdraw name) []);
+      job = job_at call (command.Withdraw name) [];
+      held = got_inserted old.jobs client.number (job_at call (command.Withdraw name) []);
       there = refl;
       comes = refl;
-      others = λ k apart. other_inserted old.jobs client.number (job_at call (request.Withdraw name) []) k apart;
+      others = λ k apart. other_inserted old.jobs client.number (job_at call (command.Withdraw name) []) k apart;
       idle = idle;
     }

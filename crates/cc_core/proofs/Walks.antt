@@ -1,4 +1,4 @@
--- A struct without fields at run time: what the handwritten proofs of its constructors share.
+-- What the handwritten proofs share about constructors of a struct without fields at run time.
 use Rattle.std.proofs.Common.{List, [], ◌∷◌, refl}
 use seplogic.Ra.Ura.{Ura}
 use mir.Val.{Val, vstruct, vnil}
@@ -16,7 +16,7 @@ abbrev pub no_bytes : Val
 no_bytes = vstruct vnil
 
 module _ {M : Type 1} {𝓤 : Ura M} {𝓛 : Logic 𝓤} {K : Type 0} {Γ : List (Item 𝓤)} {G : Goal 𝓤 𝓛.H} where
-  -- its value owns nothing, so it can be made from scratch
+  -- a value of that struct owns nothing, so it can be made from nothing
   pub bare_made : K → Step K 𝓛 (‵ (bare.own_val tt (no_bytes ∷ [])) ∷ Γ) G Γ G
   bare_made t = step (λ s.
       nothing t $ feq_i t (List Val) (no_bytes ∷ []) (no_bytes ∷ []) refl $ fjoin t $

@@ -4,10 +4,9 @@ use Rattle.std.proofs.Common.{◌≡◌, ℕ, zero, suc, ◌≤◌, Bool, true, 
 use Rattle.std.specs.Prelude.{slice_get, IsTrue, IsOk, nat_le}
 use Rattle.std.proofs.lemmas.Bool.{leb-true}
 use Rattle.cc_unit.specs.declared.unit.StoredUnit.{StoredUnit}
-use Rattle.cc_library.specs.declared.command.LibraryCommand.{LibraryCommand}
-use Rattle.cc_library.specs.declared.command.LibraryCommand.TheVariants as command
-use Rattle.cc_core.specs.declared.command.Request.{Request}
-use Rattle.cc_core.specs.declared.command.Request.TheVariants as request
+use Rattle.cc_library.specs.Change.{LibraryCommand}
+use Rattle.cc_library.specs.declared.command.Change.TheVariants as command
+use Rattle.cc_core.specs.Request.{Request}
 use Rattle.cc_core.specs.declared.job.Job.{Job}
 use Rattle.cc_core.specs.declared.job.Progress.{Progress}
 use Rattle.cc_core.specs.declared.job.Progress.TheVariants.{Waiting, Taken, Made, Refused}
@@ -57,7 +56,7 @@ not_full m n is = at (nat_le m n) refl is
     at true le is = leb-true m n le
     at false le is = absurd (cc)
 
--- what is known about a command that is accepted
+-- what holds for a command that is accepted
 pub record IsTaken (phase : Phase) (library : Units) (store : StoreState) (r : Result LibraryCommand ℕ) (c : LibraryCommand) : Type 0 where
   pub open' : closed phase ≡ None
   pub same : r ≡ Ok c
@@ -79,17 +78,18 @@ accepted-taken phase library store (Ok d) c is =
 accepted-taken phase library store (Err number) c is = absurd (cc)
 
 module _ {P : Type 0} (rules : Rules P) (keeps : P → Type 0) where
-  -- a job's pieces are planned for its source, and each that was made names that source and its own index, and keeps what its type keeps
+  -- a job's pieces are planned for its source, and each piece that was made names that source and its own index, and keeps what
+  -- its type keeps
   pub record IsNamed (job : Job P) : Type 0 where
     pub counted : (source : List ℕ) → source_in job.request ≡ Some source → job.refusal ≡ None → rules.plan source (Ok (length job.pieces))
     pub named : (source : List ℕ) → source_in job.request ≡ Some source → (k : ℕ) (p : P) → slice_get job.pieces k ≡ Some (Made p) → (rules.source_of p ≡ source) × (rules.part_of p ≡ k)
     pub kept : (k : ℕ) (p : P) → slice_get job.pieces k ≡ Some (Made p) → keeps p
 
-  -- whatever all pieces of a source give has this property, for the source and the unit
+  -- this property holds for each source and the unit that all its pieces give
   abbrev pub Gives : (List ℕ → StoredUnit → Type 0) → Type 0
   Gives has = (source : List ℕ) (pieces : List P) (unit : StoredUnit) → AreWhole rules source pieces → All keeps pieces → rules.unit source pieces ≡ Ok unit → has source unit
 
-  -- it is a right unit, and of the source: the law that each build proves says both
+  -- such a unit is right, and has that source: the law that each build proves says both
   abbrev pub IsLawful : (StoredUnit → Type 0) → Type 0
   IsLawful is_right = Gives (λ source unit. is_right unit)
 
@@ -102,7 +102,7 @@ module _ {P : Type 0} (rules : Rules P) (keeps : P → Type 0) where
   pub of_source : (is_right : StoredUnit → Type 0) → Gives (λ source unit. (unit.source ≡ source) × is_right unit) → IsOfSource
   of_source is_right law source pieces unit whole kept is = (law source pieces unit whole kept is).0
 
-  -- if all are there and none was refused, the pieces that were made are all pieces, each at its index
+  -- if all pieces are there and none was refused, those that were made are all the pieces, each at its index
   all_made : (ps : List (Progress P)) → IsTrue (all_there ps) → first_refused ps ≡ None
       → (length (made_pieces ps) ≡ length ps) × ((k : ℕ) (p : P) → slice_get (made_pieces ps) k ≡ Some p → slice_get ps k ≡ Some (Made p))
   all_made [] there none = (refl, λ k p is. absurd (cc))
@@ -139,11 +139,11 @@ module _ {P : Type 0} (rules : Rules P) (keeps : P → Type 0) where
 
   command_right : (is_right : StoredUnit → Type 0) → IsLawful is_right → (job : Job P) (asked : Request) (c : LibraryCommand)
       → job.request ≡ asked → IsNamed job → IsTrue (all_there job.pieces) → command_of rules job asked ≡ Ok c → IsRightCommand is_right c
-  command_right is_right law job (request.Add name source) c asks named there is =
+  command_right is_right law job (command.Add name source) c asks named there is =
       with_unit_right is_right (command.Add name) (λ u h. h) (built rules job source) c (λ u made. built_has (λ s v. is_right v) law job source u named (ap source_in asks) there made) is
-  command_right is_right law job (request.Replace name source) c asks named there is =
+  command_right is_right law job (command.Replace name source) c asks named there is =
       with_unit_right is_right (command.Replace name) (λ u h. h) (built rules job source) c (λ u made. built_has (λ s v. is_right v) law job source u named (ap source_in asks) there made) is
-  command_right is_right law job (request.Withdraw name) c asks named there is =
+  command_right is_right law job (command.Withdraw name) c asks named there is =
       let same : command.Withdraw name ≡ c = cc in subst (IsRightCommand is_right) same tt
 
   -- the command that a job begins is accepted
@@ -151,13 +151,13 @@ module _ {P : Type 0} (rules : Rules P) (keeps : P → Type 0) where
       → IsTaken phase library store (command_of rules job job.request) c
   verdict_taken phase library store job c is = accepted-taken phase library store (command_of rules job job.request) c is
 
-  -- and it has a right unit
+  -- the command that a job begins has a right unit
   pub verdict_right : (is_right : StoredUnit → Type 0) → IsLawful is_right → (phase : Phase) (library : Units) (store : StoreState) (job : Job P) (c : LibraryCommand)
       → IsNamed job → IsTrue (all_there job.pieces) → verdict rules phase library store job ≡ Ok c → IsRightCommand is_right c
   verdict_right is_right law phase library store job c named there is =
       command_right is_right law job job.request c refl named there (verdict_taken phase library store job c is).same
 
-  -- and it has the source that was handed in
+  -- the command that a job begins has the source that was handed in
   with_unit_source : (make : StoredUnit → LibraryCommand) (source : List ℕ) → ((u : StoredUnit) → command_source (make u) ≡ Some u.source)
       → (r : Result StoredUnit ℕ) (c : LibraryCommand) → ((u : StoredUnit) → r ≡ Ok u → u.source ≡ source) → with_unit make r ≡ Ok c → command_source c ≡ Some source
   with_unit_source make source makes (Ok u) c right is = let same : make u ≡ c = cc in ap command_source (sym same) ∙ makes u ∙ ap Some (right u refl)
@@ -165,11 +165,11 @@ module _ {P : Type 0} (rules : Rules P) (keeps : P → Type 0) where
 
   command_has_source : IsOfSource → (job : Job P) (asked : Request) (c : LibraryCommand)
       → job.request ≡ asked → IsNamed job → IsTrue (all_there job.pieces) → command_of rules job asked ≡ Ok c → command_source c ≡ source_in asked
-  command_has_source law job (request.Add name source) c asks named there is =
+  command_has_source law job (command.Add name source) c asks named there is =
       with_unit_source (command.Add name) source (λ u. refl) (built rules job source) c (λ u made. built_has (λ s v. v.source ≡ s) law job source u named (ap source_in asks) there made) is
-  command_has_source law job (request.Replace name source) c asks named there is =
+  command_has_source law job (command.Replace name source) c asks named there is =
       with_unit_source (command.Replace name) source (λ u. refl) (built rules job source) c (λ u made. built_has (λ s v. v.source ≡ s) law job source u named (ap source_in asks) there made) is
-  command_has_source law job (request.Withdraw name) c asks named there is = let same : command.Withdraw name ≡ c = cc in ap command_source (sym same)
+  command_has_source law job (command.Withdraw name) c asks named there is = let same : command.Withdraw name ≡ c = cc in ap command_source (sym same)
 
   pub verdict_source : IsOfSource → (phase : Phase) (library : Units) (store : StoreState) (job : Job P) (c : LibraryCommand)
       → IsNamed job → IsTrue (all_there job.pieces) → verdict rules phase library store job ≡ Ok c → command_source c ≡ source_in job.request

@@ -7,17 +7,17 @@ use Rattle.cc_core.specs.declared.fault.BuildRefusal.TheVariants as build
 use Rattle.cc_core.specs.declared.fault.Refusal.{Refusal}
 use Rattle.cc_core.specs.declared.fault.Refusal.TheVariants as refusal
 
--- the number of a fault of a step
+-- the number of the fault if an event takes no step
 abbrev pub fault_number : CoreFault → ℕ
 fault_number core_fault.NotNow = 29
 fault_number core_fault.OutOfMemory = 40
 
--- the number of a build's refusal, or 40
+-- the number with which a build refuses, or 40 if memory ran out
 abbrev pub build_fault_number : BuildRefusal → ℕ
 build_fault_number (build.Refused number) = number
 build_fault_number build.OutOfMemory = 40
 
--- the number of a command's refusal
+-- the number with which a command is refused
 abbrev pub refusal_number : Refusal → ℕ
 refusal_number (refusal.Build number) = number
 refusal_number refusal.Exists = 31
@@ -26,7 +26,7 @@ refusal_number refusal.Full = 34
 refusal_number refusal.DiskFault = 35
 refusal_number refusal.Closed = 36
 
--- a build's refusal agrees with its rule: it is the number with which the rule refuses; if memory ran out, nothing is claimed
+-- a build's refusal agrees with the rule: it has the number with which the rule refuses; if memory ran out, nothing is claimed
 abbrev pub RefusesAs : {A : Type 0} → BuildRefusal → Result A ℕ → Type 0
 RefusesAs (build.Refused number) rule = rule ≡ Err number
 RefusesAs build.OutOfMemory rule = Unit {0}

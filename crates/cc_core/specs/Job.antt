@@ -3,10 +3,9 @@ use Rattle.std.specs.Prelude.{ℕ, ◌≡◌, Bool, true, false, List, [], ◌�
 use Rattle.std.specs.List.{list_all}
 use Rattle.std.specs.FinMap.{contains_key}
 use Rattle.cc_unit.specs.declared.unit.StoredUnit.{StoredUnit}
-use Rattle.cc_library.specs.declared.command.LibraryCommand.{LibraryCommand}
-use Rattle.cc_library.specs.declared.command.LibraryCommand.TheVariants as command
-use Rattle.cc_core.specs.declared.command.Request.{Request}
-use Rattle.cc_core.specs.declared.command.Request.TheVariants as request
+use Rattle.cc_library.specs.Change.{LibraryCommand}
+use Rattle.cc_library.specs.declared.command.Change.TheVariants as command
+use Rattle.cc_core.specs.Request.{Request}
 use Rattle.cc_core.specs.declared.fault.Refusal.{Refusal}
 use Rattle.cc_core.specs.declared.fault.Refusal.TheVariants as refusal
 use Rattle.cc_core.specs.declared.ids.CallId.{CallId}
@@ -24,21 +23,21 @@ use Rattle.cc_core.specs.Store.{room_taken}
 
 -- the source that a request hands in, if it hands one in
 abbrev pub source_in : Request → Option (List ℕ)
-source_in (request.Add name source) = Some source
-source_in (request.Replace name source) = Some source
-source_in (request.Withdraw name) = None
+source_in (command.Add name source) = Some source
+source_in (command.Replace name source) = Some source
+source_in (command.Withdraw name) = None
 
 -- a refusal, if there is one; else what comes next
 abbrev pub unless : {A E : Type 0} → Option E → Result A E → Result A E
 unless None next = next
 unless (Some refusal) next = Err refusal
 
--- the command with the unit that was built, or the number that refuses it
+-- the command with the unit that was built, or the number that refuses the source or its pieces
 abbrev pub with_unit : (StoredUnit → LibraryCommand) → Result StoredUnit ℕ → Result LibraryCommand ℕ
 with_unit make (Ok unit) = Ok (make unit)
 with_unit make (Err number) = Err number
 
--- after a device step failed, every command is refused until the disk is opened again
+-- after a device step has failed, every command is refused until the disk is opened again
 abbrev pub closed : Phase → Option Refusal
 closed Idle = None
 closed (Committing client numbered due) = None
@@ -46,17 +45,17 @@ closed (Rewriting commit due) = None
 closed (Failed failed) = Some refusal.Closed
 closed Crashed = None
 
--- a name that is there is not added; one that is not there is not replaced or withdrawn
+-- a name that is in the map is not added; one that is not there is not replaced or withdrawn
 abbrev pub map_refusal : Units → LibraryCommand → Option Refusal
 map_refusal library (command.Add name unit) = if contains_key library name then Some refusal.Exists else None
 map_refusal library (command.Replace name unit) = if contains_key library name then None else Some refusal.Absent
 map_refusal library (command.Withdraw name) = if contains_key library name then None else Some refusal.Absent
 
--- a command whose record does not fit the area is refused
+-- a command whose record does not fit in the area is refused
 abbrev pub full : StoreState → LibraryCommand → Option Refusal
 full store command = if nat_le (room_taken store (body_of command)) store.area then None else Some refusal.Full
 
--- the first of two refusals
+-- the first of two refusals, if there is one; else the second
 abbrev pub first_of_two : Option Refusal → Option Refusal → Option Refusal
 first_of_two None second = second
 first_of_two (Some refusal) second = Some refusal
@@ -76,13 +75,13 @@ module _ {P : Type 0} where
   planned call asked (Ok pieces) = record { call = call; request = asked; refusal = None; pieces = replicate pieces Waiting }
   planned call asked (Err number) = record { call = call; request = asked; refusal = Some number; pieces = [] }
 
-  -- the number of pieces of a request, or the number that refuses it, by its source's plan; a withdrawal has no pieces
+  -- the number of pieces of a request, or the number that refuses it: that of its source's plan; a withdrawal has no pieces
   abbrev pub IsPlanned : Rules P → Request → Result ℕ ℕ → Type 0
-  IsPlanned rules (request.Add name source) plan = rules.plan source plan
-  IsPlanned rules (request.Replace name source) plan = rules.plan source plan
-  IsPlanned rules (request.Withdraw name) plan = plan ≡ Ok 0
+  IsPlanned rules (command.Add name source) plan = rules.plan source plan
+  IsPlanned rules (command.Replace name source) plan = rules.plan source plan
+  IsPlanned rules (command.Withdraw name) plan = plan ≡ Ok 0
 
-  -- the job after one piece has come further
+  -- the job once this piece has made this progress
   abbrev pub with_piece : Job P → PartIndex → Progress P → Job P
   with_piece job part progress = record job { pieces = slice_set job.pieces part.index progress }
 
@@ -97,7 +96,7 @@ module _ {P : Type 0} where
   abbrev pub all_there : List (Progress P) → Bool
   all_there pieces = list_all is_there pieces
 
-  -- the number of the least piece that was refused
+  -- the number that refuses the first of the refused pieces
   abbrev pub first_refused : List (Progress P) → Option ℕ
   first_refused [] = None
   first_refused (Waiting ∷ rest) = first_refused rest
@@ -113,17 +112,17 @@ module _ {P : Type 0} where
   made_pieces (Made piece ∷ rest) = piece ∷ made_pieces rest
   made_pieces (Refused number ∷ rest) = made_pieces rest
 
-  -- the unit of a job's source: refused by the source's number, else by the number of the first refused piece, else by the build's number
-  -- for the pieces
+  -- the unit of a job's source; it is refused with the source's number, else with the number of the first refused piece, else
+  -- with the build's number for the pieces
   abbrev pub built : Rules P → Job P → List ℕ → Result StoredUnit ℕ
   built rules job source = unless job.refusal (unless (first_refused job.pieces) (rules.unit source (made_pieces job.pieces)))
 
-  -- the command of a job, or the number that refuses it
+  -- the command of a job, or the number that refuses the job
   abbrev pub command_of : Rules P → Job P → Request → Result LibraryCommand ℕ
-  command_of rules job (request.Add name source) = with_unit (command.Add name) (built rules job source)
-  command_of rules job (request.Replace name source) = with_unit (command.Replace name) (built rules job source)
-  command_of rules job (request.Withdraw name) = Ok (command.Withdraw name)
+  command_of rules job (command.Add name source) = with_unit (command.Add name) (built rules job source)
+  command_of rules job (command.Replace name source) = with_unit (command.Replace name) (built rules job source)
+  command_of rules job (command.Withdraw name) = Ok (command.Withdraw name)
 
-  -- the command that a job whose pieces are all there begins, or why it is refused
+  -- the command with which a job begins once all its pieces are there, or why the job is refused
   abbrev pub verdict : Rules P → Phase → Units → StoreState → Job P → Result LibraryCommand Refusal
   verdict rules phase library store job = accepted phase library store (command_of rules job job.request)

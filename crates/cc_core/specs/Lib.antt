@@ -2,6 +2,8 @@
 --
 -- what contracts see of the core's disk
 pub mod StoreState
+-- a change that carries a source
+pub mod Request
 -- what a build does, apart from any code
 pub mod Rules
 -- the numbers of the faults

@@ -1,8 +1,8 @@
--- What a build does, without any code: its rules, when pieces are all pieces of a source, and when pieces give a unit.
+-- What a build does, without any code: its rules, when pieces are all the pieces of a source, and which unit they give.
 use Rattle.std.specs.Prelude.{ℕ, ◌≡◌, List, length, slice_get, Some, Result, Ok, All}
 use Rattle.cc_unit.specs.declared.unit.StoredUnit.{StoredUnit}
-use Rattle.cc_library.specs.declared.command.LibraryCommand.{LibraryCommand}
-use Rattle.cc_library.specs.declared.command.LibraryCommand.TheVariants as command
+use Rattle.cc_library.specs.Change.{LibraryCommand}
+use Rattle.cc_library.specs.declared.command.Change.TheVariants as command
 
 -- the rules of a build whose pieces have the type P
 pub record Rules (P : Type 0) : Type 1 where
@@ -10,24 +10,24 @@ pub record Rules (P : Type 0) : Type 1 where
   pub plan : List ℕ → Result ℕ ℕ → Type 0
   -- the source that a piece names
   pub source_of : P → List ℕ
-  -- which piece of its source a piece names, from 0
+  -- which piece of its source a piece is, counted from 0
   pub part_of : P → ℕ
   -- the unit of a source that its pieces give, or the number that refuses them
   pub unit : List ℕ → List P → Result StoredUnit ℕ
 
--- the pieces are all pieces of the source, each at its index
+-- these are all the pieces of the source, each at its index
 pub record AreWhole {P : Type 0} (rules : Rules P) (source : List ℕ) (pieces : List P) : Type 0 where
   pub counted : rules.plan source (Ok (length pieces))
   pub named : (k : ℕ) (piece : P) → slice_get pieces k ≡ Some piece → (rules.source_of piece ≡ source) × (rules.part_of piece ≡ k)
 
--- pieces give this unit: they are all pieces of its source, each with what its type keeps
+-- some pieces give this unit: they are all pieces of its source, and each has what its type keeps
 pub record IsBuilt {P : Type 0} (rules : Rules P) (keeps : P → Type 0) (unit : StoredUnit) : Type 0 where
   pub pieces : List P
   pub whole : AreWhole rules unit.source pieces
   pub kept : All keeps pieces
   pub unit_is : rules.unit unit.source pieces ≡ Ok unit
 
--- pieces give the unit of a command, if it has one
+-- some pieces give the unit of this command, if it has one
 abbrev pub HasBuilt : {P : Type 0} → Rules P → (P → Type 0) → LibraryCommand → Type 0
 HasBuilt rules keeps (command.Add name unit) = IsBuilt rules keeps unit
 HasBuilt rules keeps (command.Replace name unit) = IsBuilt rules keeps unit

@@ -5,8 +5,8 @@ use Rattle.cc_disk.specs.Model.{IsImage, bytes_of}
 use Rattle.cc_disk.specs.Images.{LeavesAlone, IsWritten}
 use Rattle.cc_journal.specs.Commit.{IsCommitted}
 use Rattle.cc_journal.specs.Format.{HoldsRecords, records, record_bytes}
-use Rattle.cc_library.specs.declared.command.LibraryCommand.{LibraryCommand}
-use Rattle.cc_library.specs.declared.command.LibraryCommand.TheVariants as command
+use Rattle.cc_library.specs.Change.{LibraryCommand}
+use Rattle.cc_library.specs.declared.command.Change.TheVariants as command
 use Rattle.cc_unit.specs.declared.unit.StoredUnit.{StoredUnit}
 use Rattle.cc_library.specs.Apply.{Units, AreAccepted, library_of}
 use Rattle.cc_library.specs.Body.{IsCommand, body_of}
@@ -35,7 +35,7 @@ use Rattle.cc_core.specs.Step.{Step, IsImpossible, IsStart, Advances, RewritesAl
 abbrev pub EachUnit : (StoredUnit → Type 0) → Units → Type 0
 EachUnit is_right library = (name : List ℕ) (unit : StoredUnit) → get library name ≡ Some unit → is_right unit
 
--- a unit of this map, or a right one
+-- the unit is one of this map's, or is right
 abbrev pub IsRightOr : (StoredUnit → Type 0) → Units → StoredUnit → Type 0
 IsRightOr is_right base unit = ((name : List ℕ) × (get base name ≡ Some unit)) ⊎ is_right unit
 
@@ -47,8 +47,8 @@ AreRising numbered = (i j : ℕ) (a b : Numbered) → i < j → slice_get number
 abbrev pub but_last : List Numbered → List Numbered
 but_last order = take (length order - 1) order
 
--- the library that clients see: that of the order, without its last command if that one is in commit or has failed; from a crash until the
--- recovery it is empty
+-- the library that clients see: that of the order, but without its last command if that command is in commit or has failed; from
+-- a crash until the recovery it is empty
 abbrev pub live : Phase → List Numbered → Units
 live Idle order = library_of (commands order)
 live (Committing client last due) order = library_of (commands (but_last order))
@@ -57,9 +57,9 @@ live (Failed (Some last)) order = library_of (commands (but_last order))
 live (Failed None) order = library_of (commands order)
 live Crashed order = empty
 
--- The image recovers to the library of a prefix of the order, and to no other. The prefix has every acknowledged command, and lacks at most
--- the last command of the order. The sequence numbers of both lists ascend, so a command that was acknowledged twice is twice in the
--- prefix.
+-- The image recovers to the library of a prefix of the order, and to no other. The prefix has every acknowledged command, and
+-- lacks at most the last command of the order. The sequence numbers of both lists ascend, so a command that was acknowledged
+-- twice is twice in the prefix.
 pub record Survives (image : List ℕ) (order acknowledged : List Numbered) : Type 0 where
   pub rising : AreRising order
   pub rising_acked : AreRising acknowledged
@@ -74,7 +74,8 @@ pub record Survives (image : List ℕ) (order acknowledged : List Numbered) : Ty
 abbrev pub EachImageSurvives : Core → Type 0
 EachImageSurvives s = (image : List ℕ) → IsImage s.store.cells image → Survives image s.order s.acknowledged
 
--- each unit of the library to which an image recovers has this property, even the unit of a command that is in commit or has failed
+-- each unit of the library to which an image recovers has this property; this includes the unit of a command that is in commit or
+-- has failed
 abbrev pub EachImageIsRight : (StoredUnit → Type 0) → Core → Type 0
 EachImageIsRight is_right s = (image : List ℕ) (library : Units) → IsImage s.store.cells image → Recovers image library → EachUnit is_right library
 
@@ -101,8 +102,8 @@ pub record Commits (client : ClientId) (numbered : Numbered) (old new : Core) : 
   pub writes_gate : Advances dues.WriteGate body_settled None gate_written
   pub syncs_gate : Advances dues.SyncGate gate_written None new
 
--- they leave the bytes of one record, its gate open, with a closed gate after it, at the offset of the earlier closed gate; no other byte
--- differs
+-- the commit leaves the bytes of one record, with its gate open and a closed gate after it, at the offset of the earlier closed
+-- gate; no other byte differs
 abbrev pub LeavesRecord : Numbered → Core → Core → Type 0
 LeavesRecord numbered old new =
     IsWritten (bytes_of old.store.cells) (gate_of old.store) (record_bytes (body_of numbered.command) ++ 0 ∷ []) (bytes_of new.store.cells)
@@ -117,7 +118,8 @@ pub record Rewrites (old new : Core) : Type 0 where
   pub writes_area : RewriteAdvances left.WriteArea area_settled None byte_written
   pub syncs_area : RewriteAdvances left.SyncArea byte_written None new
 
--- they leave the bytes of the journal's one commit, with the earlier area byte, and the records are then one Add per name
+-- the rewrite leaves the bytes that the journal's commit leaves, given the earlier area byte, and the records are then one Add
+-- per name
 pub record LeavesCompacted (old new : Core) : Type 0 where
   pub bytes : IsCommitted (rewrite_of old.store old.library) (bytes_of old.store.cells) (bytes_of new.store.cells)
   pub holds : HoldsRecords (bytes_of new.store.cells) new.store.area (compacted old.library)
@@ -126,7 +128,7 @@ pub record LeavesCompacted (old new : Core) : Type 0 where
 abbrev pub PutsCommand : Core → Core → Type 0
 PutsCommand old new = (numbered : Numbered) → new.order ≡ old.order ++ numbered ∷ [] → IsCommand numbered.command
 
--- this order has the commands that these records spell, numbered from 0 on, and the next Begin has the number after them
+-- this order has the commands that these records spell, numbered from 0 on; the next Begin gets the number after the last of them
 pub record IsOrderOf (bodies : List (List ℕ)) (order : List Numbered) (upcoming : SequenceNumber) : Type 0 where
   pub spelled : AreSpelled bodies (commands order)
   pub counted : (k : ℕ) (a : Numbered) → slice_get order k ≡ Some a → a.number.value ≡ k
@@ -148,8 +150,9 @@ module _ {P : Type 0} where
   Run rules keeps old [] new = new ≡ old
   Run rules keeps old (event ∷ later) new = (mid : Contents P) × (Turn rules keeps old event mid × Run rules keeps mid later new)
 
-  -- A disk of any size was opened, in either area. Everything is settled, and the records of its area represent the live map, which is the
-  -- library of an order of some earlier commands. All of these are acknowledged. Nothing is asked of the units that were found.
+  -- A disk of any size was opened, with either area in use. Everything is settled, and the records of that area represent the
+  -- live map, which is the library of an order of some earlier commands. All of these are acknowledged. Nothing is required of
+  -- the units that were found.
   pub record IsOpened (new : Contents P) : Type 0 where
     pub phase : new.core.phase ≡ Idle
     pub library : new.core.library ≡ library_of (commands new.core.order)
@@ -170,7 +173,7 @@ module _ {P : Type 0} where
   abbrev pub IsBeginning : Contents P → Type 0
   IsBeginning new = ((area : ℕ) × IsStart area new) ⊎ IsOpened new
 
-  -- any piece at all; used for "what pieces keep", it lets workers hand in whatever they like
+  -- any piece at all; if this is "what pieces keep", workers may hand in whatever they like
   abbrev pub IsAnyPiece : P → Type 0
   IsAnyPiece piece = Unit {0}
 

@@ -1,15 +1,16 @@
--- The protocol core, one step at a time: in an old state an event may give this reply, or none, and lead to the new state.
+-- The protocol core, one step at a time: which reply an event may give in an old state, if any, and to which new state it may
+-- lead.
 use Rattle.std.specs.Prelude.{ℕ, ◌≡◌, ◌+◌, ◌<◌, ◌≤◌, ◌⊎◌, IsTrue, List, [], ◌∷◌, ◌++◌, length, map, take, slice_get, Option, Some, None, Result, Ok, Err}
 use Rattle.std.specs.Ordering.{nat_cmp}
 use Rattle.std.specs.FinMap.{FinMap, get, insert, remove, empty}
 use Rattle.cc_disk.specs.Model.{bytes_of}
 use Rattle.cc_journal.specs.Commit.{Commit}
 use Rattle.cc_journal.specs.Format.{HoldsRecords, records, room_of}
-use Rattle.cc_library.specs.declared.command.LibraryCommand.{LibraryCommand}
+use Rattle.cc_library.specs.Change.{LibraryCommand}
 use Rattle.cc_library.specs.Apply.{Units, after, library_of}
 use Rattle.cc_library.specs.Compact.{compacted}
 use Rattle.cc_library.specs.Recovered.{StandFor}
-use Rattle.cc_core.specs.declared.command.Request.{Request}
+use Rattle.cc_core.specs.Request.{Request}
 use Rattle.cc_core.specs.declared.command.Numbered.{Numbered}
 use Rattle.cc_core.specs.declared.command.Reply.{Reply}
 use Rattle.cc_core.specs.declared.command.Reply.TheVariants as replies
@@ -37,7 +38,7 @@ use Rattle.cc_core.specs.Job.{planned, IsPlanned, source_in, with_piece, all_the
 use Rattle.cc_core.specs.StoreState.{StoreState}
 use Rattle.cc_core.specs.Store.{IsFormatted, stepped, due_after, FailsTo, first_written, rewrite_of, rewrite_stepped, RewriteFailsTo, crashed_store}
 
--- from a crash until the recovery nothing else happens
+-- the disk has not crashed: from a crash until the recovery nothing else happens
 abbrev pub IsUp : Phase → Type 0
 IsUp Idle = Unit {0}
 IsUp (Committing client numbered due) = Unit {0}
@@ -45,7 +46,7 @@ IsUp (Rewriting commit due) = Unit {0}
 IsUp (Failed failed) = Unit {0}
 IsUp Crashed = ⊥
 
--- a commit may begin if no other commit and no rewrite is under way; after a failed step it is refused
+-- a Begin may take its step if no other commit and no rewrite is under way; after a failed step it is refused
 abbrev pub IsFree : Phase → Type 0
 IsFree Idle = Unit {0}
 IsFree (Committing client numbered due) = ⊥
@@ -65,7 +66,7 @@ pub record IsLongest (library : Units) (order kept : List Numbered) : Type 0 whe
   pub leads : library_of (commands kept) ≡ library
   pub longest : (n : ℕ) → count < n → n ≤ length order → library_of (commands (take n order)) ≡ library → ⊥
 
--- ---- the commit, over the core alone
+-- ---- the commit, in the core only
 
 -- one more Begin took a step
 abbrev pub ticked : Core → Core
@@ -99,7 +100,7 @@ pub record Fails (client : ClientId) (old : Core) (reply : Option Reply) (new : 
   pub told : reply ≡ Some (replies.Refused refusal.DiskFault)
   pub new_is : new ≡ record old { store = store; phase = Failed (Some numbered) }
 
--- the reply to the command that is on the disk: the library takes the command
+-- the reply is given for a command that is on the disk, and the library takes the command
 pub record Acknowledges (client : ClientId) (old : Core) (reply : Option Reply) (new : Core) : Type 0 where
   pub numbered : Numbered
   pub committing : old.phase ≡ Committing client numbered due.Acknowledge
@@ -110,11 +111,12 @@ pub record Acknowledges (client : ClientId) (old : Core) (reply : Option Reply) 
     phase = Idle;
   }
 
--- ---- a rewrite, over the core alone
+-- ---- a rewrite, in the core only
 
--- Between two commits, if the shortest journal of the live map fits an area, the first write of a rewrite is done: its records and their
--- closed gate are written to the area that is not in use. Nothing is due before it, so a write that fails or is torn needs no case of its
--- own: it is this step followed by the failure of the sync or by a crash, since its range is unsettled.
+-- Between two commits, if the shortest journal of the live map fits in an area, the first write of a rewrite is done: its records
+-- and their closed gate are written to the area that is not in use. A write that fails or is torn needs no case of its own: it is
+-- this step followed by the failure of the sync or by a crash, since the range of the write is unsettled, and nothing was due
+-- before it.
 pub record RewritesAll (old : Core) (reply : Option Reply) (new : Core) : Type 0 where
   pub idle : old.phase ≡ Idle
   pub fits : room_of (compacted old.library) ≤ old.store.area
@@ -124,20 +126,21 @@ pub record RewritesAll (old : Core) (reply : Option Reply) (new : Core) : Type 0
     phase = Rewriting (rewrite_of old.store old.library) left.SyncAll;
   }
 
--- the phase after a step of a rewrite: the next step is due, and after the last one no step is
+-- the phase after a step of a rewrite: the next step is due; after the last step, no step is due
 abbrev pub phase_after : Commit → RewriteDue → Phase
 phase_after commit left.SyncAll = Rewriting commit left.WriteArea
 phase_after commit left.WriteArea = Rewriting commit left.SyncArea
 phase_after commit left.SyncArea = Idle
 
--- the device step of a rewrite that is due is done; map and order stay the same
+-- the device step that is due in a rewrite is done; the map and the order stay the same
 pub record RewriteAdvances (due : RewriteDue) (old : Core) (reply : Option Reply) (new : Core) : Type 0 where
   pub commit : Commit
   pub rewriting : old.phase ≡ Rewriting commit due
   pub silent : reply ≡ None
   pub new_is : new ≡ record old { store = rewrite_stepped due commit old.store; phase = phase_after commit due }
 
--- it fails: there is no job in commit that could end, so there is no reply, and no further device step is made
+-- the device step that is due in a rewrite fails: no job is in commit that could end, so there is no reply, and no further device
+-- step is made
 pub record RewriteFails (old : Core) (reply : Option Reply) (new : Core) : Type 0 where
   pub commit : Commit
   pub due : RewriteDue
@@ -147,15 +150,15 @@ pub record RewriteFails (old : Core) (reply : Option Reply) (new : Core) : Type 
   pub silent : reply ≡ None
   pub new_is : new ≡ record old { store = store; phase = Failed None }
 
--- ---- a crash, over the core alone
+-- ---- a crash, in the core only
 
 -- the disk crashes, at any time; the live map is lost
 pub record Crashes (choice : List ℕ) (old : Core) (reply : Option Reply) (new : Core) : Type 0 where
   pub silent : reply ≡ None
   pub new_is : new ≡ record old { library = empty; phase = Crashed; store = crashed_store choice old.store }
 
--- the library is opened: the live map is what the disk's records represent, in the area that its area byte names, and the order is its
--- longest prefix that leads to that map
+-- the library is opened: the live map is what the disk's records represent, in the area that the area byte names; what is kept of
+-- the order is the longest prefix that leads to that map
 pub record Reopens (old : Core) (reply : Option Reply) (new : Core) : Type 0 where
   pub crashed : old.phase ≡ Crashed
   pub bodies : List (List ℕ)
@@ -175,7 +178,7 @@ pub record Reopens (old : Core) (reply : Option Reply) (new : Core) : Type 0 whe
 -- ---- the core together with jobs and workers
 
 module _ {P : Type 0} where
-  -- nothing has happened, and the disk is formatted with areas of that size
+  -- nothing has happened yet, and the disk is formatted, with areas of that size
   pub record IsStart (area : ℕ) (new : Contents P) : Type 0 where
     pub library : new.core.library ≡ empty
     pub order : new.core.order ≡ []
@@ -233,12 +236,12 @@ module _ {P : Type 0} where
       workers = remove old.workers worker.number;
     }
 
-  -- a refused job ends at its Begin
+  -- the jobs after a Begin: if the job was refused, it ends
   abbrev pub jobs_begun : FinMap nat_cmp (Job P) → ClientId → Result LibraryCommand Refusal → FinMap nat_cmp (Job P)
   jobs_begun jobs client (Ok command) = jobs
   jobs_begun jobs client (Err refused) = remove jobs client.number
 
-  -- a job whose pieces are all there begins, if no other is in commit
+  -- a job whose pieces are all there begins, if no other command is in commit and no rewrite is under way
   pub record BeginsCommit (rules : Rules P) (client : ClientId) (old : Contents P) (reply : Option Reply) (new : Contents P) : Type 0 where
     pub job : Job P
     pub free : IsFree old.core.phase
@@ -248,19 +251,19 @@ module _ {P : Type 0} where
     pub jobs : new.jobs ≡ jobs_begun old.jobs client (verdict rules old.core.phase old.core.library old.core.store job)
     pub workers : new.workers ≡ old.workers
 
-  -- a step of the core alone
+  -- a step that changes only the core
   pub record StepsCore (step : Core → Option Reply → Core → Type 0) (old : Contents P) (reply : Option Reply) (new : Contents P) : Type 0 where
     pub core_step : step old.core reply new.core
     pub jobs : new.jobs ≡ old.jobs
     pub workers : new.workers ≡ old.workers
 
-  -- a step of the core that ends a client's job
+  -- a step of the core that also ends a client's job
   pub record EndsJob (client : ClientId) (step : Core → Option Reply → Core → Type 0) (old : Contents P) (reply : Option Reply) (new : Contents P) : Type 0 where
     pub core_step : step old.core reply new.core
     pub jobs : new.jobs ≡ remove old.jobs client.number
     pub workers : new.workers ≡ old.workers
 
-  -- the device step of a commit that is due fails, and the job in commit ends
+  -- the device step that is due in a commit fails, and the job in commit ends
   abbrev pub FailsJob : Contents P → Option Reply → Contents P → Type 0
   FailsJob old reply new = (client : ClientId) × EndsJob client (Fails client) old reply new
 
@@ -268,13 +271,13 @@ module _ {P : Type 0} where
   abbrev pub FailsStep : Contents P → Option Reply → Contents P → Type 0
   FailsStep old reply new = FailsJob old reply new ⊎ StepsCore RewriteFails old reply new
 
-  -- a step of the core that ends all jobs and all work
+  -- a step of the core that also ends all jobs and all work
   pub record EndsAll (step : Core → Option Reply → Core → Type 0) (old : Contents P) (reply : Option Reply) (new : Contents P) : Type 0 where
     pub core_step : step old.core reply new.core
     pub jobs : new.jobs ≡ empty
     pub workers : new.workers ≡ empty
 
-  -- the step that an event takes; "no reply" counts as a reply
+  -- the step that an event takes; "no reply" is one of the replies
   abbrev pub Step : Rules P → Contents P → Event P → Option Reply → Contents P → Type 0
   Step rules old (event.Submit client call request) reply new = Submits rules client call request old reply new
   Step rules old (event.Take worker client part) reply new = Takes worker client part old reply new

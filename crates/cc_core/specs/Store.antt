@@ -1,12 +1,12 @@
--- The disk of the core: a journal in one of its areas, written step by step. The steps of a command, and those of a rewrite, are the steps
--- of one commit of the journal: a first write, whose bytes count for nothing yet, a sync, the write of the one byte that decides, and a
--- sync.
+-- The disk of the core: a journal in one of the disk's areas, written step by step. The device steps of a command, and those of a
+-- rewrite, are the steps of one commit of the journal: a first write, whose bytes do not count yet; a sync; the write of the one
+-- byte that decides; and a sync.
 use Rattle.std.specs.Prelude.{◌≡◌, ℕ, ◌+◌, ◌-◌, ◌*◌, List, [], ◌∷◌, ◌++◌, length}
 use Rattle.cc_disk.specs.Model.{Cell, bytes_of, IsImage, written, synced, crashed}
 use Rattle.cc_disk.specs.Images.{LeavesAlone}
 use Rattle.cc_journal.specs.Format.{header, IsArea}
 use Rattle.cc_journal.specs.Commit.{Commit, append_commit, area_begin, rewrite_commit}
-use Rattle.cc_library.specs.declared.command.LibraryCommand.{LibraryCommand}
+use Rattle.cc_library.specs.Change.{LibraryCommand}
 use Rattle.cc_library.specs.Apply.{Units}
 use Rattle.cc_library.specs.Body.{body_of}
 use Rattle.cc_library.specs.Compact.{compacted}
@@ -31,7 +31,7 @@ pub record IsFormatted (area : ℕ) (store : StoreState) : Type 0 where
 abbrev pub gate_of : StoreState → ℕ
 gate_of store = area_begin store.area_byte store.area + store.used
 
--- the number of bytes of the area that the records and their closed gate take, together with one more record with this body
+-- the number of bytes of the area that the records and the closed gate take once a record with this body is added
 abbrev pub room_taken : StoreState → List ℕ → ℕ
 room_taken store body = store.used + (length body + 6)
 
@@ -45,7 +45,7 @@ with_cells store cells = record store { cells = cells }
 abbrev pub first_written : Commit → StoreState → StoreState
 first_written commit store = with_cells store (written store.cells commit.offset commit.bytes)
 
--- its second write: the byte that decides
+-- the second write of a commit: the byte that decides
 abbrev pub decided : Commit → StoreState → StoreState
 decided commit store = with_cells store (written store.cells commit.deciding_offset (commit.deciding_byte ∷ []))
 
@@ -53,11 +53,11 @@ decided commit store = with_cells store (written store.cells commit.deciding_off
 abbrev pub settled_all : StoreState → StoreState
 settled_all store = with_cells store (synced store.cells)
 
--- a first write that fails leaves any bytes in its range, unsettled
+-- if the first write fails, it leaves any bytes in its range, unsettled
 abbrev pub FirstFails : Commit → StoreState → StoreState → Type 0
 FirstFails commit old new = (bytes : List ℕ) × (length bytes ≡ length commit.bytes) × (new ≡ with_cells old (written old.cells commit.offset bytes))
 
--- a second write that fails leaves any byte there, unsettled
+-- if the second write fails, it leaves any byte there, unsettled
 abbrev pub DecidingFails : Commit → StoreState → StoreState → Type 0
 DecidingFails commit old new = (byte : ℕ) × (new ≡ with_cells old (written old.cells commit.deciding_offset (byte ∷ [])))
 
@@ -67,8 +67,8 @@ DecidingFails commit old new = (byte : ℕ) × (new ≡ with_cells old (written 
 abbrev pub append_of : StoreState → LibraryCommand → Commit
 append_of store command = append_commit (gate_of store) (body_of command)
 
--- the disk after the step that was due: the body and the next gate, closed, are written in one write; they are synced; the record's own
--- gate is written open; it is synced, and the record belongs to the journal
+-- the disk after the step that was due: the body, with the next gate, closed, is written; both are synced; the record's own gate
+-- is written open; it is synced, and the record belongs to the journal
 abbrev pub stepped : Due → LibraryCommand → StoreState → StoreState
 stepped WriteBody command store = first_written (append_of store command) store
 stepped SyncBody command store = settled_all store
@@ -84,7 +84,8 @@ due_after WriteGate = SyncGate
 due_after SyncGate = Acknowledge
 due_after Acknowledge = Acknowledge
 
--- the step that was due fails: a write leaves any bytes in its range, unsettled; a sync changes nothing; a reply is no step of the device
+-- what the step that was due leaves if it fails: a write leaves any bytes in its range, unsettled; a sync changes nothing; a
+-- reply is not a step of the device
 abbrev pub FailsTo : Due → LibraryCommand → StoreState → StoreState → Type 0
 FailsTo WriteBody command old new = FirstFails (append_of old command) old new
 FailsTo SyncBody command old new = new ≡ old
@@ -98,14 +99,14 @@ FailsTo Acknowledge command old new = ⊥
 abbrev pub rewrite_of : StoreState → Units → Commit
 rewrite_of store library = rewrite_commit store.area_byte store.area (compacted library)
 
--- the disk after the step of a rewrite that was due: the new area is synced; the area byte is written; it is synced, and that area is in
--- use, with the records that were written there: all bytes but the closed gate after them
+-- the disk after the step of a rewrite that was due: the new area is synced; the area byte is written; it is synced, and the new
+-- area is in use, with the records that were written there, which are all of the bytes but the closed gate after them
 abbrev pub rewrite_stepped : RewriteDue → Commit → StoreState → StoreState
 rewrite_stepped SyncAll commit store = settled_all store
 rewrite_stepped WriteArea commit store = decided commit store
 rewrite_stepped SyncArea commit store = record store { cells = synced store.cells; area_byte = commit.deciding_byte; used = length commit.bytes - 1 }
 
--- that step fails
+-- what the step of a rewrite that was due leaves if it fails
 abbrev pub RewriteFailsTo : RewriteDue → Commit → StoreState → StoreState → Type 0
 RewriteFailsTo SyncAll commit old new = new ≡ old
 RewriteFailsTo WriteArea commit old new = DecidingFails commit old new
@@ -113,6 +114,6 @@ RewriteFailsTo SyncArea commit old new = new ≡ old
 
 -- ---- a crash
 
--- the disk after a crash that leaves this choice at the unsettled offsets; which area is in use is read at the next opening
+-- the disk after a crash that leaves this choice at the unsettled offsets; the next opening reads which area is in use
 abbrev pub crashed_store : List ℕ → StoreState → StoreState
 crashed_store choice store = with_cells store (crashed store.cells choice)

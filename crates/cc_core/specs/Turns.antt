@@ -1,9 +1,9 @@
 -- How a run can go on: which steps are turns of it, what they leave unchanged, and how a client's job is handed in and made ready to begin.
 use Rattle.std.specs.Prelude.{ℕ, ◌≡◌, ◌≤◌, IsTrue, List, Some, None, Ok}
 use Rattle.std.specs.FinMap.{get}
-use Rattle.cc_library.specs.declared.command.LibraryCommand.{LibraryCommand}
+use Rattle.cc_library.specs.Change.{LibraryCommand}
 use Rattle.cc_library.specs.Body.{IsCommand, body_of}
-use Rattle.cc_core.specs.declared.command.Request.{Request}
+use Rattle.cc_core.specs.Request.{Request}
 use Rattle.cc_core.specs.declared.contents.Contents.{Contents}
 use Rattle.cc_core.specs.declared.event.Event.{Event}
 use Rattle.cc_core.specs.declared.event.Event.TheVariants as events
@@ -18,7 +18,8 @@ use Rattle.cc_core.specs.Run.{Run}
 use Rattle.cc_core.specs.Store.{room_taken}
 
 module _ {P : Type 0} where
-  -- if the event begins a client's job, the job's command has a spelling, provided that no device step failed and its record fits
+  -- if the event begins a client's job, the job's command has a spelling; this is required only if no device step has failed and
+  -- the command's record fits
   abbrev pub BeginsSpelled : Rules P → Contents P → Event P → Type 0
   BeginsSpelled rules old event = (client : ClientId) (job : Job P) (command : LibraryCommand) → event ≡ events.Begin client
       → get old.jobs client.number ≡ Some job → command_of rules job job.request ≡ Ok command
@@ -32,8 +33,8 @@ module _ {P : Type 0} where
   abbrev pub IsNoTake : Event P → Type 0
   IsNoTake event = (worker : WorkerId) (client : ClientId) (part : PartIndex) → event ≡ events.Take worker client part → ⊥
 
-  -- Some events lead on to contents with the same core, in which this client has a job whose pieces are all there and whose command this
-  -- is. No other client's job has changed then, and this worker is idle.
+  -- Some events lead on to contents with the same core, in which this client has a job whose pieces are all there and whose
+  -- command is this one. No other client's job has changed, and this worker is idle.
   pub record CanBeReady (rules : Rules P) (keeps : P → Type 0) (old : Contents P) (client : ClientId) (worker : WorkerId) (command : LibraryCommand) : Type 0 where
     pub events : List (Event P)
     pub new : Contents P

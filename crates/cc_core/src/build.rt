@@ -1,4 +1,4 @@
-// What the core needs of a compiler: pieces of a source that are made one by one, and the unit that all of them give.
+// What the core needs from a compiler: the pieces of a source, which are made one by one, and the unit that all of them give.
 
 ghost use Rattle.std.specs.Prelude.{◌≡◌, ◌↔◌, ℕ, List, Result, Ok, IfOk, IfErr, IsTrue, All, map};
 ghost use Rattle.std.specs.Arc.{arc_value};
@@ -16,7 +16,7 @@ pub trait Build: Drop {
     /// A compiled part of a source. It names its source and its part.
     type Piece: Drop;
 
-    // How many pieces a source has, what a piece names, and which unit pieces give.
+    // The number of pieces of each source, what a piece names, and which unit pieces give.
     ghost rules: { Rules Self.Piece };
 
     // What each piece of this type keeps, apart from what it names.
@@ -25,7 +25,7 @@ pub trait Build: Drop {
     // The unit's image is right for its source.
     ghost is_right: { StoredUnit → Type 0 };
 
-    /// The number of pieces of a source, which may be any bytes; or the number that refuses it.
+    /// The number of pieces of a source, or the number that refuses it. A source may be any bytes.
     fn plan(&self, alloc: Global, source: &[u8]) -> Result<u32, BuildRefusal>
         ensures answer { IfOk result (λ pieces. rules.plan source.now (Ok pieces)) }
         ensures refused { IfErr result (λ fault. RefusesPlan fault (rules.plan source.now)) };
@@ -50,7 +50,8 @@ pub trait Build: Drop {
     // Each source has a number of pieces, or a number that refuses it.
     ghost planned: { (source : List ℕ) → (plan : Result ℕ ℕ) × rules.plan source plan };
 
-    // The unit that all pieces of a source give, if each has what it keeps, is of that source and right for it.
+    // If pieces are all pieces of a source, and each has what its type keeps, the unit that they give is of that source and right
+    // for it.
     ghost law: { (source : List ℕ) (pieces : List Self.Piece) (unit : StoredUnit)
         → AreWhole rules source pieces → All keeps pieces → rules.unit source pieces ≡ Ok unit → (unit.source ≡ source) × is_right unit };
 }

@@ -1,23 +1,18 @@
-// What clients ask for, the commands that go into the order, each with a number of its own, and the answers.
+// What clients ask for; the commands that go into the order, each with a number of its own; and the answers.
 
 ghost use Rattle.std.specs.Prelude.{◌≡◌, IfOk};
 
 use crate::fault::Refusal;
 use crate::sequence::Sequence;
 use crate::sequence_number::SequenceNumber;
-use cc_library::{LibraryCommand, Name};
+use cc_library::{Change, LibraryCommand};
 use std::alloc::AllocError;
 
-/// What a client asks for: a name, and for the first two a source, which may be any bytes.
-#[derive(Drop)]
-pub enum Request {
-    Add(Name, Sequence<u8>),
-    Replace(Name, Sequence<u8>),
-    Withdraw(Name),
-}
+/// What a client asks for: a change with a source, which may be any bytes.
+pub type Request = Change<Sequence<u8>>;
 
-/// A command with its name: the sequence number of its Begin among all Begins that took a step. Two commands that ask for the same have
-/// different numbers.
+/// A command and its sequence number: that of its Begin among all Begins that took a step. Two commands that ask for the same
+/// thing have different numbers.
 #[derive(Drop)]
 pub struct Numbered {
     pub number: SequenceNumber,

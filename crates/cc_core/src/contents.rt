@@ -1,4 +1,5 @@
-// What a state holds: the library with its order and its disk, how far a commit or a rewrite has come, jobs, and what workers have taken.
+// What a state holds: the library with its order and its disk, how far a commit or a rewrite has come, the jobs, and what workers
+// have taken.
 
 use crate::command::Numbered;
 use crate::ids::ClientId;
@@ -15,24 +16,24 @@ use cc_library::UnitMap;
 pub enum Due {
     /// The write of the record's body, and of the closed gate after it.
     WriteBody,
-    /// The sync that settles them.
+    /// The sync that settles the body and that closed gate.
     SyncBody,
     /// The write that opens the record's gate.
     WriteGate,
-    /// The sync that settles it.
+    /// The sync that settles the gate.
     SyncGate,
     /// The reply: the record is on the disk.
     Acknowledge,
 }
 
-/// What comes next in a rewrite after its first write: one of its other device steps.
+/// What comes next in a rewrite after its first write: one of the three other device steps.
 #[derive(Drop)]
 pub enum RewriteDue {
     /// The sync that settles the new area.
     SyncAll,
     /// The write of the area byte.
     WriteArea,
-    /// The sync that settles it.
+    /// The sync that settles the gate.
     SyncArea,
 }
 
@@ -45,10 +46,10 @@ pub enum Phase {
     Committing(ClientId, Numbered, Due),
     /// The records are being rewritten by this commit of the journal, and this step is due next.
     Rewriting(Commit, RewriteDue),
-    /// A device step has failed, one of this command's if a command was in commit. No device step is made until the library is opened
-    /// again.
+    /// A device step has failed: one of this command's, if a command was in commit. No further device step is made until the
+    /// library is opened again.
     Failed(Option<Numbered>),
-    /// The disk has crashed: the library has to be opened.
+    /// The disk has crashed, and the library has to be opened.
     Crashed,
 }
 

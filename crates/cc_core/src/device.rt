@@ -95,7 +95,7 @@ pub(crate) fn sync_gate(core: &mut Core) -> Answer
     Ok(None)
 }
 
-// The device step of a commit that is due fails. A write has then reached the disk as a whole, unsettled.
+// The device step that is due in a commit fails. If it is a write, all its bytes have reached the disk, unsettled.
 fn fail_core(alloc: Global, core: &mut Core, client: ClientId) -> Answer
     requires { IsReady core.old }
     ensures { Answers (Fails client core.old) result core.old core.new }
@@ -125,7 +125,7 @@ fn fail_core(alloc: Global, core: &mut Core, client: ClientId) -> Answer
     Ok(Some(Reply::Refused(Refusal::DiskFault)))
 }
 
-// The device step of a commit that is due fails, and the job in commit ends.
+// The device step that is due in a commit fails, and the job in commit ends.
 pub(crate) fn fail_job<P: Drop>(alloc: Global, contents: &mut Contents<P>) -> Answer
     requires { IsReady contents.old.core }
     ensures { Answers (FailsJob contents.old) result contents.old contents.new }

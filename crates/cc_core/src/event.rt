@@ -8,39 +8,40 @@ use crate::sequence::Sequence;
 /// What may happen.
 #[derive(Drop)]
 pub enum Event<P> {
-    /// A client without a job hands one in: client, call, request.
+    /// A client without a job hands one in. Fields: client, call, request.
     Submit(ClientId, CallId, Request),
-    /// An idle worker takes a waiting piece: worker, client, piece.
+    /// An idle worker takes a waiting piece. Fields: worker, client, piece.
     Take(WorkerId, ClientId, PartIndex),
-    /// A worker hands in the piece that it took: worker, piece.
+    /// A worker hands in the piece that it took. Fields: worker, piece.
     Done(WorkerId, P),
-    /// A worker refuses the piece that it took: worker, number.
+    /// A worker refuses the piece that it took. Fields: worker, number.
     Refuse(WorkerId, u32),
-    /// A client's job, all of whose pieces are there, begins its commit.
+    /// A client's job begins its commit; all its pieces are there.
     Begin(ClientId),
     /// The first device step of the commit: the record's body is written, with the closed gate after it.
     WriteBody,
-    /// The second: they are synced.
+    /// The second device step of the commit: the body and that gate are synced.
     SyncBody,
-    /// The third: the record's gate is written open.
+    /// The third: the record's own gate is written open.
     WriteGate,
-    /// The fourth: it is synced.
+    /// The fourth: that gate is synced.
     SyncGate,
-    /// Between two commits the records are written again, one Add per name. The first device step of this rewrite: they are written to the
-    /// area that is not in use, with a closed gate after them.
+    /// The first device step of a rewrite, between two commits: the records of the map, one Add per name, are written to the area
+    /// that is not in use, with a closed gate after them.
     RewriteAll,
-    /// The second: they are synced.
+    /// The second device step of the commit: the body and that gate are synced.
     SyncAll,
     /// The third: the area byte is written.
     WriteArea,
-    /// The fourth: it is synced.
+    /// The fourth: that gate is synced.
     SyncArea,
-    /// The device step of a commit or of a rewrite that is due fails.
+    /// The device step that is due in a commit or in a rewrite fails.
     Fail,
     /// The reply is given to the client whose command is in commit, after all four steps.
     Ack(ClientId),
-    /// The disk crashes. At each unsettled offset `i` it leaves byte `i` of this choice, or 0 past its end. After the event of a write this
-    /// is a crash within that write; before the event of a sync, a crash within that sync.
+    /// The disk crashes. At each unsettled offset `i` it is left with byte `i` of this choice, or with 0 if the choice is
+    /// shorter. After the event of a write this is a crash within that write; before the event of a sync, it is a crash within
+    /// that sync.
     Crash(Sequence<u8>),
     /// The library is opened after a crash.
     Recover,

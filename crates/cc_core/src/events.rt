@@ -30,10 +30,10 @@ use crate::rewriting::{fail, rewrite_all, sync_all, sync_area, write_area};
 use cc_library::{LibraryCommand, SharedUnit, UnitMap, body_length};
 use std::alloc::{AllocError, Global};
 
-/// What an event answers: a reply or none; 29 if the event is not possible, 40 if memory was refused.
+/// What an event answers: a reply or none. It fails with 29 if the event is not possible, and with 40 if memory ran out.
 pub(crate) type Answer = Result<Option<Reply>, CoreFault>;
 
-// The number of pieces of a request, or the number that refuses it.
+// The number of pieces of a request, or the number that refuses the request.
 fn plan_of<B: Build>(build: &B, alloc: Global, request: &Request) -> Result<u32, BuildRefusal>
     ensures answer { IfOk result (λ pieces. IsPlanned B.rules request.now (Ok pieces)) }
     ensures refused { IfErr result (λ fault. RefusesPlan fault (IsPlanned B.rules request.now)) }
@@ -46,7 +46,7 @@ fn plan_of<B: Build>(build: &B, alloc: Global, request: &Request) -> Result<u32,
     }
 }
 
-// The job of a request, as it is planned.
+// The job that a request becomes when it is planned.
 fn plan_job<B: Build>(
     build: &B,
     alloc: Global,
@@ -77,7 +77,7 @@ fn plan_job<B: Build>(
     }
 }
 
-// Whether a client may hand in a job.
+// Whether clients may hand in jobs: the disk has not crashed.
 fn is_up(phase: &Phase) -> bool
     ensures { IsTrue result ↔ IsUp phase.now }
 {
@@ -144,7 +144,7 @@ fn names_part<B: Build>(build: &B, request: &Request, piece: &B::Piece, part: Pa
     }
 }
 
-// Sets what a worker has made of the piece that it took.
+// Sets what a worker has made of the piece that it took, and makes the worker idle.
 fn settle<P: Drop>(contents: &mut Contents<P>, worker: WorkerId, work: Work, progress: Progress<P>)
     ensures { (job : Job P) → table.get contents.old.jobs work.client.number ≡ Some job
         → contents.new ≡ record contents.old {
@@ -257,8 +257,8 @@ fn map_refusal(library: &UnitMap, command: &LibraryCommand) -> Option<Refusal>
     None
 }
 
-// Why a command is refused, if it is: 36, then 31 or 32, then 34. The length of its body is enough, so no body is made for which there is
-// no room.
+// Why a command is refused, if it is: first 36, then 31 or 32, then 34. Only the length of the command's body is needed, so no
+// body is made if there is no room for it.
 fn refusal_of(core: &Core, command: &LibraryCommand) -> Option<Refusal>
     ensures refusal { result ≡ command_refusal core.now.phase core.now.library core.now.store command.now }
     ensures spelled { result ≡ None → IsCommand command.now }
@@ -269,7 +269,7 @@ fn refusal_of(core: &Core, command: &LibraryCommand) -> Option<Refusal>
     if let Some(refusal) = map_refusal(&core.library, command) {
         return Some(refusal);
     }
-    // What the type keeps about the size of an area.
+    // Gives the proof what the type keeps about the size of an area.
     let _kept = core.store.used();
     if core.store.fits(body_length(command)) {
         None
@@ -278,7 +278,7 @@ fn refusal_of(core: &Core, command: &LibraryCommand) -> Option<Refusal>
     }
 }
 
-// The command that a job begins, or why it is refused.
+// The command with which a job begins, or why the job is refused.
 fn decide<B: Build>(
     build: &B,
     alloc: Global,
@@ -302,7 +302,7 @@ fn decide<B: Build>(
     }
 }
 
-// Puts a command last in the order, in commit for this client.
+// Puts a command last in the order. It is then in commit for this client.
 fn put_in_order(
     core: &mut Core,
     client: ClientId,
@@ -328,7 +328,7 @@ fn put_in_order(
     Ok(())
 }
 
-// Whether a commit may begin, even if only to be refused.
+// Whether a Begin may take its step. After a failed step it may, and is refused.
 fn is_free(phase: &Phase) -> bool
     ensures { IsTrue result ↔ IsFree phase.now }
 {
@@ -338,7 +338,7 @@ fn is_free(phase: &Phase) -> bool
     }
 }
 
-// A job whose pieces are all there begins, if no other is in commit.
+// A job whose pieces are all there begins, if no other command is in commit and no rewrite is under way.
 pub(crate) fn begin<B: Build>(
     build: &B,
     alloc: Global,
@@ -405,8 +405,8 @@ pub(crate) fn acknowledge<P: Drop>(contents: &mut Contents<P>, client: ClientId)
     }
 }
 
-/// Takes the step of one event, and answers its reply, if it gives one; 29 if the event is not possible, 40 if memory was refused. After 29
-/// and 40 the contents are as before.
+/// Takes the step of one event, and answers its reply, if it gives one. Fails with 29 if the event is not possible, and with 40
+/// if memory ran out; the contents are then as before.
 pub(crate) fn take_step<B: Build>(
     build: &B,
     alloc: Global,

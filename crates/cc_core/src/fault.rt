@@ -1,4 +1,4 @@
-// Why an event takes no step, why a command is refused, and why a build makes nothing, each with its number.
+// Why an event takes no step, why a command is refused, and why a build makes nothing. Each reason has its number.
 
 ghost use Rattle.std.specs.Prelude.{◌≡◌};
 
@@ -43,16 +43,16 @@ impl From<AllocError> for CoreFault {
 /// Why a command is refused, as its reply says.
 #[derive(Debug, Drop, Error)]
 pub enum Refusal {
-    /// That number: the build refuses the source or its pieces with it.
+    /// The build refuses the source or its pieces with this number.
     #[error("Build")]
     Build(u32),
-    /// 31: the name to be added is there already.
+    /// 31: a unit of the name to be added is there already.
     #[error("Exists")]
     Exists,
-    /// 32: the name to be replaced or withdrawn is not there.
+    /// 32: no unit of the name to be replaced or withdrawn is there.
     #[error("Absent")]
     Absent,
-    /// 34: the record does not fit the area.
+    /// 34: the record does not fit in the area.
     #[error("Full")]
     Full,
     /// 35: the device step that was due failed.
@@ -84,7 +84,7 @@ impl Refusal {
 /// Why a build gives no plan, or no unit.
 #[derive(Debug, Drop, Error)]
 pub enum BuildRefusal {
-    /// That number: the source or its pieces are refused with it.
+    /// The source or its pieces are refused with this number.
     #[error("Refused")]
     Refused(u32),
     /// 40: memory ran out.
@@ -95,7 +95,7 @@ pub enum BuildRefusal {
 impl BuildRefusal {
     ghost use Rattle.cc_core.specs.Fault.{build_fault_number};
 
-    /// The number that refuses, or 40 if memory ran out.
+    /// The number with which the build refuses, or 40 if memory ran out.
     pub fn number(&self) -> u32
         ensures { result ≡ build_fault_number self.now }
     {

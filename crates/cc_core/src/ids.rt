@@ -1,24 +1,24 @@
 // Numbers for clients, workers, calls and pieces.
 
-/// A client, with any number.
+/// A client's number, which may be any number of 64 bits.
 #[derive(Clone, Copy)]
 pub struct ClientId {
     pub number: u64,
 }
 
-/// A worker, with any number.
+/// A worker's number, which may be any number of 64 bits.
 #[derive(Clone, Copy)]
 pub struct WorkerId {
     pub number: u64,
 }
 
-/// A call of a client, with any number.
+/// The number of a client's call, which may be any number of 64 bits.
 #[derive(Clone, Copy)]
 pub struct CallId {
     pub number: u64,
 }
 
-/// A piece of a job, counted from 0.
+/// The index of a piece of a job, counted from 0.
 #[derive(Clone, Copy)]
 pub struct PartIndex {
     pub index: u32,

@@ -1,4 +1,4 @@
-// What a client has handed in, piece by piece, and what a worker has taken of it.
+// What a client has handed in, with its pieces, and which piece a worker has taken.
 
 ghost use Rattle.std.specs.Prelude.{◌≡◌, IfOk, map, replicate};
 ghost use Rattle.std.specs.FinMap as table;
@@ -19,14 +19,14 @@ pub enum Progress<P> {
     Waiting,
     /// A worker has it.
     Taken,
-    /// This is what a worker made.
+    /// A worker made this piece.
     Made(P),
     /// A worker refused it, with this number.
     Refused(u32),
 }
 
-/// What a client handed in: the number of its call, what it asks for, the number that refuses its source, if one does, and how far each
-/// piece has come.
+/// What a client handed in: the number of its call, what it asks for, the number that refuses its source (if one does), and how
+/// far each piece has come.
 #[derive(Drop)]
 pub struct Job<P> {
     pub call: CallId,
@@ -60,7 +60,7 @@ pub(crate) fn are_all_there<P>(pieces: &[Progress<P>]) -> bool
     pieces.iter().all(|progress| progress.is_there())
 }
 
-// The number that refused the first of the refused pieces.
+// The number that refuses the first of the refused pieces.
 pub(crate) fn least_refused<P>(pieces: &[Progress<P>]) -> Option<u32>
     ensures { result ≡ first_refused pieces.now }
 {
@@ -85,7 +85,7 @@ pub(crate) fn all_made<P>(alloc: Global, pieces: &[Progress<P>]) -> Result<Vec<&
     Ok(made)
 }
 
-// This many waiting pieces.
+// A list of `count` waiting pieces.
 pub(crate) fn all_waiting<P: Drop>(
     alloc: Global,
     count: u32,

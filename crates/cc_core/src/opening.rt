@@ -1,4 +1,4 @@
-// Opening a disk: what its records represent, and the point from which a run goes on.
+// Opening a disk: what its records represent, and the state from which a run goes on.
 
 ghost use Rattle.std.specs.Prelude.{◌≡◌, ◌^◌, ◌≤◌, true, IfOk, IfErr, MatchResult, length};
 ghost use Rattle.cc_disk.specs.Model.{bytes_of, IsImage};
@@ -17,7 +17,7 @@ use cc_journal::{Body, Journal};
 use cc_library::{LibraryFault, UnitMap, read_command, replay};
 use std::alloc::{AllocError, Global};
 
-/// A disk that was opened: its journal, the map that its records represent, and the number of bytes of the area that they take.
+/// A disk that was opened: its journal, the map that its records represent, and how many bytes of the area they take.
 #[derive(Drop)]
 pub(crate) struct Found {
     pub journal: Journal<MemoryDisk>,
@@ -36,8 +36,8 @@ pub(crate) struct Opened {
     pub upcoming: SequenceNumber,
 }
 
-/// Opens the journal of a disk, and carries out the commands of its records one after the other. It refuses as the opening of a library
-/// does, and hands the disk back.
+/// Opens the journal of a disk, and carries out the commands of its records one after the other. Refuses for the same reasons as
+/// opening a library does, and hands the disk back.
 pub(crate) fn find(alloc: Global, disk: MemoryDisk) -> Result<Found, (LibraryFault, MemoryDisk)>
     ensures answer { IfOk result (λ found.
         IsFound (bytes_of disk.cells) found.journal.area found.journal.bodies found.library found.used) }
@@ -89,8 +89,8 @@ fn again(alloc: Global, order: &[Numbered]) -> Result<Sequence<Numbered>, AllocE
     Ok(copy)
 }
 
-// The commands that these records spell, numbered from 0 on; the same commands again, as the acknowledged ones; and the number after them.
-// If each record spells a command, the only refusal is lack of memory.
+// The commands that these records spell, numbered from 0 on; the same commands again, as the acknowledged ones; and the number
+// after the last of theirs. If each record spells a command, the only refusal is lack of memory.
 fn read_order(
     alloc: Global,
     bodies: &[Body],
@@ -114,7 +114,7 @@ fn read_order(
     Ok((order, acknowledged, upcoming))
 }
 
-/// Opens a disk as the beginning of a run. It refuses as the opening of a library does, and hands the disk back.
+/// Opens a disk as the beginning of a run. Refuses for the same reasons as opening a library does, and hands the disk back.
 pub(crate) fn open(alloc: Global, disk: MemoryDisk) -> Result<Opened, (LibraryFault, MemoryDisk)>
     ensures answer { IfOk result (λ opened. IsOpenedAt (bytes_of disk.cells) opened) }
     ensures refused { IfErr result (λ e. OpenFaults true (bytes_of disk.cells) 0 0 e.0) }

@@ -44,7 +44,7 @@ pub(crate) fn crash<P: Drop>(
     }
 }
 
-// Whether the map is as the command leaves it.
+// Whether this command is in effect in the map: the map is as the command leaves it.
 fn is_in_effect(library: &UnitMap, command: &LibraryCommand) -> bool
     ensures { IsTrue result ↔ IsInEffect library.now command.now }
 {
@@ -70,7 +70,7 @@ fn drop_undone(order: &mut Sequence<Numbered>, library: &UnitMap)
     }
 }
 
-// The library is opened.
+// Opens the library after a crash.
 pub(crate) fn recover(alloc: Global, core: &mut Core) -> Answer
     requires { IsReady core.old }
     ensures { Answers (Reopens core.old) result core.old core.new }

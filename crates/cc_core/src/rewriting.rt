@@ -1,4 +1,5 @@
-// The device steps of a rewrite, and their failure. All that they write is one commit of the journal, made before the first step.
+// The device steps of a rewrite, and their failure. All that these steps write is one commit of the journal, which is made before
+// the first step.
 
 ghost use Rattle.cc_core.specs.declared.contents.Contents.{Contents};
 ghost use Rattle.cc_core.specs.declared.contents.RewriteDue.TheVariants as left;
@@ -12,8 +13,8 @@ use crate::events::Answer;
 use crate::fault::CoreFault;
 use std::alloc::Global;
 
-// Makes the first write: one Add per name, and the closed gate, to the area that is not in use. They always fit, since they never take more
-// room than the records that represent the map.
+// Makes the first write: one Add per name, and a closed gate after them, to the area that is not in use. They always fit, since
+// they never take more room than the records that represent the map.
 pub(crate) fn rewrite_all(alloc: Global, core: &mut Core) -> Answer
     requires { IsReady core.old }
     ensures { Answers (RewritesAll core.old) result core.old core.new }
@@ -21,7 +22,7 @@ pub(crate) fn rewrite_all(alloc: Global, core: &mut Core) -> Answer
     let Phase::Idle = &core.phase else {
         return Err(CoreFault::NotNow);
     };
-    // What the type keeps about the size of an area.
+    // Gives the proof what the type keeps about the size of an area.
     let _kept = core.store.used();
     let bodies = core.library.bodies(alloc)?;
     let commit = core.store.rewrite(alloc, &bodies)?;
@@ -77,7 +78,7 @@ pub(crate) fn sync_area(core: &mut Core) -> Answer
     Ok(None)
 }
 
-// The device step of a rewrite that is due fails. A write has then reached the disk as a whole, unsettled.
+// The device step that is due in a rewrite fails. If it is a write, all its bytes have reached the disk, unsettled.
 fn fail_rewrite(core: &mut Core) -> Answer
     requires { IsReady core.old }
     ensures { Answers (RewriteFails core.old) result core.old core.new }

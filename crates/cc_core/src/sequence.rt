@@ -21,14 +21,14 @@ impl<T> Model for Sequence<T> {
 }
 
 impl<T> Sequence<T> {
-    /// The items of a `Vec`, in its order. It takes no memory.
+    /// Makes the list of the items of a `Vec`, in the same order. It takes no memory.
     pub fn new(items: Vec<T>) -> Sequence<T>
         ensures { result ≡ items.items }
     {
         Sequence { items }
     }
 
-    /// The `Vec` of the items. It takes no memory.
+    /// The `Vec` with the items. It takes no memory.
     pub fn into_vec(self) -> Vec<T>
         ensures { result.items ≡ self }
     {

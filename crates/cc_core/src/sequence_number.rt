@@ -1,18 +1,18 @@
-// A number that only contracts see, to distinguish commands that ask for the same.
+// A number that only contracts see. It distinguishes commands that ask for the same thing.
 
 ghost use Rattle.std.specs.Prelude.{◌≡◌, ℕ, ◌+◌};
 ghost use Rattle.std.specs.Borrow.{ftrue};
 
 use std::marker::Model;
 
-/// The sequence number of a Begin among those that took a step, counted from 0. Only contracts see it, as `value`, which has no upper
-/// limit. It takes no bytes at run time.
+/// The sequence number of a Begin among those that took a step, counted from 0. Only contracts see it, as `value`, which has no
+/// upper limit. At run time it takes no bytes.
 #[derive(Drop)]
 pub struct SequenceNumber {
     pub ghost value: { ℕ },
 }
 
-// It owns nothing.
+// The struct owns nothing.
 impl Model for SequenceNumber {
     ghost also_owns = { λ _. ftrue };
 }

@@ -1,4 +1,4 @@
-// The machine: a state, the step of an event, and the runs that lead to a state from a beginning.
+// The machine: a state, the step that an event takes, and the runs that lead from a beginning to a state.
 
 ghost use Rattle.std.specs.Prelude.{◌≡◌, ◌≢◌, ◌↔◌, ◌≤◌, ◌^◌, true, ℕ, Option, IfOk, IfErr, OnErr, OnOk, IsErrOf, All, Contains, List};
 ghost use Rattle.std.specs.FinMap.{empty};
@@ -40,7 +40,7 @@ pub struct State<B: Build> {
     contents: Contents<B::Piece>,
 }
 
-// Written by hand, so that crates above call it and need not prove again how each part is dropped.
+// Written by hand, so that crates above can call it and need not prove again how each part is dropped.
 impl<B: Build> Drop for State<B> {
     fn drop(self) {
         let State { build, contents } = self;
@@ -84,13 +84,14 @@ impl<B: Build> State<B> {
         Ok(State::idle(alloc, build, core))
     }
 
-    /// The state before any event, on a disk with a library: of any size, in either area, with units in it. The live map is what the disk's
-    /// bytes recover to. The order has the commands of its records, numbered from 0 on.
+    /// The state before any event, on a disk with a library: of any size, in either area, with units in it. The live map is what
+    /// the disk's bytes recover to. The order has the commands of its records, numbered from 0 on.
     ///
-    /// The caller must know that each unit that is found is right by the build's law. That is so if only this build wrote the disk.
+    /// The caller must know that each unit that is found is right by the build's law. This holds if only this build wrote to the
+    /// disk.
     ///
-    /// Refusals, with the disk handed back as it was: 38 `NotALibrary` if there is no valid header, 37 `Damaged` if there is one and the
-    /// bytes recover to no library, 40 `OutOfMemory`. 35 never comes, since a disk in memory does not fail.
+    /// Refusals, each with the disk handed back as it was: 38 `NotALibrary` if there is no valid header, 37 `Damaged` if there is
+    /// one and the bytes recover to no library, 40 `OutOfMemory`. 35 never comes, since a disk in memory does not fail.
     pub fn open(
         alloc: Global,
         build: B,
@@ -104,7 +105,7 @@ impl<B: Build> State<B> {
         ensures bytes { IfOk result (λ state. bytes_of state.core.store.cells ≡ bytes_of disk.cells) }
         ensures refused { IfErr result (λ e. OpenFaults true (bytes_of disk.cells) 0 0 e.0) }
         ensures no_failure { IfErr result (λ e. e.0 ≢ LibraryFault.DiskFault) }
-        // The disk has the same bytes, and no crash leaves anything new.
+        // After a refusal the disk has the same bytes, and a crash leaves nothing that it could not leave before.
         ensures hands_back { IfErr result (λ e. bytes_of e.1.cells ≡ bytes_of disk.cells) }
         ensures adds_none { IfErr result (λ e. AddsNone (IsImage disk.cells) (IsImage e.1.cells)) }
     {
@@ -147,8 +148,9 @@ impl<B: Build> State<B> {
         }
     }
 
-    /// Takes the step of an event, and answers the reply, if the event gives one: done, or a number. 29 `NotNow` if the event is not
-    /// possible; 40 `OutOfMemory` if memory ran out. After both the state is as before.
+    /// Takes the step of an event. Answers the event's reply, if it gives one: done, or a number that refuses. Fails with 29
+    /// `NotNow` if the event is not possible, and with 40 `OutOfMemory` if memory ran out. After either fault the state is as
+    /// before.
     pub fn step(
         &mut self,
         alloc: Global,
@@ -157,7 +159,7 @@ impl<B: Build> State<B> {
         ensures answer { IfOk result (λ reply. Step B.rules self.old event reply self.new) }
         ensures refused { IsErrOf result CoreFault.NotNow ↔ IsImpossible B.rules self.old event }
         ensures leaves { OnErr result (self.new ≡ self.old) }
-        // A command that goes into the order has a spelling, as the types of names and units keep.
+        // A command that goes into the order has a spelling: the types of names and units keep this.
         ensures puts { OnOk result (PutsCommand self.old.core self.new.core) }
         // A piece that a worker hands in keeps what its type keeps.
         ensures hands { OnOk result (HandsIn B.keeps event) }
@@ -185,8 +187,8 @@ impl<B: Build> State<B> {
         &self.contents.core.library
     }
 
-    /// The commands whose reply was given, each with its sequence number, in the order of the replies. Whatever a crash leaves of the disk
-    /// recovers to a library that has them.
+    /// The commands whose reply was given, each with its sequence number, in the order of the replies. Whatever a crash leaves of
+    /// the disk recovers to a library that includes them.
     pub fn acked(&self) -> &[Numbered]
         ensures acked { result.now ≡ self.now.core.acknowledged }
         ensures in_order { All (Contains self.now.core.order) self.now.core.acknowledged }
@@ -199,14 +201,14 @@ impl<B: Build> State<B> {
     }
 }
 
-/// Takes these events in turn, and skips each that is not possible when its turn comes. The only refusal is 40 `OutOfMemory`; the state is
-/// dropped then.
+/// Takes these events one after the other, and skips each that is not possible when its turn comes. The only refusal is 40
+/// `OutOfMemory`; the state is dropped then.
 pub fn run_events<B: Build>(
     alloc: Global,
     mut state: State<B>,
     events: Vec<Event<B::Piece>>,
 ) -> Result<State<B>, CoreFault>
-    // This is the run: one step for each event that has one; any other event leaves the state as it is.
+    // The events make up a run: each event that has a step takes it, and any other event leaves the state as it is.
     ensures run { IfOk result (λ new. Run B.rules B.keeps state events.items new) }
     // Whatever a crash leaves of the disk recovers to the library of a prefix of the order, which has every acknowledged command and lacks
     // at most the last command.
@@ -217,7 +219,7 @@ pub fn run_events<B: Build>(
     ensures replay { IfOk result (λ new. new.core.library ≡ live new.core.phase new.core.order) }
     // The library accepted each command of the order in its turn.
     ensures accepted { IfOk result (λ new. AreAccepted empty (commands new.core.order)) }
-    // Every acknowledged command is in the order, by its sequence number.
+    // Every acknowledged command is in the order, with its sequence number.
     ensures acked { IfOk result (λ new. All (Contains new.core.order) new.core.acknowledged) }
     ensures rising { IfOk result (λ new. AreRising new.core.order) }
     ensures rising_acked { IfOk result (λ new. AreRising new.core.acknowledged) }

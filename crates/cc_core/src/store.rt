@@ -1,4 +1,4 @@
-// The core's disk: a journal in one of its two areas, written one device step at a time, by the journal's own commits.
+// The core's disk: a journal in one of the disk's two areas, written one device step at a time, with the journal's own commits.
 
 ghost use Rattle.std.specs.Prelude.{◌≡◌, ◌↔◌, ◌+◌, ◌^◌, ◌≤◌, [], List, ℕ, IsTrue, length, IfOk, IfErr, OnOk, OnErr};
 ghost use Rattle.cc_disk.specs.Model.{bytes_of, IsImage};
@@ -21,8 +21,8 @@ use std::marker::Model;
 /// The bytes before the first area.
 const HEADER: usize = 16;
 
-/// A journal on a disk in memory. Contracts see the cells, the area byte, the size of an area in bytes, and the number of bytes that
-/// records take in the area that the byte names.
+/// A journal on a disk in memory. Contracts see the cells, the area byte, the size of an area in bytes, and the number of bytes
+/// that the records take in the area that this byte names.
 #[derive(Drop)]
 pub struct Store {
     disk: MemoryDisk,
@@ -44,7 +44,7 @@ impl Model for Store {
 }
 
 impl Store {
-    /// A formatted disk of `16 + 2 * area` bytes without a record. Err: memory ran out.
+    /// A formatted disk of `16 + 2 * area` bytes, without records. Fails if memory ran out.
     pub(crate) fn new(alloc: Global, area: u32) -> Result<Store, AllocError>
         requires least { 64 ≤ area }
         requires most { area ≤ 2 ^ 30 }
@@ -62,7 +62,7 @@ impl Store {
         })
     }
 
-    /// The journal of a disk with records, which take this many bytes of their area. From here on the whole disk is settled.
+    /// The journal on a disk that holds records, which take `used` bytes of their area. From here on the whole disk is settled.
     pub(crate) fn of_disk(mut disk: MemoryDisk, used: usize) -> Store
         requires { (area : ℕ) × (bodies : List (List ℕ)) × HoldsRecords (bytes_of disk.cells) area bodies × (used ≡ length (records bodies)) }
         ensures bytes { bytes_of result.cells ≡ bytes_of disk.cells }
@@ -82,7 +82,7 @@ impl Store {
         }
     }
 
-    /// Whether a record with a body of this many bytes fits the area.
+    /// Whether a record with a body of `count` bytes fits in the area.
     pub(crate) fn fits(&self, count: usize) -> bool
         ensures { IsTrue result ↔ (self.now.used + (count + 6) ≤ self.now.area) }
     {
@@ -103,18 +103,18 @@ impl Store {
         begin + self.used
     }
 
-    /// The commit that puts a record with this body after the last one. Err: memory ran out.
+    /// The commit that puts a record with this body after the last one. Fails if memory ran out.
     pub(crate) fn append(&self, alloc: Global, body: &[u8]) -> Result<Commit, AllocError>
         requires { room_taken self.now body.now ≤ self.now.area }
         ensures commit { IfOk result (λ commit. commit ≡ append_commit (gate_of self.now) body.now) }
         ensures within { IfOk result (λ commit. IsWithin commit self.now) }
     {
-        // What the type keeps about the size of the disk.
+        // Gives the proof what the type keeps about the size of the disk.
         let _ = &self.disk;
         Commit::append(alloc, self.gate(), body)
     }
 
-    /// The commit that writes records with these bodies to the area that is not in use. Err: memory ran out.
+    /// The commit that writes records with these bodies to the area that is not in use. Fails if memory ran out.
     pub(crate) fn rewrite(&self, alloc: Global, bodies: &[Body]) -> Result<Commit, AllocError>
         requires { room_of bodies.now ≤ self.now.area }
         ensures commit { IfOk result (λ commit. commit ≡ rewrite_commit self.now.area_byte self.now.area bodies.now) }
@@ -173,7 +173,8 @@ impl Store {
         self.used
     }
 
-    /// A crash that leaves the bytes of the choice at the unsettled offsets. If memory runs out, the disk stays as it was.
+    /// Makes the disk crash: each unsettled offset gets the byte that `choice` has for it, or 0 if `choice` is shorter. If memory
+    /// runs out, the disk stays as it was.
     pub(crate) fn crash(&mut self, alloc: Global, choice: &[u8]) -> Result<(), AllocError>
         ensures ok { OnOk result (self.new ≡ crashed_store choice.now self.old) }
         ensures err { OnErr result (self.new ≡ self.old) }

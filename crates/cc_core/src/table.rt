@@ -37,14 +37,14 @@ impl<V: Drop> Table<V> {
         }
     }
 
-    /// The value of this number, if there is one. It takes no memory.
+    /// The value under this number, if there is one. It takes no memory.
     pub(crate) fn get(&self, number: u64) -> Option<&V>
         ensures { option_copied result ≡ map.get self.now number }
     {
         self.values.get(&number)
     }
 
-    /// Sets the value of this number. If memory runs out, the table stays as it was.
+    /// Sets the value under this number. If memory runs out, the table stays as it was.
     pub(crate) fn put(&mut self, number: u64, value: V) -> Result<(), AllocError>
         ensures ok { OnOk result (self.new ≡ map.insert self.old number value) }
         ensures err { OnErr result (self.new ≡ self.old) }
@@ -53,7 +53,7 @@ impl<V: Drop> Table<V> {
         Ok(())
     }
 
-    /// Removes the value of this number, if there is one.
+    /// Removes the value under this number, if there is one.
     pub(crate) fn remove(&mut self, number: u64)
         ensures { self.new ≡ map.remove self.old number }
     {

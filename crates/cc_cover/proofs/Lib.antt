@@ -1,2 +1,2 @@
--- A stop between what was seen.
+-- The line of a stop, between what was seen before and after it.
 pub mod Stopping

@@ -17,7 +17,7 @@ has_stop (Ok done) stop a b c d xs ys one two three =
     record { before = xs; after = ys; written = Appends-trans a c d (xs ++ stop_text stop) ys (Appends-trans a b c xs (stop_text stop) one two) three }
 has_stop (Err e) stop a b c d xs ys one two three = tt
 
--- the run of an outcome whose stop was written so, and flushed
+-- a run is traced if the stop of its outcome was written this way, and flushed
 pub traced : {T E : Type 0} (written : Result T E) (steps : ℕ) (words text : List ℕ) (outcome : Outcome) (a b c : Option (List ℕ))
     → IsRan steps words text (Ran outcome) → OnOk written (HasStop outcome.stop a b) → IsOkAnd written (λ _. Keeps b c) → IsTraced steps words text a c
 traced (Ok done) steps words text outcome a b c ran had keeps =

@@ -1,4 +1,4 @@
--- What `trace` prints of a run.
+-- What `trace` prints about a run.
 pub mod Traced
--- What only private contracts speak of.
+-- What only private contracts use.
 pub mod internal

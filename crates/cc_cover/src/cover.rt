@@ -14,7 +14,7 @@ use cc_trace::{Counts, Program, Replay, Traced, Watch, traced_unit, words_of};
 use std::alloc::{AllocError, Global};
 use std::io::{self, Write};
 
-/// How often a line was reached; nothing if it has nothing that is done.
+/// How often a line was reached; none if the line has nothing to execute.
 type Reached = Option<u64>;
 
 // Keeps the higher count of a line.
@@ -27,7 +27,7 @@ fn reach(counts: &mut Vec<Reached>, line: usize, count: u64) {
     }
 }
 
-// How often each line was reached, by what was watched.
+// How often each line was reached, counted from what was watched.
 fn counts_of(
     alloc: Global,
     program: Program<'_>,
@@ -57,7 +57,7 @@ fn counts_of(
     Ok(counts)
 }
 
-// Writes a line of a text; a byte by which a terminal could be steered is shown as `?`.
+// Writes a line of a text; a byte that could control a terminal is shown as `?`.
 fn write_line<W: Write>(line: &[u8], writer: &mut W) -> io::Result<()> {
     for byte in line {
         let shown = if (*byte < 32 && *byte != b'\t') || *byte == 127 {
@@ -70,7 +70,8 @@ fn write_line<W: Write>(line: &[u8], writer: &mut W) -> io::Result<()> {
     writer.write_all(b"\n")
 }
 
-// Writes the lines of a text with their counts, from the line with a number in the whole on; how many there are.
+// Writes the lines of a text with their counts. `first` is the number of its first line in the whole program. The result is how
+// many lines there are.
 fn write_text<W: Write>(
     text: &[u8],
     first: usize,
@@ -137,23 +138,12 @@ impl Ends {
 enum NotCounted {
     /// The text has no run.
     Refused(Fault),
-    /// A run is not the one that the interpreter answers.
+    /// A run differs from the one that the interpreter answers.
     Other,
     OutOfMemory,
 }
 
-impl From<AllocError> for NotCounted {
-    ghost use Rattle.std.specs.Prelude.{◌≡◌};
-    ghost use Rattle.cc_cover.specs.declared.cover.NotCounted.TheVariants.{OutOfMemory};
-
-    ghost from_gives = { λ _ fault. fault ≡ OutOfMemory };
-
-    fn from(_error: AllocError) -> Self {
-        NotCounted::OutOfMemory
-    }
-}
-
-// Counts a run that the interpreter answers to come out so.
+// Counts a run that ends with this outcome, according to the interpreter's answer.
 fn count_outcome(
     alloc: Global,
     unit: &Unit,
@@ -193,7 +183,7 @@ fn count_outcome(
     }
 }
 
-// Counts one run more; how it stops.
+// Counts one more run. The result is how it stops.
 fn count_run(
     alloc: Global,
     unit: &Unit,
@@ -232,7 +222,13 @@ fn count_runs<S: Write>(
     seen: &mut S,
 ) -> Result<(Counts, Ends), NotCounted> {
     let program = traced.program();
-    let mut counts = Counts::new(alloc, program.code.len(), program.functions.len())?;
+    let mut counts = match Counts::new(alloc, program.code.len(), program.functions.len()) {
+        Ok(counts) => counts,
+        Err(_) => {
+            drop(inputs);
+            return Err(NotCounted::OutOfMemory);
+        }
+    };
     let mut ends = Ends {
         ended: 0,
         going: 0,
@@ -251,7 +247,7 @@ fn count_runs<S: Write>(
     Ok((counts, ends))
 }
 
-// Writes how runs ended: one as `interpret` does.
+// Writes how the runs ended; a single run's end is written as `interpret` writes it.
 fn write_ends<W: Write>(ends: Ends, is_one: bool, writer: &mut W) -> io::Result<()> {
     match ends.last {
         Some(stop) if is_one => write_stop(stop, writer),
@@ -280,7 +276,7 @@ fn write_counts<W: Write>(
     write_ends(ends, is_one, writer)
 }
 
-// Counts runs of a unit and writes that.
+// Counts runs of a unit and writes the counts.
 fn cover_unit<S: Write, W: Write>(
     alloc: Global,
     unit: &Unit,
@@ -292,15 +288,22 @@ fn cover_unit<S: Write, W: Write>(
     seen: &mut S,
     writer: &mut W,
 ) -> Result<io::Result<()>, NotCounted> {
-    let Some(traced) = traced_unit(alloc, unit)? else {
-        drop(inputs);
-        return Err(NotCounted::Other);
+    let traced = match traced_unit(alloc, unit) {
+        Ok(Some(traced)) => traced,
+        Ok(None) => {
+            drop(inputs);
+            return Err(NotCounted::Other);
+        }
+        Err(_) => {
+            drop(inputs);
+            return Err(NotCounted::OutOfMemory);
+        }
     };
     let (counts, ends) = count_runs(alloc, unit, &traced, text, steps, inputs, seen)?;
     Ok(write_counts(alloc, &traced, text, texts, &counts, ends, is_one, writer))
 }
 
-// The same of a text.
+// Counts runs of the program in a text and writes the counts.
 fn cover_text<S: Write, W: Write>(
     alloc: Global,
     text: &[u8],
@@ -331,7 +334,7 @@ fn cover_text<S: Write, W: Write>(
     }
 }
 
-// The status of what was covered.
+// Writes the fault if the lines could not be counted, and returns the program's status.
 fn status<W: Write, E: Write + Drop>(
     alloc: Global,
     text: &[u8],
@@ -360,10 +363,10 @@ fn status<W: Write, E: Write + Drop>(
     }
 }
 
-/// Runs the program that texts make on each of these inputs, by the interpreter, for at most so many steps each, and writes each line with how
-/// often it was reached in all: the most often of what is on it. A line with something that is done, and never was, has `never`; the others
-/// have nothing. Then how the runs ended. `seen` gets a newline for each run, so that it may count them. Refusals are those of `interpret`. The
-/// status is 0, or 1 for a fault.
+/// Runs the program that the texts make on each of these inputs, with the interpreter, for at most this many steps each, and
+/// writes each line with how often it was reached in all runs: the highest count on it. A line that could be reached but never
+/// was has `never`; a line with nothing to execute has nothing. Then it writes how the runs ended. `seen` gets a newline for
+/// each run, so that it can count them. Refusals are those of `interpret`. The status is 0, or 1 for a fault.
 pub fn perform_cover<H: AllocGlobal, S: Write, W: Write, E: Write + Drop>(
     rt: &H,
     steps: u64,

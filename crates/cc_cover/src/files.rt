@@ -11,10 +11,10 @@ use std::fs::File;
 use std::io::{self, Input, Read, Write};
 use std::rt::Files;
 
-/// The most bytes of a file of inputs.
+/// A file of inputs has at most this many bytes.
 const MOST_BYTES: usize = 16_777_216;
 
-/// One byte more: no more are read.
+/// At most this many bytes are read: one more than a file of inputs may have.
 const MOST_READ: usize = MOST_BYTES + 1;
 
 // Why there are no inputs.
@@ -22,24 +22,13 @@ const MOST_READ: usize = MOST_BYTES + 1;
 enum NoInputs {
     // The file could not be opened or read.
     Unread(io::Error),
-    // It is standard input, and so is the program.
+    // The inputs should come from standard input, but the program does already.
     Taken,
-    // It has too many bytes.
+    // The file has too many bytes.
     TooLong,
-    // The line with this number is no input.
+    // The line with this number is not an input.
     Bad(usize),
     OutOfMemory,
-}
-
-impl From<AllocError> for NoInputs {
-    ghost use Rattle.std.specs.Prelude.{◌≡◌};
-    ghost use Rattle.cc_cover.specs.declared.files.NoInputs.TheVariants.{OutOfMemory};
-
-    ghost from_gives = { λ _ fault. fault ≡ OutOfMemory };
-
-    fn from(_error: AllocError) -> Self {
-        NoInputs::OutOfMemory
-    }
 }
 
 // The bytes of a reader, up to one more than a file of inputs may have.
@@ -55,12 +44,14 @@ fn read_lines<R: Read>(alloc: Global, reader: &mut R) -> Result<Vec<u8>, NoInput
         if count == 0 {
             break;
         }
-        text.extend_from_slice(&piece[..count])?;
+        if text.extend_from_slice(&piece[..count]).is_err() {
+            return Err(NoInputs::OutOfMemory);
+        }
     }
     Ok(text)
 }
 
-// The bytes of the file of a name, or of standard input.
+// The bytes of the file with this name, or of standard input.
 fn read_named<R: Input, F: Files>(
     rt: &R,
     files: &F,
@@ -76,12 +67,12 @@ fn read_named<R: Input, F: Files>(
     }
 }
 
-// Whether the program of these names comes on standard input.
+// Whether the program with these file names comes on standard input.
 fn is_on_input(names: &[String]) -> bool {
     names.is_empty() || names.iter().any(|name| name.as_str() == INPUT)
 }
 
-// The inputs that the file of a name has, one a line, for the program in files of these names.
+// The inputs in the file with this name, one on each line, for the program in the files with these names.
 fn inputs_in<R: Input, F: Files>(
     rt: &R,
     files: &F,
@@ -106,7 +97,7 @@ fn inputs_in<R: Input, F: Files>(
     }
 }
 
-// Writes for a person why there are no inputs.
+// Explains to a person why there are no inputs.
 fn tell_no_inputs<E: Write>(name: &str, why: &NoInputs, told: &mut E) -> io::Result<()> {
     match why {
         NoInputs::Unread(why) => return tell_unread(name, why, told),
@@ -131,7 +122,7 @@ fn tell_no_inputs<E: Write>(name: &str, why: &NoInputs, told: &mut E) -> io::Res
     told.flush()
 }
 
-// The number of the fault for that.
+// The number of the fault for this reason.
 fn number_of(why: &NoInputs) -> u32 {
     match why {
         NoInputs::Unread(_) | NoInputs::Taken => 53,
@@ -141,7 +132,7 @@ fn number_of(why: &NoInputs) -> u32 {
     }
 }
 
-// Writes the line of the fault, and explains it.
+// Writes the fault line, and explains it.
 fn refuse_inputs<W: Write, E: Write>(name: &str, why: &NoInputs, writer: &mut W, told: &mut E) {
     let written = write_fault_line(number_of(why), Stands::Nowhere, b"", writer);
     if written.is_ok() && writer.flush().is_ok() {
@@ -149,7 +140,7 @@ fn refuse_inputs<W: Write, E: Write>(name: &str, why: &NoInputs, writer: &mut W,
     }
 }
 
-// The names, or that of standard input if nothing is named.
+// The names, or the name of standard input if nothing is named.
 fn named(alloc: Global, names: &[String]) -> Result<Vec<String>, AllocError> {
     let mut all = Vec::new(alloc);
     for name in names {
@@ -161,7 +152,7 @@ fn named(alloc: Global, names: &[String]) -> Result<Vec<String>, AllocError> {
     Ok(all)
 }
 
-// The program's texts; nothing if one could not be read, which is then written and explained.
+// The program's texts; none if one could not be read. The fault is then written and explained.
 fn texts_of<R: AllocGlobal + Input, F: Files, W: Write, E: Write>(
     rt: &R,
     files: &F,
@@ -173,7 +164,8 @@ fn texts_of<R: AllocGlobal + Input, F: Files, W: Write, E: Write>(
     read_or_refuse(rt, files, names.as_slice(), writer, told)
 }
 
-/// Runs the program in these files, or on standard input, as `perform_trace` does; the status. The error is lack of memory before it began.
+/// Runs the program in these files, or on standard input, as `perform_trace` does. The result is the status. The only error is
+/// that memory ran out before the run began.
 pub fn trace_files<R: AllocGlobal + Input, F: Files, W: Write, E: Write + Drop>(
     rt: &R,
     files: &F,
@@ -228,8 +220,8 @@ fn cover_inputs<R: AllocGlobal + Input, F: Files, S: Write, W: Write, E: Write +
     }
 }
 
-/// Runs the program in these files, or on standard input, on input words, as `perform_cover` does; the status. The error is lack of memory before
-/// it began.
+/// Runs the program in these files, or on standard input, on input words, as `perform_cover` does. The result is the status.
+/// The only error is that memory ran out before the run began.
 pub fn cover_files<R: AllocGlobal + Input, F: Files, W: Write, E: Write + Drop>(
     rt: &R,
     files: &F,
@@ -245,8 +237,8 @@ pub fn cover_files<R: AllocGlobal + Input, F: Files, W: Write, E: Write + Drop>(
     cover_inputs(rt, files, names, steps, inputs, true, seen, writer, told)
 }
 
-/// The same on the words of each line of a file; `seen` gets a newline for each. What is no list of words there is 50, a file that can't be read
-/// 53, one of more than 16,777,216 bytes 52.
+/// Runs it as `cover_files` does, once for the words of each line of a file; `seen` gets a newline for each. The fault is 50 if
+/// a line of the file is not a list of words, 53 if the file can't be read, and 52 if it has more than 16,777,216 bytes.
 pub fn cover_lines<R: AllocGlobal + Input, F: Files, S: Write, W: Write, E: Write + Drop>(
     rt: &R,
     files: &F,

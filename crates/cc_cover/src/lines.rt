@@ -2,7 +2,7 @@
 
 use std::alloc::{AllocError, Global};
 
-/// In which line each byte of a text lies, from 0, and its end.
+/// For each byte of a text, and for the end of the text, the number of its line, counted from 0.
 pub fn lines_of(alloc: Global, text: &[u8]) -> Result<Vec<u32>, AllocError> {
     let mut lines = Vec::with_capacity(alloc, text.len().saturating_add(1))?;
     let mut line = 0u32;

@@ -3,7 +3,7 @@
 use cc_sources::{NamedText, place_in, write_name};
 use std::io::{self, Write};
 
-/// Writes the place of a byte of the whole that texts make, for example `B.c:4:2`.
+/// Writes the place of a byte in the whole that the texts make, for example `B.c:4:2`.
 pub fn write_place<W: Write>(texts: &[NamedText], at: usize, writer: &mut W) -> io::Result<()> {
     let Some(found) = place_in(texts, at) else {
         return writer.write_all(b"?");
@@ -14,7 +14,7 @@ pub fn write_place<W: Write>(texts: &[NamedText], at: usize, writer: &mut W) -> 
     write!(writer, ":{}:{}", found.place.line, found.place.column)
 }
 
-/// Writes a word as a signed number, and one that is negative as an unsigned one too.
+/// Writes a word as a signed number, and a negative one also as an unsigned one.
 pub fn write_word<W: Write>(word: u32, writer: &mut W) -> io::Result<()> {
     let signed = word.cast_signed();
     if signed < 0 {

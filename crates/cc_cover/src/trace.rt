@@ -1,4 +1,4 @@
-// The command `trace`: the newest things that a run does.
+// The command `trace`: the last things that a run does.
 
 ghost use Rattle.std.specs.Prelude.{◌≡◌, ◌≤◌, IsOkAnd, OnOk};
 ghost use Rattle.std.specs.Io.KnownBytes.{Keeps};
@@ -21,7 +21,7 @@ use cc_trace::{Event, OpenCall, Replay, Watch, traced_unit, words_of};
 use std::alloc::Global;
 use std::io::{self, Write};
 
-/// What a person reads if the run is not the one of the answer.
+/// What a person is shown if the run that was watched is not the answer's run.
 pub(crate) const OTHER: &str =
     "cclib: the run that was watched is not the one of the answer: it is left out";
 
@@ -73,7 +73,7 @@ fn write_open<W: Write>(texts: &[NamedText], call: OpenCall<'_>, writer: &mut W)
     writer.write_all(b"\n")
 }
 
-// Writes the calls that are open, the innermost first, up to so many.
+// Writes the calls that are open, the innermost first, up to this many.
 fn write_open_calls<W: Write>(
     texts: &[NamedText],
     replay: &Replay<'_>,
@@ -120,7 +120,8 @@ struct Run<'a> {
     last: usize,
 }
 
-// What is seen of a run, before and after the line of how it stops; nothing if it is not the run that the interpreter answers.
+// What is shown of a run, before and after the line that says how it stops; nothing if it is not the run that the interpreter
+// answers.
 #[derive(Drop)]
 struct Seen {
     before: Vec<u8>,
@@ -221,7 +222,7 @@ fn write_run<W: Write, E: Write + Drop>(
     written
 }
 
-/// Writes the line of a fault of the whole that texts make, and explains it; the status.
+/// Writes the fault line for the whole that the texts make, and explains it. The result is the status.
 pub(crate) fn refuse<W: Write, E: Write + Drop>(
     alloc: Global,
     fault: &Fault,
@@ -240,7 +241,7 @@ pub(crate) fn refuse<W: Write, E: Write + Drop>(
     1
 }
 
-/// Writes for a person what explains an answer.
+/// Writes the explanation of an answer, for a person.
 pub(crate) fn tell<E: Write + Drop>(
     alloc: Global,
     text: &[u8],
@@ -253,7 +254,7 @@ pub(crate) fn tell<E: Write + Drop>(
     let _ = told.flush();
 }
 
-/// The status of what was written, and a line if memory for it ran out.
+/// The status for what was written. Writes a fault line if memory ran out.
 pub(crate) fn status_of<W: Write>(written: io::Result<()>, writer: &mut W) -> u8
     ensures bound { result ≤ 1 }
     ensures kept { result ≡ 0 → IsOkAnd written (λ _. Keeps (W.contents writer.old) (W.contents writer.new)) }
@@ -273,7 +274,7 @@ pub(crate) fn status_of<W: Write>(written: io::Result<()>, writer: &mut W) -> u8
     }
 }
 
-// Writes what an answer's run did, and explains it; the status.
+// Writes what an answer's run did, and explains it. The result is the status.
 #[tactic(auto, using(crate::proofs::Stopping::traced))]
 fn answered<W: Write, E: Write + Drop>(
     alloc: Global,
@@ -303,7 +304,7 @@ fn answered<W: Write, E: Write + Drop>(
     status
 }
 
-// The same, over the text that texts make.
+// Answers a task for the whole that the texts make, writes what the run did, and returns the status.
 fn perform<W: Write, E: Write + Drop>(
     alloc: Global,
     task: &Task,
@@ -330,9 +331,9 @@ fn perform<W: Write, E: Write + Drop>(
     }
 }
 
-/// Runs the program that texts make on input words, by the interpreter, for at most so many steps, and writes the last things that it did: calls,
-/// turns of loops, values that names get, words that are read and written; then how it ended, and the calls that were open. Refusals are those of
-/// `interpret`. The status is 0, or 1 for a fault.
+/// Runs the program that the texts make on input words, with the interpreter, for at most this many steps, and writes the last
+/// things that it did: calls, turns of loops, values that names get, words that are read and written; then how it ended, and
+/// the calls that were open. Refusals are those of `interpret`. The status is 0, or 1 for a fault.
 pub fn perform_trace<H: AllocGlobal, W: Write, E: Write + Drop>(
     rt: &H,
     steps: u64,

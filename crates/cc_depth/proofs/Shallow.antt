@@ -1,4 +1,4 @@
--- Runs that do not go wrong for depth.
+-- Runs that do not go wrong because of depth.
 use Rattle.std.proofs.Common.{◌≡◌, ◌≢◌, ℕ, zero, suc, ◌+◌, ◌<◌, ◌≤◌, List, [], ◌∷◌, ◌++◌, Bool, true, false, if◌then◌else◌, length, nat_lt, Option, Some, None, is_some, inl, inr, refl, sym, ap, ◌∙◌, subst, arith}
 use Rattle.std.proofs.lemmas.Bool.Decides.{leb_tells}
 use Rattle.std.specs.Prelude.{codes, slice_get, unwrap_or, map}
@@ -15,10 +15,10 @@ use Rattle.cc_types.specs.Operators.{working_type, unary_word, binary_word, deci
 use Rattle.cc_types.specs.Scope as scope
 use Rattle.cc_types.specs.Scope.{Binding, Visible, in_scope, opened, declared, scope_behind, scope_behind_beginning}
 use Rattle.cc_types.specs.Types.{value_type, target_type}
-use Rattle.cc_c_laws.specs.Outcome as outcome
-use Rattle.cc_c_laws.specs.Meaning.{Local, Global, State, Run, Gives, Going, Wrong, Flow, Falls, Breaks, Continues, Returns, then_do, choose, Calls, global_words, with_element, variable_word, stored, read_element, write_element, cause_of, given, unless_decided, evaluate, evaluate_all, evaluate_or, Destination, ToVariable, ToElement, destination, old_value, write, new_value, perform, perform_optional, spend_of, spend, behind_flow, behind_body, begin_body, turns, with_local, declare, start, left_scope, in_block, return, execute, execute_all, Function, functions, function_named, bound, result_of, run_body, run_optional, read_input, most_open, calls, initial_globals, outcome_of, source_behavior}
-use Rattle.cc_c_laws.specs.declared.cause.Cause.{Cause}
-use Rattle.cc_c_laws.specs.declared.cause.Cause.TheVariants.{Division, Shift, Index, Depth}
+use Rattle.cc_c_semantics.specs.Outcome as outcome
+use Rattle.cc_c_semantics.specs.Meaning.{Local, Global, State, Run, Gives, Going, Wrong, Flow, Falls, Breaks, Continues, Returns, then_do, choose, Calls, global_words, with_element, variable_word, stored, read_element, write_element, cause_of, given, unless_decided, evaluate, evaluate_all, evaluate_or, Destination, ToVariable, ToElement, destination, old_value, write, new_value, perform, perform_optional, spend_of, spend, behind_flow, behind_body, begin_body, turns, with_local, declare, start, left_scope, in_block, return, execute, execute_all, Function, functions, function_named, bound, result_of, run_body, run_optional, read_input, most_open, calls, initial_globals, outcome_of, source_behavior}
+use Rattle.cc_c_semantics.specs.declared.cause.Cause.{Cause}
+use Rattle.cc_c_semantics.specs.declared.cause.Cause.TheVariants.{Division, Shift, Index, Depth}
 use Rattle.cc_depth.specs.Cycles.{InExpression, InExpressions, InOptional, InTarget, InAction, InOptionalAction, InDeclarators, InBeginning, InStatement, InStatements, CallsLower, HasNoCycle}
 use Rattle.cc_depth.specs.Laws.{AcyclicProgramsAreNeverDeep}
 
@@ -248,7 +248,7 @@ module _ (call : Calls) (Is : List ℕ → Type 0) (each : (f : List ℕ) → Is
 -- ---- calls
 
 module _ (rank : List ℕ → ℕ) where
-  -- the function with a name calls only functions of lower rank than that name
+  -- the function with this name, if there is one, calls only functions of lower rank than the name has
   abbrev Lower : List ℕ → Option Function → Type 0
   Lower x None = Unit {0}
   Lower x (Some f) = InStatements (λ g. rank g < rank x) f.body

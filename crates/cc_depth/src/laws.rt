@@ -1,4 +1,4 @@
-// What holds of programs whose calls have no cycle.
+// What holds for programs whose calls have no cycle.
 
 ghost use Rattle.cc_depth.specs.Laws.{AcyclicProgramsAreNeverDeep};
 

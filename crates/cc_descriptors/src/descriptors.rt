@@ -1,4 +1,4 @@
-// What the crate needs of a system for the descriptors 0 to 2.
+// What the crate needs from a system for the descriptors 0 to 2.
 
 ghost use Rattle.std.specs.Prelude.{◌≡◌, Option, Some, IfSome, OnOk, OnErr};
 ghost use Rattle.cc_descriptors.specs.Uses.{is_used, opened, use_of};

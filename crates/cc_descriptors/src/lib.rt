@@ -5,7 +5,7 @@
 //! this, a program takes the free ones before it opens anything: a stand-in that cannot be read for standard input, and one that
 //! cannot be written for each of the other two.
 //!
-//! - `descriptors`: what is needed of a system.
+//! - `descriptors`: what is needed from a system.
 //! - `taking`: takes the free descriptors.
 //! - `system`: the real system.
 //! - `known`: a system whose descriptors contracts can see.

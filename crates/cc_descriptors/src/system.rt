@@ -16,7 +16,7 @@ pub struct System {
     pub rt: HostRuntime,
 }
 
-// Whether a descriptor is in use. To copy one that is in use may fail for lack of resources, but not with that number.
+// Whether a descriptor is in use. Copying one that is in use may fail for lack of resources, but not with that number.
 fn is_used<F: AsFd>(file: &F) -> bool {
     match file.as_fd().try_clone_to_owned() {
         Ok(_) => true,

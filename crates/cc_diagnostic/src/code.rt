@@ -1,4 +1,4 @@
-// What a tree becomes in order to be run once more: instructions over a stack of words; those that can go wrong have their
+// What a tree becomes so that it can be run once more: instructions over a stack of words. Those that can go wrong have their
 // places.
 
 use cc_resolve::{Extent, UnaryOperation};
@@ -31,9 +31,9 @@ pub enum Instruction<'a> {
     Local(usize),
     /// Pushes a word of the objects at file scope.
     Global(usize),
-    /// Replaces an index by the array's element.
+    /// Replaces an index with the array's element.
     Element(Element<'a>),
-    /// Puts the array's element below the newest word. Its index, the word below that, stays.
+    /// Puts the array's element below the newest word. The element's index, which is the word below that, stays there.
     ElementBelow(Element<'a>),
     /// Swaps the two newest words.
     Swap,
@@ -44,15 +44,15 @@ pub enum Instruction<'a> {
     /// Takes a word and the index below it, and stores the word in the array's element.
     SetElement(Element<'a>),
     Unary(UnaryOperation),
-    /// Replaces two words, the left one below the right one, by the operator's value.
+    /// Replaces two words, the left one below the right one, with the operator's value.
     Binary(TypedOperator),
     /// Removes a word.
     Drop,
-    /// Replaces a word other than 0 by 1, and keeps 0.
+    /// Replaces a word other than 0 with 1, and keeps 0.
     Truth,
     /// If the word is 0, keeps it and jumps; otherwise removes it.
     AndThen(usize),
-    /// If the word is not 0, replaces it by 1 and jumps; otherwise removes it.
+    /// If the word is not 0, replaces it with 1 and jumps; otherwise removes it.
     OrElse(usize),
     Jump(usize),
     /// Takes a word, and jumps if it is 0.
@@ -63,13 +63,13 @@ pub enum Instruction<'a> {
     Call(usize, &'a Identifier),
     /// Pushes the next word of the input, or 0 if none is left.
     Read,
-    /// Replaces the word that is written by 0.
+    /// Writes a word to the output, and replaces it with 0.
     Write,
     /// Returns from the function with a word.
     Return,
 }
 
-/// A function: its name, and, once it is defined, the number of its first instruction, how many parameters it has and how many
+/// A function: its name and, once it is defined, the number of its first instruction, how many parameters it has, and how many
 /// other variables.
 #[derive(Clone, Copy)]
 pub struct Function<'a> {

@@ -10,7 +10,7 @@ fn always_holds(test: &Expression) -> bool {
     }
 }
 
-// Whether one of some statements leaves the loop around it by `break`.
+// Whether any of these statements leaves the loop around it by `break`.
 #[cycle(breaks)]
 fn one_breaks(trees: &[Statement]) -> bool {
     for tree in trees {
@@ -33,7 +33,7 @@ fn breaks(tree: &Statement) -> bool {
     }
 }
 
-/// Whether the end of a list of statements is never reached: it returns before, or loops for ever.
+/// Whether the end of a list of statements is never reached: the list returns before its end, or loops for ever.
 #[cycle(ends)]
 pub fn never_left(trees: &[Statement]) -> bool {
     match trees.last() {

@@ -1,8 +1,8 @@
 // The errors of scope and type after the first.
 //
-// `check` reports one error. The next one is found in a copy of the text in which the previous one is mended, so that no rule is
-// implemented twice; the report is about the text itself. A name that was reported as undeclared, or as declared twice, is not
-// reported again, and neither is an error that only a mend has caused. Each turn checks the copy once and walks over the text,
+// `check` reports one error. The next one is found in a copy of the text in which the previous one is mended, so that no rule
+// is implemented twice; the report is about the text itself. A name that was reported as undeclared, or as declared twice, is
+// not reported again; nor is an error that only a mend has caused. Each turn checks the copy once and walks over the text once,
 // and there are at most 20 turns.
 
 use super::declarations::{Declaration, declarations, first_of, named_at};
@@ -16,7 +16,7 @@ use cc_typing::check;
 use std::alloc::{AllocError, Global};
 use std::mem::replace;
 
-/// The most errors that are reported, the first one included.
+/// At most this many errors are reported, the first one included.
 const MOST_TOLD: usize = 20;
 
 /// A fault of the copy, and its offset in the text.
@@ -26,9 +26,9 @@ struct Found {
     at: usize,
 }
 
-/// A search for errors: the text with its tree, its declarations at file scope, and its copy; the names that it declares twice;
-/// the number and the offset of the fault that was mended last, and the offset of the last one that was reported; whether 19 or
-/// 20 was found, which come after all others; and the reports.
+/// A search for errors: the text with its tree, its declarations at file scope, and its copy; the names that the text declares
+/// twice; the number and the offset of the fault that was mended last, and the offset of the last one that was reported;
+/// whether 19 or 20 was found, which come after all others; and the reports.
 #[derive(Drop)]
 struct Search<'a> {
     unit: &'a Unit,
@@ -42,7 +42,7 @@ struct Search<'a> {
     told: Vec<Diagnostic>,
 }
 
-// Whether this is a use of a name.
+// Whether a name is used here, and not declared.
 fn is_use(done: Use) -> bool {
     match done {
         Use::Read | Use::Indexed | Use::Written | Use::Called(_) => true,
@@ -50,7 +50,7 @@ fn is_use(done: Use) -> bool {
     }
 }
 
-// The fault of a unit, or `None` if it breaks no rule and passes no limit.
+// The fault of a unit; `None` if the unit breaks no rule, and also if it exceeds a limit.
 fn fault_of(alloc: Global, unit: Unit) -> Result<Option<TypeFault>, AllocError> {
     match check(alloc, unit) {
         Ok(typed) => {
@@ -63,7 +63,7 @@ fn fault_of(alloc: Global, unit: Unit) -> Result<Option<TypeFault>, AllocError> 
     }
 }
 
-// The fault of a text that has a tree, and its offset less this many bytes.
+// The fault of a text that has a tree, with its offset less `shift` bytes.
 fn found_in(alloc: Global, text: &[u8], shift: usize) -> Result<Option<Found>, AllocError> {
     match parse(alloc, text) {
         Ok(unit) => match fault_of(alloc, unit)? {
@@ -106,7 +106,7 @@ impl<'a> Search<'a> {
         false
     }
 
-    // Whether a fault of the copy is one of the text, and has not been reported.
+    // Whether a fault of the copy is also one of the text, and has not been reported.
     fn is_new(&self, fault: &TypeFault, at: usize, note: Option<Note<'a>>) -> bool {
         let word = word_at(self.unit.text(), at);
         match (fault, note) {
@@ -120,8 +120,8 @@ impl<'a> Search<'a> {
         }
     }
 
-    // Up to which offset a name that breaks a rule at an offset is renamed: as far as it denotes nothing, or the later of two
-    // declarations.
+    // The offset up to which a name that breaks a rule at the offset `at` is renamed: as far as it denotes nothing, or denotes
+    // the later of two declarations.
     fn until(&self, fault: &TypeFault, at: usize, word: &[u8]) -> usize {
         let declared = self.declarations.as_slice();
         let end = self.unit.text().len();
@@ -164,7 +164,7 @@ impl<'a> Search<'a> {
         mended
     }
 
-    // Notes what must be known later about a fault at an offset.
+    // Notes what must be known later about this fault.
     fn keep(&mut self, fault: &TypeFault, at: usize) -> Result<(), AllocError> {
         self.number = fault.number();
         self.at = at;
@@ -202,8 +202,8 @@ impl<'a> Search<'a> {
         }
     }
 
-    // Reports a fault of the copy at an offset, if it is new and not too many were reported, and mends it. Returns false if it is
-    // the one that was mended last.
+    // Takes one turn for a fault of the copy at an offset: reports the fault, if it is new and not too many were reported, and
+    // mends it. Returns false if it is the fault that was mended last.
     fn turn(&mut self, alloc: Global, fault: &TypeFault, at: usize) -> Result<bool, AllocError> {
         if at == self.at && fault.number() == self.number {
             return Ok(false);
@@ -211,7 +211,7 @@ impl<'a> Search<'a> {
         let note = noted(alloc, self.unit, at)?;
         if self.is_new(fault, at, note) {
             self.last = at;
-            // The first one is reported by another call.
+            // The first error of all is reported by another call.
             if self.told.len() + 1 < MOST_TOLD {
                 let told = told_of(alloc, self.unit, note, fault, at)?;
                 self.told.push(told)?;
@@ -241,7 +241,7 @@ impl<'a> Search<'a> {
                 return Ok(());
             }
         }
-        let message = words(alloc, "further errors are not told: correct these first")?;
+        let message = words(alloc, "further errors are not shown: correct these first")?;
         let (at, related) = (None, None);
         self.told.push(Diagnostic {
             at,
@@ -263,7 +263,7 @@ impl<'a> Search<'a> {
     }
 }
 
-// The reports of the errors of a unit after the first one.
+// The reports of a unit's errors after the first one.
 fn of_unit(alloc: Global, unit: &Unit, first: &TypeFault) -> Result<Vec<Diagnostic>, AllocError> {
     let mut search = Search::new(alloc, unit)?;
     let found = search.begin(alloc, first);
@@ -278,11 +278,12 @@ fn of_unit(alloc: Global, unit: &Unit, first: &TypeFault) -> Result<Vec<Diagnost
     }
 }
 
-/// Makes diagnostics of the errors of scope and type after the first one, which is the fault that `check` returned for the text's
-/// tree: up to 19, in the order of their places, with 19 (NoMain) and 20 (Undefined) last, and a note if there are more. A limit
-/// that is passed (21) is reported only if it comes first. A text without a tree has none.
+/// Makes diagnostics of the errors of scope and type after the first one, which is the fault that `check` returned for the
+/// text's tree. There are at most 19, in the order of their places, with 19 (NoMain) and 20 (Undefined) last, and a note if
+/// there are more errors. A limit that is exceeded (21) is reported only if it comes first. A text without a tree has no such
+/// errors.
 ///
-/// Checks at most 20 versions of the text. `AllocError` if memory runs out.
+/// Checks at most 20 versions of the text. Fails with `AllocError` if memory runs out.
 pub fn further_of_typing(
     alloc: Global,
     text: &[u8],

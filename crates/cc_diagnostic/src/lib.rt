@@ -1,16 +1,16 @@
-//! What to report about a text beside its fault: what was found and what was expected, and for a program its warnings.
+//! What to report about a text besides its fault: what was found and what was expected, and for a program its warnings.
 //!
-//! Diagnostics, how they are written, and those of a text without a tree are in `cc_syntax_diagnostic`, whose items this crate
-//! exports too.
+//! Diagnostics, how they are written, and the diagnostics of a text without a tree are in `cc_syntax_diagnostic`, whose items
+//! this crate re-exports.
 //!
 //! - `typing`: a tree that breaks a rule; `constant`: why an expression is not constant.
-//! - `further`: the errors after the first, found by checking a copy of the text in which that one is `mended`.
-//! - `walk`: visits a tree with the names in scope (`names`). It notes what a name denotes, finds what to warn about (`warning`,
-//!   `ends`), and writes instructions (`code`) with the places of the `operators` that can go wrong. `cc_run_diagnostic` runs
-//!   these to report on runs.
+//! - `further`: the errors after the first, found by checking a copy of the text in which the first is `mended`.
+//! - `walk`: visits a tree with the names in scope (`names`). It notes what a name denotes, finds what to warn about
+//!   (`warning`, `ends`), and writes instructions (`code`) with the places of the `operators` that can go wrong.
+//!   `cc_run_diagnostic` runs these to report on runs.
 //!
-//! The faults themselves come from the crates below; a report depends only on the text and the fault, and no promise depends on a
-//! report. Each call is safe and ends, and fails only for lack of memory.
+//! The faults themselves come from the crates below. A report depends only on the text and the fault, and no promise depends on
+//! a report. Each call is safe and ends, and fails only for lack of memory.
 #![tactic(auto)]
 
 mod code;

@@ -1,17 +1,17 @@
 // A copy of a text in which errors of scope and type are mended, to find the next ones.
 //
-// A name that breaks a rule gets another first letter, such that the new name occurs nowhere else, and a declaration before the
-// text makes the new name what its use needs. A wrong keyword becomes blank, and an expression that is not constant becomes `1`.
-// So each byte of the text keeps its offset.
+// A name that breaks a rule gets another first letter, with which it occurs nowhere else, and a declaration before the text
+// makes the new name what its use needs. A wrong keyword is blanked, and an expression that is not constant becomes `1`. So
+// each byte of the text keeps its offset.
 
 use super::walk::Use;
 use cc_tokens::{SyntaxFault, Token, tokens};
 use std::alloc::{AllocError, Global};
 
-/// What a new name may begin with.
+/// The letters with which a new name may begin.
 const LETTERS: &[u8] = b"ABCDEFGHIJKLMNOPQRSTUVWXYZabcdefghijklmnopqrstuvwxyz_";
 
-/// As many parameters as a function may have.
+/// The largest number of parameters that a function may have.
 const PARAMETERS: &[u8] = b"int a,int b,int c,int d,int e,int f,int g,int h";
 
 /// A copy of a text, and the declarations before it.
@@ -50,7 +50,7 @@ impl Mended {
         self.declared.len()
     }
 
-    /// The declarations followed by the text.
+    /// The declarations, followed by the text.
     pub fn joined(&self, alloc: Global) -> Result<Vec<u8>, AllocError> {
         let mut joined = Vec::from_slice(alloc, self.declared.as_slice())?;
         match joined.extend_from_slice(self.text.as_slice()) {
@@ -84,7 +84,7 @@ impl Mended {
         }
     }
 
-    /// Makes the bytes from one offset up to another blank. Ends of lines remain.
+    /// Makes the bytes from one offset up to another blank, except ends of lines.
     pub fn blank(&mut self, from: usize, to: usize) {
         for at in from..to.min(self.text.len()) {
             if self.byte(at) != b'\n' {
@@ -109,7 +109,8 @@ impl Mended {
         false
     }
 
-    // The first letter with which the name does not occur in the text, or its own letter if it occurs with each.
+    // The first of these letters with which the name does not occur in the text; the name's own letter if it occurs with each
+    // of them.
     fn free_letter(&self, tokens: &[Token], word: &[u8]) -> u8 {
         for letter in LETTERS {
             if !self.has(tokens, *letter, word) {
@@ -119,7 +120,7 @@ impl Mended {
         word.first().copied().unwrap_or(b'_')
     }
 
-    // Gives the name at an offset another first letter, there and up to another offset.
+    // Renames a word: it gets the first letter `letter` wherever it occurs from the offset `at` up to the offset `to`.
     fn rename(&mut self, tokens: &[Token], word: &[u8], letter: u8, at: usize, to: usize) {
         let old = self.byte(at);
         for token in tokens {
@@ -129,7 +130,7 @@ impl Mended {
         }
     }
 
-    // Declares a name with a first letter, as its use needs it.
+    // Declares the word with this first letter, as its use needs it.
     fn declare(&mut self, letter: u8, word: &[u8], done: Use) -> Result<(), AllocError> {
         self.declared.extend_from_slice(b"int ")?;
         self.declared.push(letter)?;
@@ -147,8 +148,8 @@ impl Mended {
         }
     }
 
-    /// Mends a name that breaks a rule at an offset: from there up to another offset it is renamed, and the new name is declared
-    /// as it is used there. A use that is itself a declaration declares it.
+    /// Mends a name that breaks a rule at the offset `at`: from there up to the offset `to` it is renamed, and the new name is
+    /// declared as its use needs it. If the use is itself a declaration, nothing more is declared.
     pub fn mend_name(
         &mut self,
         tokens: &[Token],
@@ -165,7 +166,7 @@ impl Mended {
         }
     }
 
-    // The offset at which the constant expression ends that begins at an offset.
+    // The offset at which the constant expression that begins at `at` ends.
     fn end_of_constant(&self, tokens: &[Token], at: usize) -> usize {
         let mut depth: usize = 0;
         for token in tokens {
@@ -182,14 +183,15 @@ impl Mended {
         self.text.len()
     }
 
-    /// Mends an expression at an offset that should be constant and is not.
+    /// Mends the expression at an offset, which should be constant and is not.
     pub fn mend_constant(&mut self, tokens: &[Token], at: usize) {
         let end = self.end_of_constant(tokens, at);
         self.blank(at, end);
         self.put(at, b'1');
     }
 
-    /// Mends the length of the array whose name is at an offset: its list gives the length, or it is 1.
+    /// Mends the length of the array whose name is at an offset: the array's list gives the length; without a list it becomes
+    /// 1.
     pub fn mend_length(
         &mut self,
         tokens: &[Token],

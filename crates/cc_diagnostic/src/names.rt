@@ -1,4 +1,4 @@
-// The names in scope, with the place of each declaration and what the name refers to.
+// The names in scope, each with the place of its declaration and what it refers to.
 
 use cc_resolve::Extent;
 use cc_syntax_diagnostic::near_name;
@@ -90,13 +90,13 @@ impl<'a> Names<'a> {
         self.standings.get(newest.number).copied()
     }
 
-    /// The name in scope that is nearest to another one, if one is near.
+    /// The name in scope that is nearest to this one, if any is near.
     pub fn near(&self, name: &[u8]) -> Option<&'a [u8]> {
         near_name(self.words.as_slice(), name)
     }
 
-    /// Opens an inner scope, and returns the number of the first name of the scope around it. The `close` that ends the inner
-    /// scope takes that number.
+    /// Opens an inner scope, and returns the number of the first name of the scope around it. Pass that number to the `close`
+    /// that ends the inner scope.
     pub fn open(&mut self) -> usize {
         let around = self.inner;
         self.inner = self.standings.len();

@@ -1,4 +1,4 @@
-// The operators of a text that can go wrong, found by their tokens.
+// The operators of a text that can go wrong, found among its tokens.
 
 use cc_tokens::{Punctuator, Token, TokenKind, tokens};
 use std::alloc::{AllocError, Global};

@@ -1,4 +1,4 @@
-// Messages about a tree that breaks a rule or passes a limit.
+// Messages about a tree that breaks a rule or exceeds a limit.
 
 ghost use Rattle.std.specs.Prelude.{◌≡◌, ◌≤◌, length, is_some, IfOk, IfSome};
 ghost use Rattle.cc_types.specs.Fault.{fault_place};
@@ -17,7 +17,7 @@ use cc_types::{
 };
 use std::alloc::{AllocError, Global};
 
-/// A text with a fault: the fault's offset, the word there, what the walk noted about it, and all declarations of file scope.
+/// A text with a fault: the fault's offset, the word there, what the walk noted about it, and all declarations at file scope.
 #[derive(Clone, Copy)]
 struct View<'a> {
     text: &'a [u8],
@@ -57,7 +57,7 @@ impl<'a> View<'a> {
         }
     }
 
-    // The offset of the first declaration of what the name denotes, unless it is a builtin.
+    // The offset of the first declaration of what the name denotes; `None` for a builtin.
     fn declared_at(&self) -> Option<usize> {
         match self.standing {
             Some(standing) => standing.at,
@@ -65,13 +65,13 @@ impl<'a> View<'a> {
         }
     }
 
-    // The word, what to say about it, and a place.
+    // A message of the word, what to say about it, and a place.
     fn with_place(&self, alloc: Global, said: &'a str, at: usize) -> Result<String, AllocError> {
         let place = MessagePart::Place(place_in(self.text, at));
         message(alloc, &[self.word(), MessagePart::Words(said), place])
     }
 
-    // The word, and what to say about it.
+    // A message of the word and what to say about it.
     fn with(&self, alloc: Global, said: &'a str) -> Result<String, AllocError> {
         message(alloc, &[self.word(), MessagePart::Words(said)])
     }
@@ -97,7 +97,7 @@ fn not_done(done: Use) -> &'static str {
     }
 }
 
-// An expression that should be constant and is not.
+// The message about an expression that should be constant and is not.
 fn no_constant(alloc: Global, view: &View<'_>) -> Result<String, AllocError> {
     let (said, from, to) = match why(view.text, view.at) {
         Cause::Name(from, to) => ("it has the name ", from, to),
@@ -113,7 +113,7 @@ fn no_constant(alloc: Global, view: &View<'_>) -> Result<String, AllocError> {
     message(alloc, &[told, MessagePart::Words(said), name])
 }
 
-// A name that cannot be used as it is, or an expression that should be constant and is not.
+// The message about a name that cannot be used as it is, or about an expression that should be constant and is not.
 fn misused(alloc: Global, view: &View<'_>) -> Result<String, AllocError> {
     let (Some(done), Some(standing)) = (view.done, view.standing) else {
         return no_constant(alloc, view);
@@ -140,7 +140,7 @@ fn misused(alloc: Global, view: &View<'_>) -> Result<String, AllocError> {
     }
 }
 
-// A name that is declared nowhere: what to say about it, or what might be meant.
+// The message about a name that is declared nowhere: why it is not there, or what might be meant.
 fn not_declared(alloc: Global, view: &View<'_>) -> Result<String, AllocError> {
     let what = MessagePart::Words(" is not declared");
     if let Some(said) = said_of_foreign(view.word) {
@@ -197,7 +197,7 @@ fn definition_before(view: &View<'_>) -> Option<usize> {
     None
 }
 
-// Whether a definition of a function is named at the fault.
+// Whether the name at the fault is that of a function's definition.
 fn is_definition(view: &View<'_>) -> bool {
     match named_at(view.declarations, view.at) {
         Some(declaration) => matches!(declaration.declared, Declared::Definition(_)),
@@ -205,7 +205,7 @@ fn is_definition(view: &View<'_>) -> bool {
     }
 }
 
-// A second declaration of a builtin. `declared` is how it is declared.
+// The message about a second declaration of a builtin. `declared` says how the builtin is declared.
 fn built_in(alloc: Global, view: &View<'_>, declared: &'static str) -> Result<String, AllocError> {
     let refused = if is_definition(view) {
         ", and cannot be defined"
@@ -223,7 +223,7 @@ fn built_in(alloc: Global, view: &View<'_>, declared: &'static str) -> Result<St
     )
 }
 
-// Whether an object at file scope is named at the fault.
+// Whether the name at the fault is that of an object at file scope.
 fn is_object(view: &View<'_>) -> bool {
     match named_at(view.declarations, view.at) {
         Some(declaration) => matches!(declaration.declared, Declared::Object(_)),
@@ -231,7 +231,7 @@ fn is_object(view: &View<'_>) -> bool {
     }
 }
 
-// A second declaration of an object, a parameter or a local that was declared at an offset.
+// The message about a second declaration of an object, a parameter or a local, whose first one is at the offset `at`.
 fn already_declared(alloc: Global, view: &View<'_>, at: usize) -> Result<String, AllocError> {
     let place = MessagePart::Place(place_in(view.text, at));
     let more = if is_object(view) {
@@ -261,7 +261,7 @@ fn redeclared(alloc: Global, view: &View<'_>) -> Result<String, AllocError> {
     }
 }
 
-// How many parameters the function that a name denotes has.
+// The number of parameters of the function that a name denotes.
 fn parameters(standing: Standing<'_>) -> usize {
     match standing.entity {
         Entity::Function(signature) => signature.parameters.len(),
@@ -270,7 +270,7 @@ fn parameters(standing: Standing<'_>) -> usize {
     }
 }
 
-// An array whose length or list is wrong.
+// The message about an array whose length or list is wrong.
 fn wrong_length(alloc: Global, view: &View<'_>, object: &Object) -> Result<String, AllocError> {
     let (Object::Array(_, length, values) | Object::Bytes(_, length, values)) = object else {
         return view.with(alloc, " has a wrong length");
@@ -298,7 +298,7 @@ fn wrong_length(alloc: Global, view: &View<'_>, object: &Object) -> Result<Strin
     )
 }
 
-// A call with this many arguments.
+// The message about a call with the wrong number of arguments.
 fn wrong_call(
     alloc: Global,
     view: &View<'_>,
@@ -411,7 +411,7 @@ fn message_of(alloc: Global, view: &View<'_>, fault: &TypeFault) -> Result<Strin
         TypeFault::WrongCount(_) => wrong_count(alloc, view),
         TypeFault::VoidValue(_) => view.with(alloc, " is void: its call has no value to use"),
         TypeFault::BadReturn(_) => bad_return(alloc, view),
-        TypeFault::BadBreak(_) => view.with(alloc, " stands outside a loop"),
+        TypeFault::BadBreak(_) => view.with(alloc, " is outside a loop"),
         TypeFault::NoMain(_) => no_main(alloc, view),
         TypeFault::Undefined(_) => undefined(alloc, view),
         TypeFault::TooMany(_) => too_many(alloc, view),
@@ -429,7 +429,7 @@ pub fn noted<'a>(alloc: Global, unit: &'a Unit, at: usize) -> Result<Option<Note
     Ok(note)
 }
 
-// A note on the first declaration of a function, if another one contradicts it.
+// A note about the first declaration of a function, if another one contradicts it.
 fn related(view: &View<'_>, fault: &TypeFault) -> Option<Related> {
     let at = view.declared_at()?;
     if matches!(fault, TypeFault::Redeclared(_)) && !is_object(view) {
@@ -442,14 +442,14 @@ fn related(view: &View<'_>, fault: &TypeFault) -> Option<Related> {
     }
 }
 
-/// A report about a unit: the words, and another place.
+/// A report about a unit: the message, and a note about another place.
 #[derive(Drop)]
 struct Told {
     message: String,
     related: Option<Related>,
 }
 
-// The view of an offset of a unit, given what was noted there.
+// The view of a unit at an offset, given what was noted there.
 fn view_of<'a>(
     unit: &'a Unit,
     note: Option<Note<'a>>,
@@ -484,7 +484,7 @@ fn view_of<'a>(
     view
 }
 
-// The report of a fault of a unit at an offset, given what was noted there.
+// The report of a unit's fault at an offset, given what was noted there.
 fn of_note<'a>(
     alloc: Global,
     unit: &'a Unit,
@@ -500,9 +500,9 @@ fn of_note<'a>(
     })
 }
 
-/// Makes a diagnostic of a fault of a unit at an offset, given what was noted there.
+/// Makes a diagnostic of a unit's fault at an offset, given what was noted there.
 ///
-/// `AllocError` if memory runs out.
+/// Fails with `AllocError` if memory runs out.
 pub fn told_of<'a>(
     alloc: Global,
     unit: &'a Unit,
@@ -519,16 +519,16 @@ pub fn told_of<'a>(
     })
 }
 
-// The report of a fault of a unit at an offset.
+// The report of a unit's fault at an offset.
 fn of_unit(alloc: Global, unit: &Unit, fault: &TypeFault, at: usize) -> Result<Told, AllocError> {
     let note = noted(alloc, unit, at)?;
     of_note(alloc, unit, note, fault, at)
 }
 
-/// Makes a diagnostic of the fault that `check` returned for a text's tree: the name, what it denotes and the place of its first
-/// declaration, the counts, or the limit that was exceeded. `None` for a text without a tree.
+/// Makes a diagnostic of the fault that `check` returned for a text's tree: the name, what it denotes and the place of its
+/// first declaration, the counts, or the limit that was exceeded. `None` for a text without a tree.
 ///
-/// `AllocError` if memory runs out.
+/// Fails with `AllocError` if memory runs out.
 pub fn of_typing(
     alloc: Global,
     text: &[u8],

@@ -1,12 +1,12 @@
 // One walk over a tree, in the order of its text, with the names in scope.
 //
-// It notes what is at one offset of the text, and writes the instructions of each function. The tree does not keep the places of
-// the operators that can go wrong; but they are in the tree in the order of their tokens, so the walk takes the places of those
-// tokens one after another. A tree that breaks rules is visited like any other: what has no meaning becomes no instruction, or a
-// constant.
+// The walk notes what is at one offset of the text, and writes the instructions of each function. The tree does not keep the
+// places of the operators that can go wrong. But these operators are in the tree in the order of their tokens, so the walk
+// takes the places of those tokens one after another. A tree that breaks rules is visited like any other: what has no meaning
+// becomes no instruction, or a constant.
 //
-// If memory is refused, this is noted and the walk continues; `externals` reports it at the end. So no step of the walk returns
-// an error.
+// If memory is refused, the walk notes this and continues; `externals` reports it at the end. So no step of the walk returns an
+// error.
 
 mod expressions;
 mod statements;
@@ -34,13 +34,13 @@ pub enum Use {
     Written,
     /// A name is called, with this many arguments.
     Called(usize),
-    /// A `return`, with a value or without.
+    /// A function returns, with a value or without.
     Returned(bool),
     /// A constant expression begins.
     Constant,
 }
 
-/// What is at an offset: what is done there, what the name denoted before, in which function it is, and, for a name that denotes
+/// What is at an offset: what is done there, what the name denoted before, the function around it, and, for a name that denotes
 /// nothing, the nearest name in scope.
 #[derive(Clone, Copy)]
 pub struct Note<'a> {
@@ -50,9 +50,9 @@ pub struct Note<'a> {
     pub near: Option<&'a [u8]>,
 }
 
-/// A walk: the names in scope, how many variables the function has so far, and the function; the places of operators that can go
-/// wrong, and how many of them were taken; the offset for which a note is wanted, and the note; and what has been written. Jumps
-/// out of loops that have no target yet are kept by the numbers of their instructions.
+/// A walk: the names in scope, how many variables the function has so far, and the function; the places of operators that can
+/// go wrong, and how many of them were taken; the offset for which a note is wanted, and the note; and what has been written.
+/// Of the jumps out of loops that have no target yet, it keeps the numbers of their instructions.
 #[derive(Drop)]
 pub struct Walk<'a> {
     names: Names<'a>,
@@ -67,17 +67,17 @@ pub struct Walk<'a> {
     pub code: Vec<Instruction<'a>>,
     pub functions: Vec<Function<'a>>,
     pub warnings: Vec<Warning<'a>>,
-    // The first name that was used since a statement began.
+    // The offset of the first name that was used since a statement began.
     first: Option<usize>,
     // How many words the objects so far have.
     words: usize,
-    // Whether memory was refused for something to be written.
+    // Whether memory was refused for something that was to be written.
     failed: bool,
 }
 
 impl<'a> Walk<'a> {
-    /// Returns a walk before its first external declaration, over a text with operators at these offsets. It notes what is at the
-    /// wanted offset.
+    /// Returns a walk that has not visited any external declaration yet, over a text with operators at these offsets. It will
+    /// note what is at the wanted offset.
     pub fn new(
         alloc: Global,
         operators: Vec<usize>,
@@ -116,7 +116,7 @@ impl<'a> Walk<'a> {
         }
     }
 
-    // What a name denotes that is used here.
+    // What a name that is used here denotes.
     fn look_up(&mut self, name: &'a Identifier, done: Use) -> Option<Standing<'a>> {
         let standing = self.names.find(name.bytes.as_slice());
         self.note(name.at, done, standing);
@@ -134,7 +134,7 @@ impl<'a> Walk<'a> {
         self.failed |= self.warnings.push(warning).is_err();
     }
 
-    // The constant that the instructions from a number on push, if they do nothing else.
+    // The constant that the instructions from number `start` on push, if they do nothing else.
     fn constant_since(&self, start: usize) -> Option<u32> {
         let count = self.code.len().saturating_sub(start);
         match (self.code.get(start), self.code.get(start.saturating_add(1))) {
@@ -145,7 +145,7 @@ impl<'a> Walk<'a> {
         }
     }
 
-    // Warns about an index that the instructions from a number on push, if it is a constant outside its array.
+    // Warns about an index if the instructions from number `start` on push it, and it is a constant outside its array.
     fn warn_of_index(&mut self, start: usize, element: Element<'a>) {
         if let Some(word) = self.constant_since(start)
             && word as usize >= element.extent.length
@@ -154,7 +154,7 @@ impl<'a> Walk<'a> {
         }
     }
 
-    // Whether the instructions from a number on call anything.
+    // Whether the instructions from number `start` on call anything.
     fn calls_since(&self, start: usize) -> bool {
         for i in start..self.code.len() {
             if let Some(Instruction::Call(_, _) | Instruction::Read | Instruction::Write) = self
@@ -167,7 +167,7 @@ impl<'a> Walk<'a> {
         false
     }
 
-    // Warns about an expression whose value is not used, if the instructions from a number on call nothing.
+    // Warns about an expression whose value is not used, if the instructions from number `start` on call nothing.
     fn warn_of_effect(&mut self, start: usize) {
         if let Some(at) = self.first
             && !self.calls_since(start)
@@ -189,7 +189,7 @@ impl<'a> Walk<'a> {
         }
     }
 
-    // Writes an instruction that a jump will replace, and returns its number.
+    // Writes an instruction that will be replaced with a jump, and returns its number.
     fn open_jump(&mut self) -> usize {
         let number = self.code.len();
         self.emit(Instruction::Drop);
@@ -233,10 +233,10 @@ fn written<'a>(
     }
 }
 
-/// Returns the instructions that a unit's tree becomes in order to be run once more. `None` for a text without tokens, which no
-/// unit has.
+/// Returns the instructions that a unit's tree becomes so that it can be run once more. `None` for a text without tokens, which
+/// no unit has.
 ///
-/// `AllocError` if memory runs out.
+/// Fails with `AllocError` if memory runs out.
 pub fn code_of(alloc: Global, unit: &Unit) -> Result<Option<Bytecode<'_>>, AllocError> {
     match operators(alloc, unit.text())? {
         Some(operators) => Ok(Some(written(alloc, unit, operators)?)),

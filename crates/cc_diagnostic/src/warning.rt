@@ -1,4 +1,4 @@
-// Warnings about a program: it may run, but hardly as it was meant.
+// Warnings about a program: it may run, but hardly as it was meant to.
 //
 // The walk finds what is in expressions and statements. Here are the warnings that tokens give rise to, and the messages.
 
@@ -9,7 +9,7 @@ use cc_syntax_diagnostic::{Diagnostic, MessagePart, message};
 use cc_tokens::{NextToken, Token, next_token};
 use std::alloc::{AllocError, Global};
 
-/// The most warnings that are reported.
+/// At most this many warnings are reported.
 const MOST_WARNINGS: usize = 20;
 
 /// What a warning is about.
@@ -35,7 +35,7 @@ fn byte_at(text: &[u8], at: usize) -> u8 {
     text.get(at).copied().unwrap_or(0)
 }
 
-// The offset of the brace that ends the body of the function whose name is at an offset.
+// The offset of the brace that ends a function's body, given the offset of the function's name.
 fn end_of_body(text: &[u8], at: usize) -> usize {
     let mut at = at;
     let mut depth: usize = 0;
@@ -90,7 +90,7 @@ fn index(alloc: Global, element: Element<'_>, word: u32) -> Result<Diagnostic, A
     })
 }
 
-// Makes a warning of some words.
+// A warning with this message.
 fn plain(alloc: Global, at: usize, words: &str) -> Result<Diagnostic, AllocError> {
     let message = String::from_str(alloc, words)?;
     Ok(Diagnostic {
@@ -108,7 +108,7 @@ fn told(alloc: Global, text: &[u8], warning: Warning<'_>) -> Result<Diagnostic, 
     }
 }
 
-// What to say about `=` with a sign directly after it, and a space after that.
+// What to say about `=` if a sign directly follows it, and a space follows the sign.
 fn of_sign(text: &[u8], token: Token) -> Option<&'static str> {
     let is_assignment = byte_at(text, token.from) == b'='
         && token.to == token.from.saturating_add(1);
@@ -152,7 +152,7 @@ fn add_found(
     Ok(())
 }
 
-// All warnings about a text in which a walk found these.
+// All warnings about a text, given those that a walk found in it.
 fn all(alloc: Global, text: &[u8], found: &[Warning<'_>]) -> Result<Vec<Diagnostic>, AllocError> {
     let mut list = Vec::new(alloc);
     add_found(alloc, text, found, &mut list)?;
@@ -176,9 +176,10 @@ fn of_unit(alloc: Global, unit: &Unit) -> Result<Vec<Diagnostic>, AllocError> {
 }
 
 /// Returns the warnings about a text that is a program, at most 20: a constant index outside its array, a statement without
-/// effect, a function whose end can be reached without a `return`, and `=+` or `=-` with a space after it.
+/// effect, a function with a result, other than `main`, whose end can be reached without a `return`, and `=+` or `=-` with a
+/// space after it.
 ///
-/// `AllocError` if memory runs out.
+/// Fails with `AllocError` if memory runs out.
 pub fn warnings(alloc: Global, text: &[u8]) -> Result<Vec<Diagnostic>, AllocError> {
     match parse(alloc, text) {
         Ok(unit) => {

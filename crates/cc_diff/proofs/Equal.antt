@@ -1,4 +1,4 @@
--- There is no line exactly if the maps are equal.
+-- The list of lines is empty exactly if the maps are equal.
 use Rattle.std.proofs.Common.{◌≡◌, ℕ, List, [], ◌∷◌, ◌++◌, Bool, true, false, ◌&&◌, ◌||◌, refl, sym, ap, ◌∙◌, Option, Some, None}
 use Rattle.std.specs.Prelude.{is_some}
 use Rattle.std.specs.List.{flat_map, list_any}
@@ -25,7 +25,7 @@ second_none : {A : Type 0} (xs ys : List A) → xs ++ ys ≡ [] → ys ≡ []
 second_none [] ys e = e
 second_none (x ∷ xs) ys e = cc
 
--- no line for a part that is the same
+-- there is no line for a part only if the part is the same
 is_same : (same : Bool) (name : List ℕ) (part : Difference) → unless same name part ≡ [] → same ≡ true
 is_same true name part e = refl
 is_same false name part e = cc
@@ -60,7 +60,7 @@ same_image a b e =
 its_image : (a : Image) → is_same_image a a ≡ true
 its_image a = ap (λ (x : Bool). x && bytes_eq a.globals a.globals) (itself a.code) ∙ itself a.globals
 
--- units with one name and without a line are the same
+-- units with one name and no line are the same
 same_units : (name : List ℕ) (a b : Option StoredUnit) → lines_of name a b ≡ [] → a ≡ b
 same_units name None None e = refl
 same_units name None (Some y) e = cc
@@ -72,7 +72,7 @@ same_units name (Some x) (Some y) e =
     let certificate = same_certificate x.certificate y.certificate (is_same _ name _ (second_none _ _ rest)) in
     λ i. Some (record { source = source i; image = image i; certificate = certificate i })
 
--- and the other way round
+-- a unit has no line against itself
 no_line : (same : Bool) (name : List ℕ) (part : Difference) → same ≡ true → unless same name part ≡ []
 no_line same name part e = ap (λ (b : Bool). unless b name part) e
 

@@ -2,5 +2,5 @@
 pub mod Lines
 -- The names of both maps.
 pub mod Names
--- There is no line exactly if the maps are equal.
+-- The list of lines is empty exactly if the maps are equal.
 pub mod Equal

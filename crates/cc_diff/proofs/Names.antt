@@ -12,7 +12,7 @@ use Rattle.std.proofs.lemmas.Cmp.{eq_by_cmp_equiv}
 use Rattle.std.proofs.lemmas.List.Folds.{list_any_more, list_any-append}
 use Rattle.std.specs.FinMap as map
 use Rattle.cc_unit.specs.declared.unit.StoredUnit.{StoredUnit}
-use Rattle.cc_library.specs.declared.command.LibraryCommand.TheVariants.{Add}
+use Rattle.cc_library.specs.declared.command.Change.TheVariants.{Add}
 use Rattle.cc_library.specs.Apply.{Units, after, kept, exists}
 use Rattle.cc_diff.specs.internal.Names.{HasNameToo}
 
@@ -34,12 +34,12 @@ or_true : (a : Bool) → (a || true) ≡ true
 or_true true = refl
 or_true false = refl
 
--- if the map has the name, there is nothing to add
+-- if the map has the name, nothing has to be added
 there : (has q_has tie : Bool) → has ≡ true → (tie ≡ true → q_has ≡ has) → q_has ≡ (q_has || tie)
 there has q_has true is same = same refl ∙ (is ∙ sym (or_true q_has))
 there has q_has false is same = sym (or_none q_has)
 
--- if it has not, the name is added
+-- if the map lacks the name, it is added
 added : (tie : Bool) (unit : StoredUnit) (found : Option StoredUnit) → is_some (cond tie (Some unit) found) ≡ (is_some found || tie)
 added true unit found = sym (or_true (is_some found))
 added false unit found = sym (or_none (is_some found))
@@ -56,7 +56,7 @@ by_name units name unit q false e =
     ap (λ (m : Units). map.contains_key m q) made
     ∙ (ap is_some (map.get-insert nat_list_cmp_total units name unit q) ∙ added (eq_by_cmp R q name) unit (map.get units q))
 
--- the names of a map to which a unit is added, unless it has one with that name
+-- the names of a map after a unit was added to it, which happens unless the map has a unit with that name
 pub with_name : (units : Units) (name : List ℕ) (unit : StoredUnit) (q : List ℕ) → map.contains_key (after units (Add name unit)) q ≡ (map.contains_key units q || eq_by_cmp R q name)
 with_name units name unit q = by_name units name unit q (map.contains_key units name) refl
 
@@ -70,7 +70,7 @@ is_key units names i name keys within is =
     let all : list_any p names ≡ true = ap (list_any p) (sym parts) ∙ (list_any-append p (take (i + 1) names) (drop (i + 1) names) ∙ ap (λ b. b || list_any p (drop (i + 1) names)) here) in
     map.contains_key-keys units name ∙ (ap (list_any p) (sym keys) ∙ all)
 
--- one more name
+-- one more name of the right map
 pub one_more : (left has tie so_far more : Bool) → has ≡ (left || so_far) → more ≡ (so_far || tie) → (has || tie) ≡ (left || more)
 one_more true has tie so_far more is next = ap (λ b. b || tie) is
 one_more false has tie so_far more is next = ap (λ b. b || tie) is ∙ sym next
@@ -79,7 +79,7 @@ pub added_on : {T E : Type 0} (answer : Result T E) (old new : Units) (name : Li
 added_on (Err e) old new name unit is = tt
 added_on (Ok done) old new name unit is = record { has = λ q. ap (λ (m : Units). map.contains_key m q) is ∙ with_name old name unit q }
 
--- the map's names are those of the left one, and those of the right one so far
+-- the map's names are those of the left map, and those of the right one so far
 pub named : (left both new : Units) (names : List (List ℕ)) (i : ℕ) (name : List ℕ) → i < length names → name ≡ get_or names i name → HasNameToo both name new
     → ((q : List ℕ) → map.contains_key both q ≡ (map.contains_key left q || list_any (eq_by_cmp R q) (take i names)))
     → (q : List ℕ) → map.contains_key new q ≡ (map.contains_key left q || list_any (eq_by_cmp R q) (take (i + 1) names))
@@ -87,7 +87,7 @@ named left both new names i name within is too before q =
     too.has q ∙ one_more (map.contains_key left q) (map.contains_key both q) (eq_by_cmp R q name) (list_any (eq_by_cmp R q) (take i names)) (list_any (eq_by_cmp R q) (take (i + 1) names)) (before q)
     (list_any_more (eq_by_cmp R q) names i name within ∙ ap (λ (n : List ℕ). list_any (eq_by_cmp R q) (take i names) || eq_by_cmp R q n) (sym is))
 
--- all names of the right map
+-- at the end, the map has all names of the right map
 pub all_named : (left right both : Units) (names : List (List ℕ)) (i : ℕ) → names ≡ map.keys right → length names ≤ i
     → ((q : List ℕ) → map.contains_key both q ≡ (map.contains_key left q || list_any (eq_by_cmp R q) (take i names)))
     → (q : List ℕ) → map.contains_key both q ≡ (map.contains_key left q || map.contains_key right q)

@@ -1,4 +1,4 @@
--- Where two libraries differ, and why they are not compared.
+-- The differences between two libraries, and why they are not compared.
 use Rattle.std.specs.Prelude.{◌≡◌, ◌↔◌, ℕ, ◌&&◌, ◌||◌, Bool, true, false, IsTrue, List, [], ◌∷◌, ◌++◌, Option, Some, None}
 use Rattle.std.specs.List.{flat_map}
 use Rattle.std.specs.Str.{bytes_eq}
@@ -31,7 +31,7 @@ is_same_certificate (Some left) (Some right) = bytes_eq left right
 abbrev pub line_of : (name : List ℕ) → Difference → DiffLine
 line_of name difference = record { name = name; difference = difference }
 
--- a line for a part that is not the same
+-- a line for a part, unless the part is the same
 abbrev pub unless : (same : Bool) → (name : List ℕ) → Difference → List DiffLine
 unless true name part = []
 unless false name part = line_of name part ∷ []
@@ -43,7 +43,7 @@ lines_of_both name left right =
     ++ (unless (is_same_image left.image right.image) name ImagePart
     ++ unless (is_same_certificate left.certificate right.certificate) name Certificate)
 
--- the lines of a name, from the units that it has on the two sides
+-- the lines of a name, given the units that it has on the two sides
 abbrev pub lines_of : (name : List ℕ) → (left right : Option StoredUnit) → List DiffLine
 lines_of name None None = []
 lines_of name (Some left) None = line_of name Left ∷ []
@@ -52,7 +52,7 @@ lines_of name (Some left) (Some right) = lines_of_both name left right
 
 -- ---- all names
 
--- the map has a unit for each name for which one of the two has one, and for no other
+-- the map `both` has a unit for each name for which at least one of the two maps has one, and for no other
 abbrev pub HasNamesOf : (left right both : Units) → Type 0
 HasNamesOf left right both = (name : List ℕ) → contains_key both name ≡ (contains_key left name || contains_key right name)
 
@@ -74,8 +74,8 @@ pub record IsDiffOn (seen_left seen_right : List ℕ) (lines : List DiffLine) : 
   pub is_diff : IsDiff left right lines
   pub equal : (lines ≡ []) ↔ (left ≡ right)
 
--- Why they are not compared: the left library is not opened, and the right disk is as it was; or the left one is opened, and the right one is not;
--- or memory ran out.
+-- Why two libraries are not compared: the left library is not opened, and the right disk is as it was; or the left one is opened,
+-- and the right one is not; or memory ran out.
 abbrev pub DiffFaults : (honest : Bool) (seen_left seen_right : List ℕ) (left_before left_after right_before right_after : ℕ) → DiffFault → Type 0
 DiffFaults honest seen_left seen_right left_before left_after right_before right_after (fault.Left f) =
     OpenFaults honest seen_left left_before left_after f × (right_after ≡ right_before)
@@ -84,7 +84,7 @@ DiffFaults honest seen_left seen_right left_before left_after right_before right
 DiffFaults honest seen_left seen_right left_before left_after right_before right_after fault.OutOfMemory =
     (left_after ≡ left_before) × (right_after ≡ right_before)
 
--- the number that a fault is known by
+-- the number of a fault
 abbrev pub fault_number : DiffFault → ℕ
 fault_number (fault.Left f) = library_fault_number f
 fault_number (fault.Right f) = library_fault_number f

@@ -26,7 +26,7 @@ pub enum Difference {
     Certificate,
 }
 
-/// A name, and a difference in it.
+/// A name, and one way in which the libraries differ in it.
 #[derive(Drop)]
 pub struct DiffLine {
     pub name: Name,
@@ -109,7 +109,7 @@ fn push_both(
     )
 }
 
-/// Adds the lines of a name that has these units.
+/// Adds the lines for a name that has these units on the two sides.
 pub(crate) fn push_lines(
     lines: &mut Vec<DiffLine>,
     name: &Name,

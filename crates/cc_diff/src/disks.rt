@@ -14,10 +14,10 @@ use thiserror::Error;
 /// Why two libraries were not compared.
 #[derive(Clone, Copy, Debug, Drop, Error)]
 pub enum DiffFault {
-    /// 35, 37, 38, 40: the left one could not be opened.
+    /// 35, 37, 38, 40: the left library could not be opened.
     #[error(transparent)]
     Left(LibraryFault),
-    /// 35, 37, 38, 40: the right one could not be opened.
+    /// 35, 37, 38, 40: the right library could not be opened.
     #[error(transparent)]
     Right(LibraryFault),
     /// 40: memory ran out.
@@ -49,7 +49,7 @@ pub fn diff_disks<D: Disk + Drop>(
     left: D,
     right: D,
 ) -> (Result<Vec<DiffLine>, DiffFault>, (D, D))
-    // On an honest kind of disk: the maps to which the disks recover.
+    // On an honest kind of disk, the lines are for the maps to which the disks recover.
     ensures lines { IfOk result.0 (λ lines. IsTrue D.honest → IsDiffOn (D.seen left) (D.seen right) lines.items) }
     ensures refused { IfErr result.0 (λ fault. DiffFaults D.honest (D.seen left) (D.seen right)
         (D.failures left) (D.failures result.1.0) (D.failures right) (D.failures result.1.1) fault) }

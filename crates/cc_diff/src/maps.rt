@@ -4,7 +4,7 @@ ghost use Rattle.std.specs.Prelude.{◌≡◌, ◌↔◌, [], true, IfOk, OnOk};
 ghost use Rattle.std.specs.Arc.{arc_value};
 ghost use Rattle.std.specs.FinMap as map;
 ghost use Rattle.cc_library.specs.Apply.{after};
-ghost use Rattle.cc_library.specs.declared.command.LibraryCommand.TheVariants as command;
+ghost use Rattle.cc_library.specs.declared.command.Change.TheVariants as command;
 ghost use Rattle.cc_diff.specs.internal.Names.{HasNameToo};
 ghost use Rattle.cc_diff.specs.Diff.{HasNamesOf, IsDiff};
 

@@ -1,4 +1,4 @@
--- Disks may move to another thread: one on a file, one in memory, and one that fails on purpose if the disk inside it may.
+-- Disks may move to another thread: one on a file, one in memory, and one that fails on purpose, if the disk inside it may move.
 use denote.RattleType.{RattleType}
 use denote.Param.Send.{IsSend, sendable, recorded_send, view_send, struct_send}
 use denote.Struct.Declared.{shape}

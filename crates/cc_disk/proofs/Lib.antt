@@ -1,4 +1,4 @@
--- calls of the disk in memory, by what a read gives and by what a crash may leave
+-- calls of the disk in memory, in terms of what a read gives and what a crash may leave
 pub mod Images
 -- bytes and marks as cells, after copying and filling ranges
 mod Zipped

@@ -85,7 +85,7 @@ crash-more cells i cell after choice byte x rest here is so_far =
     ∙ ap (λ (l : List Cell). map settled after ++ crashed l (x ∷ rest)) (sym here)
     ∙ so_far
 
--- the same for whatever is left of the choice
+-- one more byte of a crash, whatever is left of the choice
 pub crash-step : (cells : List Cell) (i : ℕ) (cell : Cell) (after choice : List ℕ) (byte : ℕ) (rest : List ℕ) → drop i cells ≡ cell ∷ drop (suc i) cells
     → settled byte ≡ left cell (get_or rest 0 0) → map settled after ++ crashed (drop i cells) rest ≡ crashed cells choice
     → map settled (after ++ byte ∷ []) ++ crashed (drop (suc i) cells) (drop 1 rest) ≡ crashed cells choice

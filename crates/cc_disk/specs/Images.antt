@@ -1,4 +1,4 @@
--- What every honest disk promises of its calls, in terms of what a read gives and of what a crash may leave, its images.
+-- What every honest disk promises about its calls, in terms of what a read gives and of what a crash may leave, its images.
 use Rattle.std.specs.Prelude.{◌≡◌, ◌⊎◌, ℕ, ◌+◌, ◌≤◌, List, ◌++◌, length, take, drop}
 
 -- new is old with these bytes written from that offset on
@@ -29,11 +29,11 @@ pub record Elapses (before now : ℕ) (past since : ℕ → List ℕ → Type 0)
   pub nothing_else : (t : ℕ) (image : List ℕ) → t ≤ before → since t image → past t image ⊎ may_leave image
   pub keeps : (t : ℕ) (image : List ℕ) → t ≤ before → past t image → since t image
 
--- A crash at any moment from old to new leaves an image with P.
+-- A crash at any moment from old to new leaves an image with the property P.
 pub record LeavesOnly {D : Type 0} (moment : D → ℕ) (left_since : D → ℕ → List ℕ → Type 0) (old new : D) (P : List ℕ → Type 0) : Type 0 where
   pub later : moment old ≤ moment new
   pub each : (image : List ℕ) → left_since new (moment old) image → P image
-  -- for a run that began earlier
+  -- the same for a run that began earlier
   pub before : (t : ℕ) (image : List ℕ) → t ≤ moment old → left_since new t image → left_since old t image ⊎ P image
 
 -- Between old and new the disk was at most read and synced: it gives the same bytes, and a crash at any moment leaves only what

@@ -1,6 +1,6 @@
 -- the number of the fault
 pub mod Fault
--- what every honest disk promises of its calls: what a read gives, and what a crash at any moment may leave
+-- what every honest disk promises about its calls: what a read gives, and what a crash at any moment may leave
 pub mod Images
 -- the cells of the disk in memory, what its calls do to them, and what a crash may leave of them
 pub mod Model

@@ -1,4 +1,4 @@
-// A count without an upper limit, which is shown as a 64-bit number as far as it fits.
+// A count without an upper limit, which is shown as a 64-bit number if it fits.
 
 ghost use Rattle.std.specs.Prelude.{◌≡◌, ◌+◌, ◌-◌, ◌^◌, ℕ, min, length};
 

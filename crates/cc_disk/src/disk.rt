@@ -122,6 +122,6 @@ pub trait Disk {
     /// The present moment counts among those since an earlier one.
     ghost counts_now: { (disk : Self) (t : ℕ) (image : List ℕ) → IsTrue honest → t ≤ moment disk → may_leave disk image → left_since disk t image };
 
-    /// Since the present moment there is no other.
+    /// What a crash may have left since the present moment is what it may leave now.
     ghost only_now: { (disk : Self) (image : List ℕ) → IsTrue honest → left_since disk (moment disk) image → may_leave disk image };
 }

@@ -16,7 +16,7 @@ const NAME: usize = 1;
 /// How many bytes a journal has up to and including the one that says whether a record follows.
 const BEGINNING: usize = 17;
 
-/// The access rights of a new file: for its owner alone.
+/// The access rights of a new file: for its owner only.
 const OWN: u32 = 0o600;
 
 /// A disk on a file of the operating system, whose length is the disk's size, or on a block device.
@@ -91,7 +91,8 @@ impl FileDisk {
         FileDisk::on(rt, open_or_make(rt, path)?, path, size)
     }
 
-    /// Does the same for a path that must be free: fails with 35 if something is there, and leaves that unchanged.
+    /// Makes a disk as `create` does, at a path that must be free: fails with 35 if something is there, and leaves that
+    /// unchanged.
     pub fn create_new(rt: &HostRuntime, path: &str, size: usize) -> Result<FileDisk, DiskFault>
         ensures size { IfOk result (λ disk. disk.size ≡ size) }
         ensures failed { IfOk result (λ disk. disk.failed ≡ 0) }
@@ -143,7 +144,7 @@ impl FileDisk {
         Ok(FileDisk::over(file, size))
     }
 
-    // Makes a disk on an open file of that length.
+    // Makes a disk of this size on an open file.
     fn over(file: fs::File, size: usize) -> FileDisk
         ensures size { result.size ≡ size }
         ensures failed { result.failed ≡ 0 }
@@ -157,7 +158,7 @@ impl FileDisk {
         }
     }
 
-    // The result of a call, by whether it was done; a failure is counted.
+    // The result of a call that was done or not; a failure is counted.
     fn told(&mut self, done: bool) -> Result<(), DiskFault>
         ensures answer { is_ok result ≡ done }
         ensures failed { self.new.failed ≡ (if done then self.old.failed else self.old.failed + 1) }
@@ -211,12 +212,12 @@ fn is_whole(answer: io::Result<usize>, wanted: usize) -> bool
     }
 }
 
-// Writes these bytes from that offset on by one system call, and returns whether it wrote them all.
+// Writes these bytes from `offset` on with one system call, and returns whether that wrote them all.
 fn is_written(file: &fs::File, offset: usize, bytes: &[u8]) -> bool {
     is_whole(file.write_at(bytes, offset as u64), bytes.len())
 }
 
-// Fills the buffer from that offset on by one system call, and returns whether it was filled.
+// Fills the buffer from `offset` on with one system call, and returns whether that filled it.
 fn is_read(file: &fs::File, offset: usize, buffer: &mut [u8]) -> bool {
     let answer = file.read_at(buffer, offset as u64);
     is_whole(answer, buffer.len())

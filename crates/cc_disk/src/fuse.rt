@@ -29,7 +29,7 @@ enum Course {
 }
 
 /// A disk that fails on purpose. It passes a number of calls of `read_at`, `write_at` and `sync` on to the disk that it was made
-/// of, and then does what its mode says. It is honest if that disk is.
+/// from, and then does what its mode says. It is honest if that disk is.
 pub struct FuseDisk<D: Disk> {
     disk: D,
     // How many calls still pass before the fuse blows; `None` once it has blown.
@@ -67,7 +67,7 @@ impl<D: Disk> FuseDisk<D> {
         }
     }
 
-    /// Returns the disk that it was made of, as the calls that reached it left it.
+    /// Returns the disk that it was made from, as the calls that reached that disk left it.
     pub fn into_disk(self) -> D
         ensures { result ≡ self.disk }
     {

@@ -1,12 +1,12 @@
--- An earlier text has its unit, its program does what it did, and an image that agreed with it agrees: from the laws of `Texts` on its
--- tree, and `Runs` on its run.
+-- An earlier text has its unit, its program does what it did, and an image that agreed with it agrees. This follows from what `Texts`
+-- shows about its tree, and `Runs` about its run.
 use Rattle.std.proofs.Common.{◌≡◌, ℕ, List, sym, ap, ◌∙◌, subst}
 use Rattle.std.proofs.Math.Logic.{∥∥₁_map}
 use Rattle.cc_rv32.specs.declared.image.Image.{Image}
 use Rattle.cc_tokens.specs.Tokens.{TokensAreOne}
 use Rattle.cc_ast.specs.Tree.{External}
 use Rattle.cc_types.specs.Verdict.{source_with}
-use Rattle.cc_c_laws.specs.Numbered.{without_cause}
+use Rattle.cc_c_semantics.specs.Numbered.{without_cause}
 use Rattle.cc_simulation.specs.Behavior.{Outcome, Follows}
 use Rattle.cc_link.specs.Agree.{image_behavior, program_behavior, Agreement}
 use Rattle.cc_earlier.specs.Texts.{HasNoChar, ArePlain, EarlierText, EarlierTreesStay, NoTreeIsNew, EarlierRulesStay, EarlierMeaningStays}

@@ -1,6 +1,6 @@
--- A part of a run over objects of words does what it did before there were arrays of `unsigned char`: it gives the same and leaves objects
--- of words, the same as it left then. By recursion on the tree and on the number of calls that may still be opened, as in `Kept` of
--- `cc_c_laws`.
+-- A part of a run over objects of words does what it did before there were arrays of `unsigned char`: it gives the same result and leaves
+-- the same objects, which are of words. By recursion on the tree and on the number of calls that may still be opened, as in `Kept` of
+-- `cc_c_semantics`.
 use Rattle.std.proofs.Common.{◌≡◌, ℕ, zero, suc, ◌+◌, Bool, true, false, if◌then◌else◌, List, [], ◌∷◌, ◌++◌, map, length, nat_lt, Option, Some, None, is_some, unwrap_or, slice_get, codes, refl, sym, ap, ◌∙◌, subst}
 use Rattle.cc_tokens.specs.declared.scalar.Scalar.{Scalar}
 use Rattle.cc_tokens.specs.declared.scalar.Scalar.TheVariants.{Int}
@@ -12,8 +12,8 @@ use Rattle.cc_types.specs.Operators.{working_type, unary_word, binary_word, deci
 use Rattle.cc_types.specs.Scope as scope
 use Rattle.cc_types.specs.Scope.{Binding, Visible, in_scope, opened, declared, scope_behind, scope_behind_beginning}
 use Rattle.cc_types.specs.Types.{value_type, target_type}
-use Rattle.cc_c_laws.specs.declared.cause.Cause.TheVariants.{Index, Depth}
-use Rattle.cc_c_laws.specs.Meaning.{Global, State, Run, Gives, Going, Wrong, Flow, Falls, Breaks, Continues, Returns, then_do, choose, Calls, global_words, with_local_word, with_element, local_word, variable_word, stored, read_element, write_element, given, unless_decided, evaluate, evaluate_all, evaluate_or, Destination, ToVariable, ToElement, destination, old_value, write, new_value, perform, perform_optional, spend_of, spend, behind_flow, behind_body, begin_body, turns, with_local, declare, start, left_scope, in_block, execute, execute_all, Function, functions, function_named, bound, result_of, run_optional, read_input, most_open, calls, outcome_of, initial_globals, source_behavior}
+use Rattle.cc_c_semantics.specs.declared.cause.Cause.TheVariants.{Index, Depth}
+use Rattle.cc_c_semantics.specs.Meaning.{Global, State, Run, Gives, Going, Wrong, Flow, Falls, Breaks, Continues, Returns, then_do, choose, Calls, global_words, with_local_word, with_element, local_word, variable_word, stored, read_element, write_element, given, unless_decided, evaluate, evaluate_all, evaluate_or, Destination, ToVariable, ToElement, destination, old_value, write, new_value, perform, perform_optional, spend_of, spend, behind_flow, behind_body, begin_body, turns, with_local, declare, start, left_scope, in_block, execute, execute_all, Function, functions, function_named, bound, result_of, run_optional, read_input, most_open, calls, outcome_of, initial_globals, source_behavior}
 use Rattle.cc_earlier.specs.Texts.{ArePlain, EarlierGlobal, earlier_with_element, earlier_global, AreOfWords, EarlierMeaningStays}
 use Rattle.cc_earlier.specs.Meaning as earlier
 

@@ -16,10 +16,10 @@ use Rattle.cc_types.specs.Types.{array_length, object_width, object_words, initi
 use Rattle.cc_types.specs.Rules.{object_errors, objects_errors, external_errors, externals_errors}
 use Rattle.cc_types.specs.Limits.{most_words, most_functions, too_many, past, function_names, objects, object_name, word_excesses, externals_excesses}
 use Rattle.cc_types.specs.declared.rule.RuleError.{RuleError}
-use Rattle.cc_c_laws.specs.Meaning.{Global, global_words, with_element, initial_global}
-use Rattle.cc_c_laws.specs.Function.{Shared, Effect, Answer, Answers, Unfinished, Failed, call_function, body_of_function}
-use Rattle.cc_c_laws.specs.Calls.{NamedSize, sizes, KeepsObjects}
-use Rattle.cc_c_laws.proofs.Kept.{calls_keep_objects, bodies_keep_objects}
+use Rattle.cc_c_semantics.specs.Meaning.{Global, global_words, with_element, initial_global}
+use Rattle.cc_c_semantics.specs.Function.{Shared, Effect, Answer, Answers, Unfinished, Failed, call_function, body_of_function}
+use Rattle.cc_c_semantics.specs.Calls.{NamedSize, sizes, KeepsObjects}
+use Rattle.cc_c_semantics.proofs.Kept.{calls_keep_objects, bodies_keep_objects}
 use Rattle.cc_earlier.specs.Texts.{HasNoChar, IsNoByteArray, IsPlain, ArePlain, EarlierObject, EarlierExternal, EarlierExternals, EarlierUnit, EarlierTreesStay, NoTreeIsNew, earlier_object_errors, earlier_objects_errors, earlier_external_errors, earlier_externals_errors, earlier_object_words, earlier_word_excesses, EarlierRulesStay, EarlierGlobal, earlier_words_of, earlier_with_element, earlier_initial_words, earlier_global, AreOfWords, StayOfWords, EarlierMeaningStays}
 
 -- ---- the grammar
@@ -88,7 +88,7 @@ earlier_trees_stay tokens trees text tree h =
       plain_unit tree s.0 s.1,
     )
 
--- if two rows have no token `char`, neither has one
+-- if two lists of tokens together have no token `char`, neither has one
 no_char_apart : (xs ys : List Measured) → HasNoChar (plain_tokens (xs ++ ys)) → HasNoChar (plain_tokens xs) × HasNoChar (plain_tokens ys)
 no_char_apart [] ys h = (tt, h)
 no_char_apart (x ∷ xs) ys h = let q = no_char_apart xs ys h.1 in ((h.0, q.0), q.1)

@@ -1,7 +1,7 @@
 -- A text that had a typed unit before there were arrays of `unsigned char` has the same unit and the same behavior, and an image that
 -- agreed with it still agrees. The past is described by the clauses as they were then: the grammar, the rules and the limits by those of
 -- `Texts`, a run by `Meaning`. A reader has to compare one thing: that each other clause to which they lead has the same text as then, as
--- those pages say, and so have the machine and `Follows`.
+-- those pages say, and that the machine and `Follows` have the same text too.
 use Rattle.std.specs.Prelude.{◌≡◌, ℕ, true, List, []}
 use Rattle.cc_rv32.specs.declared.image.Image.{Image}
 use Rattle.cc_tokens.specs.Token.{Lexeme}
@@ -12,8 +12,8 @@ use Rattle.cc_types.specs.Scope.{first_file_scope}
 use Rattle.cc_types.specs.Rules.{defines_main, undefined_calls}
 use Rattle.cc_types.specs.Checked.{IsChecked}
 use Rattle.cc_types.specs.Verdict.{source_with}
-use Rattle.cc_c_laws.specs.Meaning.{source_behavior}
-use Rattle.cc_c_laws.specs.Numbered.{without_cause}
+use Rattle.cc_c_semantics.specs.Meaning.{source_behavior}
+use Rattle.cc_c_semantics.specs.Numbered.{without_cause}
 use Rattle.cc_simulation.specs.Behavior.{AreWords, Outcome, Follows}
 use Rattle.cc_link.specs.Agree.{image_behavior, Agree}
 use Rattle.cc_earlier.specs.Texts.{HasNoChar, EarlierText, earlier_externals_errors, earlier_excesses}
@@ -54,7 +54,7 @@ EarlierProgramsStay =
 abbrev pub EarlierImagesAgree : Type 0
 EarlierImagesAgree = (text : List ℕ) (image : Image) → EarlierAgree text image → Agree text image
 
--- with a text without the word `char`, no image agrees now that did not agree then
+-- no image that did not agree then agrees now with a text without the word `char`
 abbrev pub NoAgreementIsNew : Type 0
 NoAgreementIsNew =
     (text : List ℕ) (tokens : List Lexeme) (image : Image) → IsTokens text tokens → HasNoChar tokens → Agree text image → EarlierAgree text image

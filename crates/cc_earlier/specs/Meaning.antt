@@ -1,6 +1,7 @@
--- What a program did before there were arrays of `unsigned char`: each clause of `cc_c_laws/specs/Meaning` that has the state of a run, as
--- it was then, over objects that have only words (`EarlierGlobal` of `Texts`). Clauses without a state are not repeated: none of them has
--- another text now, except those on arrays of `unsigned char` themselves. The numbers in parentheses are clauses of ISO/IEC 9899:1999.
+-- What a program did before there were arrays of `unsigned char`: each clause of `cc_c_semantics/specs/Meaning` that mentions the state of a
+-- run, as it was then, over objects that have only words (`EarlierGlobal` of `Texts`). Clauses that mention no state are not repeated: none of
+-- them has a different text now, except those on arrays of `unsigned char` themselves. The numbers in parentheses are clauses of ISO/IEC
+-- 9899:1999.
 use Rattle.std.specs.Prelude.{ℕ, zero, suc, ◌+◌, ◌-◌, true, false, List, [], ◌∷◌, ◌++◌, length, drop, nat_lt, if◌then◌else◌, Option, Some, None, is_some, unwrap_or, slice_get, codes}
 use Rattle.cc_tokens.specs.declared.scalar.Scalar.{Scalar}
 use Rattle.cc_tokens.specs.declared.scalar.Scalar.TheVariants.{Int}
@@ -12,11 +13,11 @@ use Rattle.cc_types.specs.Operators.{working_type, unary_word, binary_word, deci
 use Rattle.cc_types.specs.Scope as scope
 use Rattle.cc_types.specs.Scope.{Binding, Visible, in_scope, opened, declared, scope_behind, scope_behind_beginning}
 use Rattle.cc_types.specs.Types.{value_type, target_type}
-use Rattle.cc_c_laws.specs.Outcome as outcome
-use Rattle.cc_c_laws.specs.Outcome.{Outcome}
-use Rattle.cc_c_laws.specs.Meaning.{Local, Flow, Falls, Breaks, Continues, Returns, local_word, with_local_word, cause_of, Destination, ToVariable, ToElement, Function, functions, function_named, bound, result_of, most_open}
-use Rattle.cc_c_laws.specs.declared.cause.Cause.{Cause}
-use Rattle.cc_c_laws.specs.declared.cause.Cause.TheVariants.{Index, Depth}
+use Rattle.cc_c_semantics.specs.Outcome as outcome
+use Rattle.cc_c_semantics.specs.Outcome.{Outcome}
+use Rattle.cc_c_semantics.specs.Meaning.{Local, Flow, Falls, Breaks, Continues, Returns, local_word, with_local_word, cause_of, Destination, ToVariable, ToElement, Function, functions, function_named, bound, result_of, most_open}
+use Rattle.cc_c_semantics.specs.declared.cause.Cause.{Cause}
+use Rattle.cc_c_semantics.specs.declared.cause.Cause.TheVariants.{Index, Depth}
 use Rattle.cc_earlier.specs.Texts.{EarlierGlobal, earlier_words_of, earlier_with_element, earlier_initial_globals}
 
 -- ---- the state of a run, and what a part of a run results in
@@ -48,7 +49,7 @@ abbrev pub choose : {A : Type 0} → ℕ → (State → A) → (State → A) →
 choose zero holds fails s = fails s
 choose (suc w) holds fails s = holds s
 
--- what a call of a function does, by its name, on the words of its arguments
+-- what a call does, given the function's name and the words of its arguments
 abbrev pub Calls : Type 0
 Calls = List ℕ → List ℕ → State → Run ℕ
 
@@ -108,7 +109,7 @@ abbrev mutual
   evaluate_all (more e rest) bs call s =
       then_do (evaluate e bs call s) (λ w t. then_do (evaluate_all rest bs call t) (λ ws u. Gives (w ∷ ws) u))
 
--- an expression that may be left out, and the word if it is
+-- the value of an expression that may be left out, or this word if it is
 abbrev pub evaluate_or : ℕ → Option Expr → List Binding → Calls → State → Run ℕ
 evaluate_or w None bs call s = Gives w s
 evaluate_or w (Some e) bs call s = evaluate e bs call s
@@ -120,17 +121,17 @@ abbrev pub destination : Target → List Binding → Calls → State → Run Des
 destination (AtVariable x) bs call s = Gives (ToVariable x.text) s
 destination (AtElement x e) bs call s = then_do (evaluate e bs call s) (λ i t. Gives (ToElement x.text i) t)
 
--- its old value
+-- the old value of a destination
 abbrev pub old_value : Destination → State → Run ℕ
 old_value (ToVariable x) s = Gives (variable_word x s) s
 old_value (ToElement x i) s = read_element x i s
 
--- the write
+-- the write to a destination
 abbrev pub write : Destination → ℕ → State → Run Flow
 write (ToVariable x) w s = Gives Falls (stored x w s)
 write (ToElement x i) w s = write_element x i w s
 
--- what is written, from the right side's word: this word for `=`, else what the operator gives on the old value and it
+-- what is written, given the right side's word: this word for `=`, else what the operator gives for the old value and this word
 abbrev pub new_value : Option BinaryOperator → Scalar → Scalar → Destination → ℕ → State → Run ℕ
 new_value None t u d w s = Gives w s
 new_value (Some op) t u d w s = then_do (old_value d s) (λ old v. given op (binary_word op (working_type op t u) old w) v)
@@ -215,7 +216,7 @@ abbrev pub return : Option Expr → List Binding → Calls → State → Run Flo
 return e bs call s = then_do (evaluate_or 0 e bs call s) (λ w t. Gives (Returns w) t)
 
 -- what a statement does, and a list of statements, if at most n steps are left (6.8). A block and each part of a statement are scopes, and
--- a `for` header is one around its body (6.8.2, 6.8.4, 6.8.5); a condition that is left out counts as true (6.8.5.3)
+-- a `for` header is a scope around its body (6.8.2, 6.8.4, 6.8.5); a condition that is left out counts as true (6.8.5.3)
 abbrev mutual
   pub execute : Stmt → ℕ → Calls → Visible → State → Run Flow
   execute (Block all) n call v s = in_block (execute_all all n call (opened v)) s

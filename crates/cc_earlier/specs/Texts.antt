@@ -1,7 +1,7 @@
 -- A text that had a tree, a typed unit and a meaning before there were arrays of `unsigned char` has the same ones now. The clauses that
 -- such arrays changed are here as they were then, each with `earlier_` before its name. What is claimed: each present clause does the same
 -- if no object is such an array, and no object of an earlier text is one. A reader has to compare one thing: that every other clause of the
--- grammar, the rules, the limits and the meaning is as it was. None of them has another text now, except clauses on arrays of `unsigned
+-- grammar, the rules, the limits and the meaning is as it was. None of them has a different text now, except clauses on arrays of `unsigned
 -- char` themselves.
 use Rattle.std.specs.Prelude.{◌≡◌, ℕ, ◌+◌, ◌-◌, List, [], ◌∷◌, ◌++◌, length, map, replicate, nat_lt, if◌then◌else◌, Some, None, unwrap_or, slice_set}
 use Rattle.std.specs.List.{AllByRecursion}
@@ -22,8 +22,8 @@ use Rattle.cc_types.specs.Rules.{broken_if, optional_constant_errors, constants_
 use Rattle.cc_types.specs.Limits.{most_words, most_functions, too_many, past, function_names, objects, object_name, externals_excesses, excesses}
 use Rattle.cc_types.specs.declared.rule.RuleError.{RuleError}
 use Rattle.cc_types.specs.declared.rule.Rule.TheVariants.{Redeclared}
-use Rattle.cc_c_laws.specs.Meaning.{Global, global_words, with_element, initial_globals}
-use Rattle.cc_c_laws.specs.Function.{Shared, Effect, Answer, Answers, Unfinished, Failed, call_function, body_of_function}
+use Rattle.cc_c_semantics.specs.Meaning.{Global, global_words, with_element, initial_globals}
+use Rattle.cc_c_semantics.specs.Function.{Shared, Effect, Answer, Answers, Unfinished, Failed, call_function, body_of_function}
 
 -- ---- earlier texts
 
@@ -37,7 +37,7 @@ IsNoByteArray (Single x initial) = Unit {0}
 IsNoByteArray (Array x n values) = Unit {0}
 IsNoByteArray (Bytes x n values) = ⊥
 
--- an external declaration of a kind that there was then
+-- an external declaration of a kind that existed then
 abbrev pub IsPlain : External → Type 0
 IsPlain (Declaration s) = Unit {0}
 IsPlain (Definition s body) = Unit {0}
@@ -134,7 +134,7 @@ earlier_word_excesses taken (o ∷ rest) =
 abbrev pub earlier_excesses : List External → List RuleError
 earlier_excesses externals = externals_excesses externals ++ (past most_functions (function_names externals) ++ earlier_word_excesses 0 (objects externals))
 
--- an earlier tree breaks the rules that it broke, and passes the limits that it passed
+-- an earlier tree breaks the rules that it broke, and exceeds the limits that it exceeded
 abbrev pub EarlierRulesStay : Type 0
 EarlierRulesStay =
     (tree : List External) → ArePlain tree
@@ -173,14 +173,14 @@ earlier_global g = record { name = g.name; words = g.words }
 abbrev pub AreOfWords : List Global → Type 0
 AreOfWords gs = AllByRecursion (λ (g : Global). g.width ≡ Word) gs
 
--- objects of words stay so through a call
+-- objects of words are still of words after a call
 abbrev pub StayOfWords : Effect Answer → Type 0
 StayOfWords (Answers a left) = AreOfWords a.shared.globals
 StayOfWords (Unfinished output) = Unit {0}
 StayOfWords (Failed cause output) = Unit {0}
 
 -- The clauses on objects read their words, write an element, and give the objects before the run. Each does what it did: an earlier tree
--- begins with objects of words, a write leaves them so, and so does each call and each body
+-- begins with objects of words, a write leaves them of words, and so does each call and each body
 pub record EarlierMeaningStays : Type 0 where
   pub begins : (tree : List External) → ArePlain tree → AreOfWords (initial_globals tree) × (map earlier_global (initial_globals tree) ≡ earlier_initial_globals tree)
   pub reads : (gs : List Global) (x : List ℕ) → global_words gs x ≡ earlier_words_of (map earlier_global gs) x

@@ -1,4 +1,5 @@
-// What holds for texts from before there were arrays of `unsigned char`, by the clauses as they were then and as they are now.
+// What holds for texts from before there were arrays of `unsigned char`, according to the clauses as they were then and as they
+// are now.
 
 ghost use Rattle.cc_earlier.specs.Texts.{EarlierTreesStay, NoTreeIsNew, EarlierRulesStay, EarlierMeaningStays};
 ghost use Rattle.cc_earlier.specs.Images.{EarlierImagesAgree, EarlierProgramsStay, EarlierUnitsStay, NoAgreementIsNew};
@@ -19,7 +20,7 @@ pub fn earlier_texts_stay()
 }
 
 /// A text that had a typed unit before there were arrays of `unsigned char` has it now, and its program does what it did. An image that
-/// agreed with the text agrees with it now. With a text without the word `char`, no image agrees now that did not agree then.
+/// agreed with the text agrees with it now. No image that did not agree then agrees now with a text without the word `char`.
 pub fn earlier_images_agree()
     ensures units { EarlierUnitsStay }
     ensures programs { EarlierProgramsStay }

@@ -1,4 +1,4 @@
--- The table of the objects' addresses: the part made so far and the part still to come are the whole.
+-- The table of the objects' addresses: the part made so far, followed by the part still to come, is the whole table.
 use Rattle.std.proofs.Common.{◌≡◌, ℕ, zero, suc, ◌+◌, ◌-◌, ◌*◌, ◌≤◌, List, [], ◌∷◌, ◌++◌, true, false, Bool, cond, length, map, get_or, min, nat_lt, refl, sym, ap, ◌∙◌, subst, append_assoc, length-append, arith}
 use Rattle.std.proofs.lemmas.Bool.Decides.{nat_tests}
 use Rattle.cc_words.specs.Widths.{words_of}
@@ -7,11 +7,11 @@ use Rattle.cc_types.specs.Types.{object_elements, object_words}
 use Rattle.cc_types.specs.Limits.{objects, object_name, too_many, most_words, word_excesses, past, most_functions, function_names, externals_excesses}
 use Rattle.cc_types.specs.Typed.{IsTyped, IsWithinLimits}
 use Rattle.cc_types.specs.declared.rule.RuleError.{RuleError}
-use Rattle.cc_c_laws.specs.Layout.{laid_from}
-use Rattle.cc_c_laws.specs.Meaning.{Global, initial_globals}
-use Rattle.cc_c_laws.specs.Numbered.{objects_in, objects_of}
-use Rattle.cc_c_laws.specs.Calls as calls
-use Rattle.cc_c_laws.specs.Calls.{sizes, laid_sizes, ObjectsAreSized}
+use Rattle.cc_resolve.specs.Layout.{laid_from}
+use Rattle.cc_c_semantics.specs.Meaning.{Global, initial_globals}
+use Rattle.cc_c_semantics.specs.Numbered.{objects_in, objects_of}
+use Rattle.cc_c_semantics.specs.Calls as calls
+use Rattle.cc_c_semantics.specs.Calls.{sizes, laid_sizes, ObjectsAreSized}
 use Rattle.cc_rv32.specs.Machine.{globals_from, globals_to}
 use Rattle.cc_simulation.specs.World.{Size, size_of}
 use Rattle.cc_emit.specs.Contract.{size_words}
@@ -68,7 +68,7 @@ behind_append : (a : ℕ) (xs ys : List Object) → address_behind a (xs ++ ys) 
 behind_append a [] ys = refl
 behind_append a (o ∷ xs) ys = behind_append (a + 4 * object_words o) xs ys
 
--- a declaration's objects
+-- the same holds after the addresses of a declaration's objects were added
 pub listing_some : (all : List Object) (new new' : List ℕ) (a b : ℕ) (os rest : List Object) → Listing globals_from all [] new a (os ++ rest) → new' ≡ new ++ bases_from a os → b ≡ address_behind a os → Listing globals_from all [] new' b rest
 listing_some all new new' a b os rest h e s = record {
   bases = ap (λ n. new' ++ bases_from n rest) s ∙ ap (λ xs. xs ++ bases_from (address_behind a os) rest) e ∙ append_assoc new (bases_from a os) (bases_from (address_behind a os) rest) ∙ ap (λ xs. new ++ xs) (sym (bases_append a os rest)) ∙ h.bases;
@@ -89,7 +89,7 @@ length_bases : (a : ℕ) (os : List Object) → length (bases_from a os) ≡ len
 length_bases a [] = refl
 length_bases a (o ∷ os) = ap suc (length_bases (a + 4 * object_words o) os)
 
--- the sum of the entries before the one with that number
+-- the sum of the entries before the entry with that number
 abbrev sum_before : List ℕ → ℕ → ℕ
 sum_before [] g = 0
 sum_before (n ∷ ns) zero = 0

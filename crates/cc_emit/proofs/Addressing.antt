@@ -1,4 +1,5 @@
--- The code: the steps so far, each with what is known about its address, and those of the rest are those of all.
+-- The code: the steps so far, each with what is known about its address, followed by those of the rest, are all the steps of the
+-- function.
 use Rattle.std.proofs.Common.{◌≡◌, ℕ, ◌+◌, ◌*◌, ◌^◌, ◌<◌, ◌≤◌, Bool, true, false, List, [], ◌∷◌, ◌++◌, length, get_or, drop, nat_lt, refl, sym, ap, ap₂, ◌∙◌, subst, append_assoc, arith}
 use Rattle.std.specs.Prelude.{if◌then◌else◌}
 use Rattle.std.specs.List.{AllByRecursion}
@@ -34,7 +35,7 @@ so_far_all base sets_pointer code i held steps le o = sym (append_none steps) �
     append_none [] = refl
     append_none (x ∷ xs) = ap (λ l. x ∷ l) (append_none xs)
 
--- ---- the number of instructions of accesses: those so far and those of the rest are those of all
+-- ---- the numbers of instructions of the accesses so far and of the accesses of the rest add up to the whole
 
 abbrev pub Sized : (base : ℕ → ℕ) → (sets_pointer : Bool) → (code : List Step) → (index : ℕ) → Scratch → (reach size : ℕ) → Type 0
 Sized base sets_pointer code i held reach n =

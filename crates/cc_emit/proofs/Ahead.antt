@@ -1,4 +1,4 @@
--- The code: what stands before a frame.
+-- The code finds what comes before a frame.
 use Rattle.std.proofs.Common.{◌≡◌, ℕ, zero, suc, ◌+◌, ◌-◌, ◌<◌, ◌⊎◌, List, [], ◌∷◌, Bool, Option, Some, true, false, length, get_or, drop, take, refl, sym, ap, ap₂, ◌∙◌, subst, inl, inr, arith}
 use Rattle.std.specs.Prelude.{if◌then◌else◌, ◌==◌, option_map}
 use Rattle.std.specs.List.{AllByRecursion}
@@ -19,7 +19,7 @@ step_then code i s lt is = drop_more code i s lt ∙ ap (λ x. x ∷ drop (i + 1
 
 -- ---- the ending to which a label leads
 
--- a label's place is empty, or begins with a label
+-- from a label's place on there are no steps, or the first one is a label
 abbrev Begins : List Step → Type 0
 Begins steps = (steps ≡ []) ⊎ ((n : ℕ) × (rest : List Step) × (steps ≡ One (Label n) ∷ rest))
 
@@ -63,7 +63,7 @@ Light code n = (all : List Step) → early_from all code ≡ option_map (with_be
 pub ahead_says : (slots : ℕ) (code : List Step) (z : Option found.Ahead) (a : found.Ahead) → z ≡ Some a → option_map (shown code) z ≡ early slots code → early slots code ≡ Some (shown code a)
 ahead_says slots code z a e q = sym q ∙ ap (option_map (shown code)) e
 
--- what is asked of the code before the frame, and of that in it
+-- what is required of the code before the frame, and of the code in the frame
 pub record Handed (slots count : ℕ) (code : List Step) : Type 0 where
   pub labels_below : AllByRecursion (λ label. label < count) (labels code)
   pub fit : (functions : ℕ) × (all : List ℕ) × AllByRecursion (λ label. label < count) all × AllByRecursion (IsStep slots functions all) code

@@ -1,4 +1,4 @@
--- Registers, memory, locations and words: what is read after writes, and what is a word.
+-- Registers, memory, locations and words: what is read after writes, and which numbers are words.
 use Rattle.std.proofs.Common.{◌≡◌, ℕ, zero, suc, ◌+◌, ◌-◌, ◌*◌, ◌%◌, ◌^◌, ◌<◌, ◌≤◌, ◌⊎◌, List, [], ◌∷◌, ◌++◌, Some, None, true, false, Bool, length, get_or, take, drop, refl, ap, ◌∙◌, inl, inr, arith}
 use Rattle.std.specs.Prelude.{◌==◌, if◌then◌else◌, ◌&&◌, not, slice_get}
 use Rattle.std.proofs.lemmas.Bool.Decides.{eqb_tells, nat_tests}
@@ -48,7 +48,7 @@ cond_below false w v n p q = q
 pub set_word : (f : ℕ → ℕ) (d w : ℕ) → w < 2 ^ 32 → ((r : ℕ) → f r < 2 ^ 32) → (r : ℕ) → with_register f d w r < 2 ^ 32
 set_word f d w p q r = cond_below ((r == d) && not (d == 0)) w (f r) (2 ^ 32) p (q r)
 
--- a write to x0 is lost, and writing what a register holds already changes nothing
+-- a write to x0 changes nothing, and neither does writing what a register already holds
 pub with_zero : (f : ℕ → ℕ) (w : ℕ) → with_register f 0 w ≡ f
 with_zero f w = λ i r. zero_at (r == 0) w (f r) i
   where
@@ -127,7 +127,7 @@ pub rest_words : (xs : List ℕ) → AreWords xs → AreWords (rest_of xs)
 rest_words [] p = tt
 rest_words (x ∷ xs) p = p.1
 
--- the machine's input is taken as the world's
+-- the machine takes its input as the world takes its input
 pub same_first : (xs : List ℕ) → machine.first_or_zero xs ≡ first_or_zero xs
 same_first [] = refl
 same_first (x ∷ xs) = refl
@@ -158,7 +158,7 @@ pub drop_listed : (k n : ℕ) (f : ℕ → ℕ) (ws : List ℕ) → drop k (list
 drop_listed zero n f ws = refl
 drop_listed (suc k) n f ws = drop_listed k (suc n) f ws
 
--- an element that is there
+-- if an element is found, its index is within the list
 pub got : (ws : List ℕ) (i v : ℕ) → slice_get ws i ≡ Some v → (i < length ws) × (get_or ws i 0 ≡ v)
 got [] i v e = absurd (let z : None ≡ Some v = e in cc)
 got (w ∷ ws) zero v e = (omega arith, let z : Some w ≡ Some v = e in cc)

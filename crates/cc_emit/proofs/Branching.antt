@@ -1,4 +1,4 @@
--- What branches show: a branch is taken if a comparison's value is not 0.
+-- What a branch shows about a comparison: it is taken if the comparison's value is not 0.
 use Rattle.std.proofs.Common.{◌≡◌, ℕ, ◌-◌, ◌^◌, ◌<◌, List, Option, Some, None, true, false, Bool, refl, sym, ap, ◌∙◌, subst, arith}
 use Rattle.std.specs.Prelude.{if◌then◌else◌, ◌==◌, not, nat_lt, int_lt, option_map}
 use Rattle.cc_words.specs.Words.{eq, le_s, le_u, lt_s, lt_u, ne, signed_value, truth_value}
@@ -74,7 +74,7 @@ nonzero_told u = ap (λ n. not (n == 0)) (not_zero u) ∙ truth_told (not (u == 
 
 -- ---- two registers
 
--- an operator that compares has a value, and its branch shows it
+-- an operator that compares has a value, and its branch shows whether that is 0
 pub record Compares (o : binary.Binary) (a b : ℕ) (g : ℕ → ℕ) : Type 0 where
   pub value : ℕ
   pub applied : apply_binary o (g a) (g b) ≡ Some value
@@ -137,7 +137,7 @@ opposed_tells None g u c f e = none_some c e
 opposed_tells (Some d) g u c f e =
     subst (λ b. Tells b g (lt_u u 1)) (some (opposed d) c e) (opposite_taken d.operation (g d.left) (g d.right) ∙ ap not (f d refl) ∙ not_not (u == 0) ∙ sym (zero_told u))
 
--- the branch on x0 that a recipe has shows the recipe's word
+-- the branch on x0 that a recipe has shows whether the recipe's word is 0
 pub alone_tells : (k : WordRecipe) (a : ℕ) (g : ℕ → ℕ) (v : ℕ) (c : Condition) → g 0 ≡ 0 → IsWord (g a) → IsRightWord k (g a) v → against_zero k a ≡ Some c → Tells c g v
 alone_tells (WithImmediate i n) a g v c z w right e = subst (Tells c g) right (immediate_tells i n a g c z w e)
 alone_tells (ShiftBy i n) a g v c z w right e = none_some c e
@@ -148,7 +148,7 @@ alone_tells (NonzeroOfImmediate i n) a g v c z w right e = none_some c e
 
 -- ---- after a recipe's first instruction
 
--- what that instruction computes from its register's word
+-- what a recipe's first instruction computes from its register's word
 abbrev pub first_word : WordRecipe → (w : ℕ) → ℕ
 first_word (WithImmediate i n) w = computed (immediate_operation i) w n
 first_word (ShiftBy i n) w = computed (shift_operation i) w n
@@ -163,7 +163,7 @@ first_executes floor (OnZero i) to a s z = ap (λ n. puts to (computed i n (s.re
 first_executes floor (ZeroOfImmediate i n) to a s z = refl
 first_executes floor (NonzeroOfImmediate i n) to a s z = refl
 
--- it is a word, and how it compares to 0 shows the recipe's word
+-- the first word is a word, and how it compares with 0 shows whether the recipe's word is 0
 abbrev pub TellsFirst : WordRecipe → (w v : ℕ) → Type 0
 TellsFirst k w v = (first_word k w < 2 ^ 32) × (is_taken (asked_of k) (first_word k w) 0 ≡ not (v == 0))
 

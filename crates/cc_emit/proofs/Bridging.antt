@@ -1,4 +1,4 @@
--- Places counted from the end are the places of the definition, and the items so far together with those still to come are the function's
+-- Places counted from the end are the places of the definition, and the items so far, followed by those still to come, are the function's
 -- code.
 use Rattle.std.proofs.Common.{◌≡◌, ℕ, zero, suc, ◌+◌, ◌-◌, ◌*◌, ◌^◌, ◌<◌, ◌≤◌, List, [], ◌∷◌, ◌++◌, Option, true, false, Bool, length, get_or, drop, refl, sym, ap, ◌∙◌, subst, inl, inr, append_assoc, length-append, arith}
 use Rattle.std.specs.Prelude.{if◌then◌else◌, nat_lt, Contains}
@@ -27,7 +27,7 @@ use Rattle.cc_emit.specs.Emission.{size, size_of_step, items_of_step, long_size,
 use Rattle.cc_emit.specs.internal.Behind.{reaches, long_behind, near_behind, behind, label_behind, IsTable, ArePlaces, place_from, LeadsBelow, StepLeadsBelow}
 use Rattle.cc_emit.proofs.Places.{size_is, length_pointer_items, length_stack_moved, length_saving, AreSeen, IsClose, close_nears, next_nears, seen_first, seen_next, stays_near}
 
--- ---- about a label, a step asks only whether it is near, and where it is
+-- ---- a step uses two facts about a label: whether it is near, and where it is
 
 abbrev SameNearStep : (p q : ℕ → Bool) → Step → Type 0
 SameNearStep p q (One (IfNonzero r n)) = p n ≡ q n
@@ -144,7 +144,7 @@ place_is f all first second end l p leads lt = let e = sum_of f all first second
 pub place_within : (f : Frame) (all : List Addressed) (first second : List ℕ) (end l : ℕ) → ArePlaces f all first second end → AllByRecursion (LeadsBelow (length first)) all → l < length second → get_or second l 0 ≤ end
 place_within f all first second end l p leads lt = let long = p.of_second.long in let e = sum_of f all first second end l p leads (omega arith) in omega arith
 
--- ---- the items so far
+-- ---- the items that were put so far
 
 pub record Emitting (base : ℕ → ℕ) (f : Frame) (all : List Addressed) (index here : ℕ) (items : List PieceItem) : Type 0 where
   pub long : ℕ
@@ -238,14 +238,14 @@ near_reaches base f all first second end i here items p leads o l lt near =
     let n = close_nears (length items) (place_from second end l) (near_close base f all first second end i here items p leads o l lt near) in
     reach_from (length items) (place_from second end l) n.0 n.1
 
--- from the next place too
+-- a near branch also reaches its label from the next place
 pub next_reaches : (base : ℕ → ℕ) (f : Frame) (all : List Addressed) (first second : List ℕ) (end i here : ℕ) (items : List PieceItem) → ArePlaces f all first second end → AllByRecursion (LeadsBelow (length first)) all → Emitting base f all i here items
     → (l : ℕ) → l < length second → near_behind first here l ≡ true → reaches (length items + 1) (place_from second end l) ≡ true
 next_reaches base f all first second end i here items p leads o l lt near =
     let n = next_nears (length items) (place_from second end l) (near_close base f all first second end i here items p leads o l lt near) in
     reach_from (length items + 1) (place_from second end l) n.0 n.1
 
--- ---- labels that steps lead to
+-- ---- the labels to which steps lead
 
 pub contained_below : (n : ℕ) (ls : List ℕ) (l : ℕ) → Contains ls l → AllByRecursion (λ label. label < n) ls → l < n
 contained_below n [] l (k, lt, is) all = absurd (omega arith)

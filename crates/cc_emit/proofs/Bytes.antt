@@ -1,5 +1,6 @@
--- The machine's memory element by element. The machine keeps a word at each multiple of 4, and a byte is a part of one. So each fact is the
--- one about words, and for bytes one about the parts of a word, for the four places that a byte has in it.
+-- The machine's memory element by element. The machine keeps a word at each multiple of 4, and a byte is a part of one. So each fact
+-- follows from the one about words, and for bytes also from one about the parts of a word, for each of the four places that a byte can have
+-- in it.
 use Rattle.std.proofs.Common.{◌≡◌, ℕ, zero, suc, ◌+◌, ◌-◌, ◌*◌, ◌/◌, ◌%◌, ◌^◌, ◌<◌, ◌≤◌, ◌⊎◌, true, refl, sym, ap, ◌∙◌, inl, inr, arith}
 use Rattle.std.proofs.lemmas.Bool.Decides.{eqb_tells, nat_tests}
 use Rattle.cc_words.specs.declared.operators.Width.{Width}
@@ -22,7 +23,7 @@ same_tells Word Byte e = absurd (cc)
 abbrev pub byte_in : (w k : ℕ) → ℕ
 byte_in w k = w / 2 ^ (8 * k) % 2 ^ 8
 
--- a byte that is put into a word is there
+-- a byte that is put into a word is found there
 pub byte_same : (w v k : ℕ) → k < 4 → byte_in (with_part w (8 * k) 8 v) k ≡ v % 2 ^ 8
 byte_same w v zero lt = omega arith
 byte_same w v (suc zero) lt = omega arith
@@ -30,7 +31,7 @@ byte_same w v (suc (suc zero)) lt = omega arith
 byte_same w v (suc (suc (suc zero))) lt = omega arith
 byte_same w v (suc (suc (suc (suc k)))) lt = absurd (omega arith)
 
--- and the others stay
+-- the other bytes of the word stay the same
 pub byte_other : (w v k j : ℕ) → k < 4 → j < 4 → (j ≡ k → ⊥) → byte_in (with_part w (8 * k) 8 v) j ≡ byte_in w j
 byte_other w v zero zero lk lj e = absurd (e refl)
 byte_other w v zero (suc zero) lk lj e = omega arith
@@ -54,7 +55,7 @@ byte_other w v (suc zero) (suc (suc (suc (suc j)))) lk lj e = absurd (omega arit
 byte_other w v (suc (suc zero)) (suc (suc (suc (suc j)))) lk lj e = absurd (omega arith)
 byte_other w v (suc (suc (suc zero))) (suc (suc (suc (suc j)))) lk lj e = absurd (omega arith)
 
--- the word is one
+-- the result is a word
 pub byte_word : (w v k : ℕ) → k < 4 → w < 2 ^ 32 → with_part w (8 * k) 8 v < 2 ^ 32
 byte_word w v zero lt b = omega arith
 byte_word w v (suc zero) lt b = omega arith
@@ -64,7 +65,7 @@ byte_word w v (suc (suc (suc (suc k)))) lt b = absurd (omega arith)
 
 -- ---- an element stored
 
--- an element that is stored is loaded again, as much of it as an element keeps
+-- an element that is stored is loaded again, as far as its width keeps it
 pub loaded_same : (w : Width) (m : ℕ → ℕ) (a v : ℕ) → loaded (load_of w) (stored (store_of w) m a v) a ≡ kept w v
 loaded_same Byte m a v = ap (λ n. byte_in n (a % 4)) (word_same m (a - a % 4) (with_part (m (a - a % 4)) (8 * (a % 4)) 8 v)) ∙ byte_same (m (a - a % 4)) v (a % 4) (omega arith)
 loaded_same Word m a v = word_same m a v
@@ -81,31 +82,31 @@ byte_beside m a b v ne =
       | inr t ↦ ap (λ n. byte_in n (b % 4)) (word_other m at w (b - b % 4) t.1)
     ]
 
--- an element that shares no byte with it stays the same, whatever its width
+-- an element that shares no byte with the stored one stays the same, whatever its width
 pub loaded_other : (w u : Width) (m : ℕ → ℕ) (a b v : ℕ) → a % bytes w ≡ 0 → b % bytes u ≡ 0 → (a + bytes w ≤ b) ⊎ (b + bytes u ≤ a) → loaded (load_of u) (stored (store_of w) m a v) b ≡ loaded (load_of u) m b
 loaded_other Byte Byte m a b v za zb apart = byte_beside m a b v (λ q. elim apart [ inl h ↦ omega arith | inr h ↦ omega arith ])
 loaded_other Byte Word m a b v za zb apart = word_other m (a - a % 4) (with_part (m (a - a % 4)) (8 * (a % 4)) 8 v) b (λ q. elim apart [ inl h ↦ omega arith | inr h ↦ omega arith ])
 loaded_other Word Byte m a b v za zb apart = ap (λ n. byte_in n (b % 4)) (word_other m a v (b - b % 4) (λ q. elim apart [ inl h ↦ omega arith | inr h ↦ omega arith ]))
 loaded_other Word Word m a b v za zb apart = word_other m a v b (λ q. elim apart [ inl h ↦ omega arith | inr h ↦ omega arith ])
 
--- the words after it stay the same
+-- the words after a stored element stay the same
 pub words_behind : (w : Width) (m : ℕ → ℕ) (a v c : ℕ) → a < c → stored (store_of w) m a v c ≡ m c
 words_behind Byte m a v c lt = word_other m (a - a % 4) (with_part (m (a - a % 4)) (8 * (a % 4)) 8 v) c (λ q. omega arith)
 words_behind Word m a v c lt = word_other m a v c (λ q. omega arith)
 
--- the memory holds words
+-- after a store the memory still holds words
 pub stored_words : (w : Width) (m : ℕ → ℕ) (a v : ℕ) → v < 2 ^ 32 → ((b : ℕ) → m b < 2 ^ 32) → (b : ℕ) → stored (store_of w) m a v b < 2 ^ 32
 stored_words Byte m a v lt all = word_word m (a - a % 4) (with_part (m (a - a % 4)) (8 * (a % 4)) 8 v) (byte_word (m (a - a % 4)) v (a % 4) (omega arith) (all (a - a % 4))) all
 stored_words Word m a v lt all = word_word m a v lt all
 
 -- ---- an element loaded
 
--- an element stays the same if the words up to it do
+-- an element stays the same if the words up to it stay the same
 pub loaded_alike : (w : Width) (m k : ℕ → ℕ) (b : ℕ) → ((c : ℕ) → c ≤ b → k c ≡ m c) → loaded (load_of w) k b ≡ loaded (load_of w) m b
 loaded_alike Byte m k b same = ap (λ n. byte_in n (b % 4)) (same (b - b % 4) (omega arith))
 loaded_alike Word m k b same = same b (omega arith)
 
--- it is a word
+-- a loaded element is a word
 pub loaded_word : (w : Width) (m : ℕ → ℕ) (b : ℕ) → ((c : ℕ) → m c < 2 ^ 32) → loaded (load_of w) m b < 2 ^ 32
 loaded_word Byte m b all = (let n = m (b - b % 4) / 2 ^ (8 * (b % 4)) in let p : n % 2 ^ 8 < 2 ^ 32 = omega arith in p)
 loaded_word Word m b all = all b
@@ -116,7 +117,7 @@ kept_word Word v lt = lt
 
 -- ---- the places of elements
 
--- an element of an object with this many elements, which begins at b
+-- where element i lies in an object that begins at b and has n elements
 pub record Lies (w : Width) (b n i : ℕ) : Type 0 where
   pub low : b ≤ element_place w b i
   pub high : element_place w b i + bytes w ≤ b + 4 * words_of w n
@@ -127,7 +128,7 @@ pub lies : (w : Width) (b n i : ℕ) → b % 4 ≡ 0 → i < n → Lies w b n i
 lies Byte b n i z lt = record { low = omega arith; high = omega arith; aligned = omega arith; ends = omega arith }
 lies Word b n i z lt = record { low = omega arith; high = omega arith; aligned = omega arith; ends = omega arith }
 
--- two elements share no byte
+-- two elements of one object share no byte
 pub elements_apart : (w : Width) (b i j : ℕ) → (j ≡ i → ⊥) → (element_place w b i + bytes w ≤ element_place w b j) ⊎ (element_place w b j + bytes w ≤ element_place w b i)
 elements_apart w b i j ne = elim (less_or_more i j) [ inl lt ↦ inl (less w i j lt) | inr q ↦ elim q [ inl lt ↦ inr (less w j i lt) | inr e ↦ absurd (ne e) ] ]
   where
@@ -138,7 +139,7 @@ elements_apart w b i j ne = elim (less_or_more i j) [ inl lt ↦ inl (less w i j
     less Byte i j lt = omega arith
     less Word i j lt = omega arith
 
--- the machine may load and store it
+-- the machine may load and store an aligned element of the globals
 pub load_accessible : (floor : ℕ) (w : Width) (a : ℕ) → a % bytes w ≡ 0 → globals_from ≤ a → a < globals_to → is_accessible_above floor (load_bytes (load_of w)) a ≡ true
 load_accessible floor Byte a z from to = grind (arith, nat_tests)
 load_accessible floor Word a z from to = grind (arith, nat_tests)

@@ -57,7 +57,7 @@ use Rattle.cc_emit.proofs.Saving.{load_step, store_step}
 use Rattle.cc_emit.proofs.Holding.{IsAddress, IsKnown, IsKnownAt, is_known, element_address, parts_of, upper_stays, address_stays_6}
 use Rattle.cc_emit.proofs.Within.{Within, within_set, within_scratch, within_5, within_as, within_nothing, within_pc, within_slot, within_store, within_read, within_write, above_floor}
 
--- the machine arrives at the place of these items
+-- the machine arrives at the items of the steps `next`, after at least one instruction
 pub record Reaches (x : Site) (next : List Step) (l : Locations) (h : World) (s : State) : Type 0 where
   pub more : ℕ
   pub to : State
@@ -69,7 +69,7 @@ pub record Reaches (x : Site) (next : List Step) (l : Locations) (h : World) (s 
   pub standing : Standing x held long offset next
   pub within : Within x held l h to
 
--- one move, with the words that it takes
+-- the steps do one move, which takes the words of `prefix`
 pub record Stepped (x : Site) (ops : List Step) (l : Locations) (h : World) (s : State) : Type 0 where
   pub prefix : List ℕ
   pub are_words : AreWords prefix
@@ -79,14 +79,14 @@ pub record Stepped (x : Site) (ops : List Step) (l : Locations) (h : World) (s :
   pub moves : (ws : List ℕ) → selected_move x.meaning.arity x.steps (at_steps ops l h (prefix ++ ws)) ≡ Goes (at_steps next locations world ws)
   pub reaches : Reaches x next locations world s
 
--- or no move, since it goes wrong
+-- there is one move, or none because the run goes wrong
 abbrev pub Case : (x : Site) (ops : List Step) (l : Locations) (h : World) (s : State) → Type 0
 Case x ops l h s = Stepped x ops l h s ⊎ ((ws : List ℕ) → selected_move x.meaning.arity x.steps (at_steps ops l h ws) ≡ Fails)
 
 pub reach_more : (x : Site) (next : List Step) (l : Locations) (h : World) (s u : State) → machine_step x.code s ≡ Continues u → Reaches x next l h u → Reaches x next l h s
 reach_more x next l h s u e r = record { more = suc r.more; to = r.to; path = (u, e, r.path); long = r.long; offset = r.offset; held = r.held; at = r.at; standing = r.standing; within = r.within }
 
--- the machine arrives at an item of the piece
+-- the machine arrives at item b of the piece
 pub record Walked (x : Site) (held : Scratch) (l : Locations) (h : World) (s : State) (b : ℕ) : Type 0 where
   pub more : ℕ
   pub to : State
@@ -103,12 +103,12 @@ walk_more x l h s u b e r = record { more = suc r.more; to = r.to; path = (u, e,
 pub walk_by : (x : Site) {held : Scratch} (l : Locations) (h : World) (s t : State) (b : ℕ) → machine_step x.code s ≡ Continues t → t.pc ≡ x.place + 4 * b → Within x held l h t → Walked x held l h s b
 walk_by x l h s t b e at w = record { more = 0; to = t; path = (t, e, refl); at = at; within = w }
 
--- the last instruction sets a register
+-- the last instruction sets a register, and the machine arrives at the next item
 walk_set : (x : Site) {held : Scratch} (l : Locations) (h : World) (s : State) (p b d v : ℕ) (i : Instr) → s.pc ≡ p → x.code.at p ≡ Some i → p + 4 ≡ x.place + 4 * b → execute_above x.code.floor i s ≡ puts d v s → IsTarget x.frame d → v < 2 ^ 32 → Within x held l h s → Walked x (without d held) (put (Register d) v l) h s b
 walk_set x l h s p b d v i e f g k u lt w =
     walk_by x (put (Register d) v l) h s (record s { pc = s.pc + 4; registers = with_register s.registers d v }) b (step_at x.code s p i e f ∙ k) (ap (λ n. n + 4) e ∙ g) (within_set x l h s (s.pc + 4) d v u lt w)
 
--- the last instruction
+-- after the last instruction the machine arrives at the next step
 pub reach_by : (x : Site) {held : Scratch} (next : List Step) (l : Locations) (h : World) (s t : State) (v b : ℕ) → machine_step x.code s ≡ Continues t → t.pc ≡ x.place + 4 * b → Standing x held v b next → Within x held l h t → Reaches x next l h s
 reach_by x {held} next l h s t v b e at st w = record { more = 0; to = t; path = (t, e, refl); long = v; offset = b; held = held; at = at; standing = st; within = w }
 
@@ -116,7 +116,7 @@ pub reach_set : (x : Site) {held : Scratch} (next : List Step) (l : Locations) (
 reach_set x next l h s p q b d v i e f g k u lt st w =
     reach_by x next (put (Register d) v l) h s (record s { pc = s.pc + 4; registers = with_register s.registers d v }) q b (step_at x.code s p i e f ∙ k) (ap (λ n. n + 4) e ∙ g) st (within_set x l h s (s.pc + 4) d v u lt w)
 
--- an item that is executed
+-- an item that is executed is one move
 pub stepped : (x : Site) (ops next : List Step) (l k : Locations) (h g : World) (s : State) → ((ws : List ℕ) → selected_move x.meaning.arity x.steps (at_steps ops l h ws) ≡ Goes (at_steps next k g ws)) → Reaches x next k g s → Stepped x ops l h s
 stepped x ops next l k h g s moves r = record { prefix = []; are_words = tt; next = next; locations = k; world = g; moves = moves; reaches = r }
 
@@ -128,11 +128,11 @@ word_of_register x l h s r u w = let e = w.same r u in let b = w.sound.registers
 
 -- ---- jumps and branches
 
--- the function's items come after its prologue
+-- the items of all steps come after the function's prologue
 abbrev pub StandsWhole : Site → Type 0
 StandsWhole x = Standing x nothing 0 (prologue_size x.frame) x.steps
 
--- to a label
+-- a jump leads to its label
 reach_jump : (x : Site) {held : Scratch} (p n : ℕ) (l : Locations) (h : World) (s : State) → s.pc ≡ p → IsPlace p → x.code.at p ≡ Some (instr.Jal 0 ((x.place + 4 * labels x n + (2 ^ 32 - p)) % 2 ^ 32)) → StandsWhole x → Within x held l h s → Reaches x (place x.steps n) l h s
 reach_jump x p n l h s e from f all w =
     let b = labels x n in
@@ -149,7 +149,7 @@ branch_step code s p q i true e z f to k there =
     step_at code s p i e f ∙ k ∙ ap (λ n. if n % 4 == 0 then Continues (record s { pc = n }) else Traps) (there refl) ∙ ap (λ b. if b then Continues (record s { pc = q }) else Traps) (eqb_yes (q % 4) 0 z)
 branch_step code s p q i false e z f to k there = step_at code s p i e f ∙ k ∙ ap (λ n. Continues (record s { pc = n + 4 })) e
 
--- the long form: the branch over the jump, then the jump or not
+-- a far branch goes over the jump after it, or the jump is executed
 over_reaches : (x : Site) {held : Scratch} (v a n : ℕ) (next rest : List Step) (l : Locations) (h : World) (s : State) (i : Instr) (t : Bool) → s.pc ≡ x.place + 4 * a → Within x held l h s → IsPlace (x.place + 4 * a) → Standing x held v (a + 2) rest → StandsWhole x
     → Stands x (x.place + 4 * a) (Plain i ∷ Go (labels x n) ∷ []) → execute_above x.code.floor i s ≡ branches t (add s.pc 8) s → (if t then rest else place x.steps n) ≡ next → Reaches x next l h s
 over_reaches x v a n next rest l h s i true e inside p st all f k same =
@@ -171,7 +171,7 @@ offset_arrives : (place a b y pc : ℕ) → IsPlace (place + 4 * a) → IsPlace 
 offset_arrives place a b y pc p q n (inl d) e = let x = p.to in let z = q.to in let u = n.0 in let v = n.1 in let g = d.0 in let k = d.1 in omega arith
 offset_arrives place a b y pc p q n (inr d) e = let x = p.to in let z = q.to in let u = n.0 in let v = n.1 in let g = d.0 in let k = d.1 in omega arith
 
--- the short form
+-- a near branch goes to its label, or falls through
 short_reaches : (x : Site) {held : Scratch} (v a n : ℕ) (next rest : List Step) (l : Locations) (h : World) (s : State) (i : Instr) (t : Bool) → s.pc ≡ x.place + 4 * a → Within x held l h s → IsPlace (x.place + 4 * a) → Standing x held v (a + 1) rest → StandsWhole x
     → Nears a (labels x n) → Stands x (x.place + 4 * a) (Plain i ∷ []) → execute_above x.code.floor i s ≡ branches t (add s.pc (distance a (labels x n))) s → (if t then place x.steps n else rest) ≡ next → Reaches x next l h s
 short_reaches x v a n next rest l h s i true e inside p st all nears f k same =
@@ -187,7 +187,7 @@ short_reaches x v a n next rest l h s i false e inside p st all nears f k same =
     let one = branch_step x.code s (x.place + 4 * a) (x.place + 4 * b) i false e target.from.aligned f.0 (add s.pc (distance a b)) k (λ t. there) in
     reach_by x next l h s (record s { pc = x.place + 4 * a + 4 }) v (a + 1) one (omega arith) (subst (Standing x _ v (a + 1)) same st) (within_pc x l h s (x.place + 4 * a + 4) inside)
 
--- a branch in either form; the opposite branch is taken exactly if it is not
+-- a branch in either form; the opposite branch is taken exactly if this one is not
 branch_reaches : (x : Site) {held : Scratch} (v a n : ℕ) (next rest : List Step) (l : Locations) (h : World) (s : State) (c : Condition) (t is : Bool) → s.pc ≡ x.place + 4 * a → Within x held l h s → IsPlace (x.place + 4 * a) → Standing x held v (a + branch_size is) rest → StandsWhole x
     → (is ≡ true → Nears a (labels x n)) → Stands x (x.place + 4 * a) (branch_items is c a (labels x n)) → is_taken c.operation (s.registers c.left) (s.registers c.right) ≡ t → (if t then place x.steps n else rest) ≡ next → Reaches x next l h s
 branch_reaches x v a n next rest l h s c t true e inside p st all nears f taken same =
@@ -196,13 +196,13 @@ branch_reaches x v a n next rest l h s c t false e inside p st all nears f taken
     over_reaches x v a n next rest l h s (Branch (opposite c.operation) c.left c.right 8) (not t) e inside p st all f
     (ap (λ b. branches b (add s.pc 8) s) (opposite_taken c.operation (s.registers c.left) (s.registers c.right) ∙ ap not taken)) (if_not t rest (place x.steps n) ∙ same)
 
--- a branch on a condition that shows a word, either way
+-- a branch, as it is or turned, on a condition that shows whether a word is not 0
 pub told_reaches : (x : Site) {held : Scratch} (v a n : ℕ) (rest : List Step) (l : Locations) (h : World) (s : State) (c : Condition) (word : ℕ) (nonzero is : Bool) → s.pc ≡ x.place + 4 * a → Within x held l h s → IsPlace (x.place + 4 * a) → Standing x held v (a + branch_size is) rest → StandsWhole x
     → (is ≡ true → Nears a (labels x n)) → Stands x (x.place + 4 * a) (branch_items is (turned nonzero c) a (labels x n)) → Tells c s.registers word → Reaches x (led nonzero word rest (place x.steps n)) l h s
 told_reaches x v a n rest l h s c word nonzero is e inside p st all nears f tells =
     branch_reaches x v a n (led nonzero word rest (place x.steps n)) rest l h s (turned nonzero c) _ is e inside p st all nears f (turned_tells nonzero c s.registers word tells) (led_by nonzero word rest (place x.steps n))
 
--- what a near branch reaches from its step's place
+-- a near branch reaches its label from the place of its step
 pub near_nears : (x : Site) {held : Scratch} (w a n : ℕ) (ops : List Step) → Standing x held w a ops → near x w n ≡ true → Nears a (labels x n)
 near_nears x {held} w a n ops st e = close_nears a (labels x n) (stays_near x.frame (all_addressed x) (addressed_at x held ops) w a n st.seen e)
 
@@ -229,7 +229,7 @@ behind_1 place a = omega arith
 behind_2 : (place a : ℕ) → place + 4 * a + 4 + 4 ≡ place + 4 * (a + 2)
 behind_2 place a = omega arith
 
--- a word, by the parts that are not zero
+-- a constant is put into a register, using only its parts that are not zero
 const_walks_by : (x : Site) {held : Scratch} (a to word : ℕ) (no_high no_low : Bool) (l : Locations) (h : World) (s : State) → s.pc ≡ x.place + 4 * a → Within x held l h s → IsTarget x.frame to → word < 2 ^ 32 → (no_high ≡ true → high word ≡ 0) → (no_low ≡ true → low word ≡ 0)
     → Stands x (x.place + 4 * a) (if no_high then addi to 0 (low word) ∷ [] else if no_low then Plain (Lui to (high word)) ∷ [] else Plain (Lui to (high word)) ∷ addi to to (low word) ∷ [])
     → Walked x (without to held) (put (Register to) word l) h s (a + (if no_high then 1 else if no_low then 1 else 2))
@@ -273,7 +273,7 @@ unary_case x w a to b o rest l h s (e, st, inside) =
     stepped x (One (Unary o to b) ∷ rest) rest l (put (Register to) v l) h h s (λ ws. refl)
     (reach_set x rest l h s (x.place + 4 * a) _ (a + 1) to v (unary_instr o to b) e (first_items x w a (One (Unary o to b)) rest st).0 (behind_1 x.place a) same fine.0 (subst (λ n. apply_unary o n < 2 ^ 32) (sym (inside.same b fine.1)) r.1) (standing_tail x w a (One (Unary o to b)) rest st) inside)
 
--- x5, then a question about it
+-- the first instruction sets x5, and the second asks about it
 pub asked : (x : Site) {held : Scratch} (w a to v t : ℕ) (i j : Instr) (rest : List Step) (l : Locations) (h : World) (s : State) → s.pc ≡ x.place + 4 * a → Standing x (without to (without_address held)) w (a + 2) rest → Within x held l h s → Stands x (x.place + 4 * a) (Plain i ∷ Plain j ∷ []) → execute_above x.code.floor i s ≡ puts 5 t s → t < 2 ^ 32
     → ((u : State) → u.registers 5 ≡ t → u.registers 0 ≡ 0 → execute_above x.code.floor j u ≡ puts to v u) → IsTarget x.frame to → v < 2 ^ 32 → Reaches x rest (put (Register to) v l) h s
 asked x w a to v t i j rest l h s e st inside items value b5 question u lt =
@@ -346,7 +346,7 @@ copy_case x w a (Spill i b) rest l h s (e, st, inside) =
 
 -- ---- objects
 
--- the instructions that make an element's address
+-- the states after the instructions that make an element's address
 abbrev shifted : State → ℕ → State
 shifted s i = record s { pc = s.pc + 4; registers = with_register s.registers 5 ((s.registers i * 4) % 2 ^ 32) }
 
@@ -354,7 +354,7 @@ abbrev pub uppered : Remembered → State → ℕ → State
 uppered Nothing s b = record s { pc = s.pc + 4; registers = with_register s.registers 6 (high b * 2 ^ 12) }
 uppered known s b = s
 
--- the sum of a base in one register and a distance in another
+-- the state after the sum of a base in one register and a distance in another goes into x5
 abbrev pub added : State → (base distance : ℕ) → State
 added s q r = record s { pc = s.pc + 4; registers = with_register s.registers 5 (add (s.registers r) (s.registers q)) }
 
@@ -364,7 +364,7 @@ at_element ElementByPointer w s i b = s
 at_element known Byte s i b = added (uppered known s b) (base_register known) i
 at_element known Word s i b = added (uppered known (shifted s i) b) (base_register known) 5
 
--- the number of those instructions
+-- the number of the instructions that make an element's address
 abbrev pub upper_before : Remembered → ℕ
 upper_before Nothing = 1
 upper_before known = 0
@@ -375,7 +375,7 @@ before ElementByPointer w = 0
 before known Byte = upper_before known + 1
 before known Word = upper_before known + 2
 
--- ---- what is known then
+-- ---- what is known after those instructions
 
 uppered_same : (known : Remembered) (s : State) (b r : ℕ) → (r ≡ 6 → ⊥) → (uppered known s b).registers r ≡ s.registers r
 uppered_same Nothing s b r n = set_other s.registers 6 (high b * 2 ^ 12) r n
@@ -384,7 +384,7 @@ uppered_same Element s b r n = refl
 uppered_same ByPointer s b r n = refl
 uppered_same ElementByPointer s b r n = refl
 
--- the register from which an address is reached then holds its base
+-- the register from which an address is reached holds the address's base then
 pub base_held : (known : Remembered) (s : State) (b : ℕ) → IsKnownAt known b s.registers → (uppered known s b).registers (base_register known) ≡ sum_base known b
 base_held Nothing s b known = set_same s.registers 6 (high b * 2 ^ 12) (omega arith)
 base_held Upper s b known = known
@@ -392,7 +392,7 @@ base_held Element s b known = absurd known
 base_held ByPointer s b known = known.0
 base_held ElementByPointer s b known = absurd known
 
--- x6 is set, if it should be, and what is known about x5 stays
+-- x6 is set if it has to be, and what is known about x5 stays true
 pub within_upper : (x : Site) {held : Scratch} (known : Remembered) (l : Locations) (h : World) (s : State) (b : ℕ) → IsKnownAt known b s.registers → Within x held l h s → Within x (behind_at known held b) l h (uppered known s b)
 within_upper x Nothing l h s b known w =
     within_scratch x _ l h s (s.pc + 4) 6 (high b * 2 ^ 12) (omega arith) (omega arith) (high_word b)
@@ -402,7 +402,7 @@ within_upper x Element l h s b known w = absurd known
 within_upper x ByPointer l h s b known w = within_as x _ l h s (record { upper = w.holds.upper; address = w.holds.address }) w
 within_upper x ElementByPointer l h s b known w = absurd known
 
--- then x5, from a distance in bytes
+-- then x5 becomes the sum of a base and a distance in bytes
 within_added : (x : Site) {held : Scratch} (l : Locations) (h : World) (s : State) (width : Width) (q r i o : ℕ) → add (s.registers r) (s.registers q) ≡ (bytes width * s.registers i + o) % 2 ^ 32 → IsAllocatable i → Within x held l h s
     → Within x (record { upper = held.upper; address = Some (address_of width i o) }) l h (added s q r)
 within_added x {held} l h s width q r i o sum ui w =
@@ -426,7 +426,7 @@ within_shifted x l h s i w = within_5 x l h s (s.pc + 4) ((s.registers i * 4) % 
 shifted_same : (s : State) (i r : ℕ) → (r ≡ 5 → ⊥) → (shifted s i).registers r ≡ s.registers r
 shifted_same s i r n = set_other s.registers 5 _ r n
 
--- the address is made from a number of bytes, or of words
+-- the address is made from a number of bytes, or from a number of words
 within_byte : (x : Site) {held : Scratch} (known : Remembered) (l : Locations) (h : World) (s : State) (i b : ℕ) → IsKnownAt known b s.registers → IsAllocatable i → Within x held l h s
     → Within x (behind_element known held Byte b i) l h (added (uppered known s b) (base_register known) i)
 within_byte x known l h s i b is ui w =
@@ -444,7 +444,7 @@ within_word x known l h s i b is ui w =
     within_added x l h u Word (base_register known) 5 i (sum_base known b) (sum_words (s.registers i) (u.registers i) (u.registers 5) (u.registers (base_register known)) (sum_base known b) five same (base_held known t b is)) ui
     (within_upper x known l h t b is (within_shifted x l h s i w))
 
--- after all of them
+-- what is known after all instructions that make the address
 pub within_element : (x : Site) {held : Scratch} (known : Remembered) (l : Locations) (h : World) (width : Width) (s : State) (i b : ℕ) → IsKnown known width b i s.registers → IsAllocatable i → Within x held l h s
     → Within x (behind_element known held width b i) l h (at_element known width s i b)
 within_element x Nothing l h Byte s i b known ui w = within_byte x Nothing l h s i b tt ui w
@@ -456,7 +456,7 @@ within_element x ByPointer l h Word s i b known ui w = within_word x ByPointer l
 within_element x Element l h width s i b known ui w = within_as x _ l h s (record { upper = w.holds.upper; address = (ui, known) }) w
 within_element x ElementByPointer l h width s i b known ui w = within_as x _ l h s (record { upper = w.holds.upper; address = (ui, known.0) }) w
 
--- ---- the machine arrives there
+-- ---- the machine arrives at the access
 
 pub uppered_reaches : (x : Site) (next : List Step) (k : Locations) (g : World) (known : Remembered) (s : State) (p b : ℕ) (items : List PieceItem) → s.pc ≡ p → Stands x p (upper_items known b ++ items)
     → (Stands x (p + 4 * upper_before known) items → (uppered known s b).pc ≡ p + 4 * upper_before known → Reaches x next k g (uppered known s b)) → Reaches x next k g s
@@ -468,7 +468,7 @@ uppered_reaches x next k g Element s p b items e f go = (let none : p ≡ p + 4 
 uppered_reaches x next k g ByPointer s p b items e f go = (let none : p ≡ p + 4 * 0 = omega arith in go (subst (λ n. Stands x n items) none f) (e ∙ none))
 uppered_reaches x next k g ElementByPointer s p b items e f go = (let none : p ≡ p + 4 * 0 = omega arith in go (subst (λ n. Stands x n items) none f) (e ∙ none))
 
--- the item after those before an access, and the machine there
+-- if the machine is at this item, n items after p, it arrives at the next step
 abbrev Arrives : (x : Site) (next : List Step) (k : Locations) (g : World) (p n : ℕ) (item : PieceItem) (t : State) → Type 0
 Arrives x next k g p n item t = x.code.at (p + 4 * n) ≡ Some (filled x.places x.place (p + 4 * n) item) → t.pc ≡ p + 4 * n → Reaches x next k g t
 
@@ -492,7 +492,7 @@ shifted_reaches x next k g known s p i b item e f go =
     let long : p + 4 + 4 * (upper_before known + 1) ≡ p + 4 * (upper_before known + 2) = omega arith in
     go (subst (λ n. x.code.at n ≡ Some (filled x.places x.place n item)) long stands) (at ∙ long)))
 
--- before a load or a store
+-- the machine arrives at the load or store of an element
 pub element_reaches : (x : Site) (next : List Step) (k : Locations) (g : World) (known : Remembered) (w : Width) (s : State) (p i b : ℕ) (item : PieceItem) → s.pc ≡ p → Stands x p (indexed known w b i (item ∷ [])) → Arrives x next k g p (before known w) item (at_element known w s i b)
     → Reaches x next k g s
 element_reaches x next k g Nothing Byte s p i b item e f go = based_reaches x next k g Nothing s p i b item e f go
@@ -526,11 +526,11 @@ same_memory ByPointer Byte s i b = refl
 same_memory ByPointer Word s i b = refl
 same_memory ElementByPointer w s i b = refl
 
--- the place of an element, from what x5 holds of its address and the object's part
+-- the place of an element is the sum of what x5 holds of its address and of the object's part
 abbrev pub Leads : Width → (index at b : ℕ) → (word : ℕ) → Type 0
 Leads width i at b word = (o part : ℕ) (f : ℕ → ℕ) → f i ≡ word → (o + part) % 2 ^ 32 ≡ b → IsAddress width i o f → (f 5 + part) % 2 ^ 32 ≡ at
 
--- an element is loaded, or stored: the one with that number, by a register and an address from which its object lies at that distance
+-- the machine loads or stores element n of an object: register i leads to it from the base b, which is the object's address or lies nearby
 pub loaded_reaches : (x : Site) {held : Scratch} (v a : ℕ) (width : Width) (g to i b n word : ℕ) (rest : List Step) (l : Locations) (h : World) (s : State) → s.pc ≡ x.place + 4 * a → b < 2 ^ 32 → Leads width i (element_place width (x.layout.base g) n) b (l (Register i)) → IsElement h width g n word → IsTarget x.frame to → IsAllocatable i
     → Stands x (x.place + 4 * a) (indexed (known_of x.frame.sets_pointer held width b i) width b i (load_element width to 5 (part_of (known_of x.frame.sets_pointer held width b i) b) ∷ []))
     → Standing x (without to (behind_element (known_of x.frame.sets_pointer held width b i) held width b i)) v (a + access_size (known_of x.frame.sets_pointer held width b i) width) rest → Within x held l h s → Reaches x rest (put (Register to) word l) h s
@@ -612,7 +612,7 @@ store_case x w a width g i r rest l h s given = store_at x w a width g i r rest 
 not_kept : (f : Frame) (r : ℕ) → 10 ≤ r → r ≤ 17 → IsTarget f r
 not_kept f r lo hi = ((omega arith, omega arith), λ k. elim k [ inl q ↦ absurd (omega arith) | inr q ↦ absurd (omega arith) ])
 
--- the number of a service
+-- the state after x17 is set to a service's number
 numbered : State → ℕ → State
 numbered s n = record s { pc = s.pc + 4; registers = with_register s.registers 17 n }
 

@@ -1,4 +1,4 @@
--- The frame that emission chooses saves what its steps write, so each of them is fine in it.
+-- The frame that emission chooses saves what the steps write, so each step is fine in it.
 use Rattle.std.proofs.Common.{◌≡◌, ℕ, suc, ◌≤◌, List, [], ◌∷◌, true, false, Bool, length, refl, sym, ap, ◌∙◌, subst, inl, inr, arith}
 use Rattle.std.specs.Prelude.{◌||◌, if◌then◌else◌}
 use Rattle.std.specs.List.{AllByRecursion}
@@ -81,7 +81,7 @@ or_right false b e = e
 target : (sets_pointer : Bool) (slots : ℕ) (all : List Step) (r : ℕ) → IsAllocatable r → is_written all r ≡ true → IsTarget (frame_of sets_pointer slots all) r
 target sets_pointer slots all r u e = (u, λ k. member_if (calls all) r 1 (written all kept_registers) (written_member all r kept_registers e (kept_member r k)))
 
--- one step writes only what all steps write, and calls only if they call
+-- a step writes only registers that the steps write, and calls only if the steps call
 record IsOf (all : List Step) (i : Step) : Type 0 where
   writes : (r : ℕ) → writes r i ≡ true → is_written all r ≡ true
   calls : is_call i ≡ true → calls all ≡ true

@@ -70,21 +70,21 @@ fit_append functions long (x ∷ xs) ys p q = (p.0, fit_append functions long xs
 length_behind : (head items : List PieceItem) → length (behind head items) ≡ length head + length items
 length_behind head items = length-append head (map (shifted (length head)) items) ∙ ap (λ n. length head + n) (length-map items (shifted (length head)))
 
--- each of them has a word
+-- each of the items can be encoded as a word
 pub behind_fit : (functions : ℕ) (head items : List PieceItem) → AreFit functions (length head) head → AreFit functions (length items) items → AreFit functions (length (behind head items)) (behind head items)
 behind_fit functions head items p q =
     subst (λ n. AreFit functions n (behind head items)) (sym (length_behind head items))
     (fit_append functions (length head + length items) head (map (shifted (length head)) items) (fit_longer functions (length head) (length items) head p) (fit_shifted functions (length items) (length head) items q))
 
--- ---- from the end of the head on
+-- ---- from the end of the head to the return
 
--- what comes back to the place after the head's call comes back to the place before it
+-- the machine does for a call from state s what it does for one from v, if what comes back from v also comes back from s
 comes_from : {b : List Size} (y : ObjectLayout b) (code : Code) (rate : ℕ) (s v u : State) (stop : Stop Answer) (o : List ℕ) (done : ℕ) → ((r : Answer) (t : State) → ComesBack y v r t → ComesBack y s r t) → DoesBy y code rate v u stop o done → DoesBy y code rate s u stop o done
 comes_from y code rate s v u Going o done f d = d
 comes_from y code rate s v u (Ended r) o done f d = (d.0, d.1, d.2, f r d.1 d.3, d.4)
 comes_from y code rate s v u Wrong o done f d = tt
 
--- the run starts with what the machine's registers hold, and with these words in its slots
+-- the run starts with what the machine's registers hold and with these words in its slots
 entry_merged : (slots : ℕ) (f : Frame) (ws : List ℕ) (t : State) (g : ℕ → ℕ) (words : List ℕ) → at_entry slots (listed 32 0 t.registers ++ (listed slots 0 g ++ words)) ws ≡ merge (found f t ws) (λ i. get_or (listed slots 0 g) i 0)
 entry_merged slots f ws t g words = λ i k. at_location k i
   where
@@ -100,7 +100,7 @@ start_merged slots f ops ws h t g words =
 same_moves : (arity : ℕ → ℕ) (code : List Step) (e : Early) → early_from code code ≡ Some e → selected_move arity e.rest ≡ selected_move arity code
 same_moves arity code e is = λ i c. sym (does_same arity code e.rest (rest_places code code e is) c.steps c.locations c.world c.words) i
 
--- ---- a site without a frame, and the machine at its end
+-- ---- code without a frame, and the machine at its end
 
 abbrev pub bare : Frame
 bare = record { sets_pointer = false; slots = 0; saved = [] }
@@ -135,7 +135,7 @@ module _ (meaning : Meaning) (layout : ObjectLayout meaning.objects) (steps : Li
 
 -- ---- the whole
 
--- the frame's code from the end of the head on: its run, with the slots that it finds
+-- the code in the frame, from the end of the head on: its run, given the slots that it finds
 module _ (meaning : Meaning) (layout : ObjectLayout meaning.objects) (cd : Code) (places : ℕ → ℕ) (place d c : ℕ) (one : 1 ≤ c) (all_places : (g : ℕ) → g < meaning.functions → IsPlace (places g)) (calls : CallsMeet meaning layout cd places c (suc d)) (frame : Frame) (is_frame : IsFrame frame) (steps : List Step)
     (fine : AreFine meaning frame steps) where
   abbrev items : List PieceItem

@@ -13,7 +13,7 @@ use Rattle.cc_emit.proofs.Basics.{got}
 use Rattle.cc_emit.proofs.Bytes.{same_tells, lies, elements_apart, loaded_same, loaded_other, loaded_alike}
 use Rattle.cc_emit.proofs.Standing.{Site, size_at, size_found}
 
--- an element that is there
+-- element i of object g exists, and v is its value
 pub record IsElement (h : World) (w : Width) (g i v : ℕ) : Type 0 where
   pub width : (object_of h g).width ≡ w
   pub below : i < length (object_words h g)
@@ -26,11 +26,11 @@ element_tells h w g i v e = by_width (same_width (object_of h g).width w) refl e
     by_width true is e = let there = got (object_words h g) i v e in record { width = same_tells (object_of h g).width w is; below = there.0; value = there.1 }
     by_width false is e = absurd (let z : None ≡ Some v = e in cc)
 
--- the size of its object
+-- the size of the element's object
 size_told : (x : Site) (h : World) (s : State) (w : Width) (g i v : ℕ) → Shares x.layout s h → IsElement h w g i v → size_at x g ≡ record { width = w; elements = length (object_words h g) }
 size_told x h s w g i v sh is = size_found x.meaning.objects h sh.sizes g ∙ ap (λ (u : Width). record { width = u; elements = length (object_words h g) }) is.width
 
--- where it lies
+-- where the element lies in memory
 pub record IsPlaced (x : Site) (w : Width) (g i : ℕ) : Type 0 where
   pub from : x.layout.base g ≤ element_place w (x.layout.base g) i
   pub to : element_place w (x.layout.base g) i + bytes w ≤ x.layout.base g + 4 * words_in x.meaning.objects g
@@ -49,13 +49,13 @@ placed_by x w g n i same lt =
 pub placed : (x : Site) (h : World) (s : State) (w : Width) (g i v : ℕ) → Shares x.layout s h → IsElement h w g i v → IsPlaced x w g i
 placed x h s w g i v sh is = placed_by x w g (length (object_words h g)) i (ap size_words (size_told x h s w g i v sh is)) is.below
 
--- what is loaded from there
+-- what the machine loads from the element's place
 pub holds : (x : Site) (h : World) (s : State) (w : Width) (g i v : ℕ) → Shares x.layout s h → IsElement h w g i v → loaded (load_of w) s.memory (element_place w (x.layout.base g) i) ≡ v
 holds x h s w g i v sh is =
     let size = size_told x h s w g i v sh is in
     sym (ap (λ (z : Size). element_at z s.memory (x.layout.base g) i) size) ∙ sh.globals g i (subst (λ (z : Size). i < z.elements) (sym size) is.below) ∙ is.value
 
--- elements stay the same if the words of globals do
+-- elements stay the same if the words of the globals do
 pub elements_stay : (x : Site) (m k : ℕ → ℕ) (g j : ℕ) → j < (size_at x g).elements → ((c : ℕ) → c < globals_to → k c ≡ m c) → element_at (size_at x g) k (x.layout.base g) j ≡ element_at (size_at x g) m (x.layout.base g) j
 elements_stay x m k g j lj same =
     let p = placed_by x (size_at x g).width g (size_at x g).elements j refl lj in
@@ -88,7 +88,7 @@ set_sizes (o ∷ os) (suc g) i v = ap (λ (ns : List Size). size_of o ∷ ns) (s
 pub stored_sizes : (h : World) (g i v : ℕ) → map size_of (with_element h g i v).globals ≡ map size_of h.globals
 stored_sizes h g i v = set_sizes h.globals g i v
 
--- an element of the same object, after a store into it
+-- what an element of the same object is after a store into the object
 stored_here : (x : Site) (h : World) (s : State) (w : Width) (g i v old j : ℕ) → Shares x.layout s h → IsElement h w g i old → j < length (object_words h g)
     → loaded (load_of w) (stored (store_of w) s.memory (element_place w (x.layout.base g) i) v) (element_place w (x.layout.base g) j) ≡ get_or (set (object_words h g) i (kept w v)) j 0
 stored_here x h s w g i v old j sh is lj =
@@ -105,7 +105,7 @@ stored_here x h s w g i v old j sh is lj =
           ∙ holds x h s w g j (get_or ws j 0) sh there ∙ sym (get_or-set_other ws i j (kept w v) 0 u.1))
     ]
 
--- an element of another object
+-- an element of another object stays the same after a store
 stored_there : (x : Site) (s : State) (w u : Width) (g i v k j : ℕ) → (g ≡ k → ⊥) → IsPlaced x w g i → IsPlaced x u k j
     → loaded (load_of u) (stored (store_of w) s.memory (element_place w (x.layout.base g) i) v) (element_place u (x.layout.base k) j) ≡ loaded (load_of u) s.memory (element_place u (x.layout.base k) j)
 stored_there x s w u g i v k j ne p q =
@@ -116,7 +116,7 @@ stored_there x s w u g i v k j ne p q =
     loaded_other w u s.memory (element_place w (x.layout.base g) i) (element_place u (x.layout.base k) j) v p.aligned q.aligned
     (elim (x.layout.apart g k ne) [ inl b ↦ inl (omega arith) | inr b ↦ inr (omega arith) ])
 
--- each element, after a store
+-- each element has the right value after a store
 pub stored_element : (x : Site) (h : World) (s : State) (w : Width) (g i v old : ℕ) → Shares x.layout s h → IsElement h w g i old → (k j : ℕ) → j < (size_at x k).elements
     → element_at (size_at x k) (stored (store_of w) s.memory (element_place w (x.layout.base g) i) v) (x.layout.base k) j ≡ get_or (object_words (with_element h g i (kept w v)) k) j 0
 stored_element x h s w g i v old sh is k j lj =

@@ -1,5 +1,5 @@
--- The code of a function does what its steps do: by induction on the moves of their run, with the unknown words chosen as those that the
--- machine's registers and memory hold.
+-- The code of a function does what its steps do. The proof goes by induction on the moves of the steps' run; the unknown words are chosen
+-- as those that the machine's registers and memory hold.
 use Rattle.std.proofs.Common.{◌≡◌, ℕ, zero, suc, ◌+◌, ◌-◌, ◌*◌, ◌%◌, ◌^◌, ◌<◌, ◌≤◌, List, [], ◌∷◌, ◌++◌, length, get_or, take, drop, refl, sym, ap, ap₂, ◌∙◌, subst, inl, inr, arith}
 use Rattle.std.specs.Prelude.{if◌then◌else◌, nat_le}
 use Rattle.std.proofs.Math.Nat.{mul-suc, mul-le-mul_left, mul-add, add-mul, mul_assoc}
@@ -37,17 +37,17 @@ DoesBy y code rate from s Going o done = (m : ℕ) × (t : State) × Path code m
 DoesBy y code rate from s (Ended r) o done = (m : ℕ) × (t : State) × Path code m s t × ComesBack y from r t × (done ≤ rate * m)
 DoesBy y code rate from s Wrong o done = Unit {0}
 
--- what the machine does, for a run with this much work
+-- what the machine does for an outcome of the run, with `done` moves paid for
 abbrev pub Does : {b : List Size} (y : ObjectLayout b) (code : Code) (rate : ℕ) (from s : State) → Outcome Answer → ℕ → Type 0
 Does y code rate from s z done = DoesBy y code rate from s z.stop z.output done
 
--- more is done if a path leads on
+-- if a path leads to a state from which the machine does this, it does so from the path's start, and more is paid for
 pub does_then : {b : List Size} (y : ObjectLayout b) (code : Code) (rate : ℕ) (from s t : State) (stop : Stop Answer) (o : List ℕ) (v m more : ℕ) → Path code m s t → more ≤ rate * m → DoesBy y code rate from t stop o v → DoesBy y code rate from s stop o (more + v)
 does_then y code rate from s t Going o v m more p b (k, u, q, e, c) = (m + k, u, path_then code m k s t u p q, e, (let f = mul-add rate m k in omega arith))
 does_then y code rate from s t (Ended r) o v m more p b (k, u, q, e, c) = (m + k, u, path_then code m k s t u p q, e, (let f = mul-add rate m k in omega arith))
 does_then y code rate from s t Wrong o v m more p b x = tt
 
--- one move, paid for by at least one instruction
+-- one move is paid for by at least one instruction
 pub one_move : {b : List Size} (y : ObjectLayout b) (code : Code) (rate : ℕ) (from s t : State) (z : Outcome Answer) (v m : ℕ) → 1 ≤ rate → Path code (suc m) s t → Does y code rate from t z v → Does y code rate from s z (suc v)
 one_move y code rate from s t z v m one p x =
     let f : 1 + v ≡ suc v = omega arith in
@@ -74,7 +74,7 @@ module _ (x : Site) (c : ℕ) (one : 1 ≤ c) (all_places : (g : ℕ) → g < x.
   abbrev pub FollowsWith : (k j : ℕ) → Configuration → State → Type 0
   FollowsWith k j q s = (i steps : ℕ) → i ≤ k → steps ≤ j → Done s (lrun i steps q) (lwork i steps q)
 
-  -- some words, for all smaller bounds at once
+  -- the machine follows the run with some words, for all smaller bounds at once
   abbrev pub Simulated : (k j : ℕ) → List Step → Locations → World → State → Type 0
   Simulated k j ops l h s = (words : List ℕ) × AreWords words × FollowsWith k j (at_steps ops l h words) s
 
@@ -84,7 +84,7 @@ module _ (x : Site) (c : ℕ) (one : 1 ≤ c) (all_places : (g : ℕ) → g < x.
   here : (s : State) (o : List ℕ) → s.output ≡ o → DoesBy x.layout x.code rate x.from s Going o 0
   here s o e = (0, s, refl, e, omega arith)
 
-  -- what a move owes
+  -- what has to be shown for a move
   abbrev Owes : (i steps : ℕ) → List ℕ → State → Move Configuration → Type 0
   Owes i steps o s mv = Done s (act (call_effect x.meaning (suc x.opened)) mv o steps (lrun i)) (work_act (call_effect x.meaning (suc x.opened)) mv steps (lwork i))
 
@@ -99,7 +99,7 @@ module _ (x : Site) (c : ℕ) (one : 1 ≤ c) (all_places : (g : ℕ) → g < x.
   fails_follows k j ops l h s o words e zero steps le les = here s h.output o
   fails_follows k j ops l h s o words e (suc i) steps le les = subst (Owes i steps h.output s) (sym e) tt
 
-  -- ---- everything that is still to come
+  -- ---- what holds for everything that is still to come
 
   abbrev pub Later : ℕ → Type 0
   Later k = (j w a : ℕ) (held : Scratch) (ops : List Step) (l : Locations) (h : World) (s : State) → s.pc ≡ x.place + 4 * a → Standing x held w a ops → Within x held l h s → Simulated k j ops l h s
@@ -122,7 +122,7 @@ module _ (x : Site) (c : ℕ) (one : 1 ≤ c) (all_places : (g : ℕ) → g < x.
   abbrev Comes : ℕ → (ops : List Step) (l : Locations) → State → List ℕ → ℕ → Effect → Type 0
   Comes i ops l s words steps e = Done s (resumed e (steps_after_answer ops l words) (lrun i)) (suc (work_resumed e (steps_after_answer ops l words) steps (lwork i)))
 
-  -- after the call the run finds in its locations what the machine's hold
+  -- after the call, the run finds in its locations what the machine's locations hold
   same_call : (l : Locations) (t : State) (words : List ℕ) → after_call (listed 32 0 t.registers ++ words) l ≡ regained l t
   same_call l t words = λ i k. at_location k i
     where
@@ -134,7 +134,7 @@ module _ (x : Site) (c : ℕ) (one : 1 ≤ c) (all_places : (g : ℕ) → g < x.
   same_configuration ops l a t words =
       ap₂ (λ (k : Locations) (xs : List ℕ). at_steps ops (put (Register 10) a.value k) a.world xs) (same_call l t words) (drop_listed 32 0 t.registers words)
 
-  -- a call that gives its answer
+  -- the machine follows a call that gives its answer
   answers : (i steps left n : ℕ) (s : State) (ops : List Step) (l : Locations) (g : ℕ) (a : Answer) (t : State) (words : List ℕ) → machine_step x.code s ≡ Continues (called s (x.places g)) → Path x.code n (called s (x.places g)) t → steps ≤ left + c + c * n
       → Done t (lrun i left (at_steps ops (put (Register 10) a.value (regained l t)) a.world words)) (lwork i left (at_steps ops (put (Register 10) a.value (regained l t)) a.world words))
       → Comes i ops l s (listed 32 0 t.registers ++ words) steps (Gives a left)
@@ -147,7 +147,7 @@ module _ (x : Site) (c : ℕ) (one : 1 ≤ c) (all_places : (g : ℕ) → g < x.
       let r = lrun i left q in
       subst (Done s r) e (does_then x.layout x.code rate x.from s t r.stop r.output v (suc n) (suc (steps - left)) (called s (x.places g), to, p) (call_paid c n (steps - left) one (omega arith)) y)
 
-  -- a call that doesn't, within these steps
+  -- the machine follows a call that gives no answer within these steps
   unfinished : (s : State) (ops : List Step) (l : Locations) (g i steps : ℕ) (words o : List ℕ) → machine_step x.code s ≡ Continues (called s (x.places g)) → Meets x.layout x.code c c steps (called s (x.places g)) (Unfinished o) → Comes i ops l s words steps (Unfinished o)
   unfinished s ops l g i steps words o to (n, t, p, q, b) = (suc n, t, (called s (x.places g), to, p), q, call_paid c n steps one b)
 
@@ -198,13 +198,13 @@ module _ (x : Site) (c : ℕ) (one : 1 ≤ c) (all_places : (g : ℕ) → g < x.
   call_simulated k j w a0 s ops l h g saves inside here_at st to lt enter later (Failed o) eq =
       ([], tt, call_follows k j s ops l h g [] inside.shares.output to lt enter (λ i steps le les b rest e. absurd (let same : Failed o ≡ Gives b (rest + (j - steps)) = sym eq ∙ none_fewer j steps g rest l h b les e in cc)))
 
-  -- ---- the rest
+  -- ---- the other steps
 
   return_follows : (k j : ℕ) (s : State) (ops : List Step) (l : Locations) (h : World) → s.output ≡ h.output → (n : ℕ) × (t : State) × Path x.code n s t × ComesBack x.layout x.from (record { value = l (Register 10); world = h }) t → FollowsWith (suc k) j (at_steps (One Return ∷ ops) l h []) s
   return_follows k j s ops l h o p zero steps le les = here s h.output o
   return_follows k j s ops l h o p (suc i) steps le les = (p.0, p.1, p.2, p.3, omega arith)
 
-  -- a label is no move
+  -- a label takes no move
   label_follows : (k j n : ℕ) (s : State) (ops : List Step) (l : Locations) (h : World) (words : List ℕ) → FollowsWith k j (at_steps ops l h words) s → FollowsWith k j (at_steps (One (Label n) ∷ ops) l h words) s
   label_follows k j n s ops l h words f zero steps le les = f zero steps le les
   label_follows k j n s ops l h words f (suc i) steps le les = f (suc i) steps le les

@@ -1,5 +1,5 @@
--- Every item of a function's code has a word, wherever the code is: each instruction is encodable, each call is of a function of the unit,
--- and each jump goes to a place within the code.
+-- Every item of a function's code can be encoded as a word, wherever the code is: each instruction is encodable, each call is of a function
+-- of the unit, and each jump goes to a place within the code.
 use Rattle.std.proofs.Common.{◌≡◌, ℕ, ◌+◌, ◌-◌, ◌*◌, ◌<◌, ◌≤◌, ◌^◌, List, [], ◌∷◌, ◌++◌, Option, Some, None, true, false, Bool, length, refl, subst, inl, inr, arith}
 use Rattle.std.specs.Prelude.{if◌then◌else◌, ◌==◌, option_map}
 use Rattle.std.proofs.lemmas.List.{length-append}

@@ -1,4 +1,4 @@
--- What emission needs of a frame and of steps: the frame saves what is written, and steps name what exists.
+-- What emission requires of a frame and of steps: the frame saves what is written, and steps name only what exists.
 use Rattle.std.specs.Prelude.{◌≡◌, ℕ, ◌+◌, ◌<◌, ◌≤◌, ◌⊎◌, true, List, [], ◌∷◌, length}
 use Rattle.std.specs.List.{AllByRecursion}
 use Rattle.cc_simulation.specs.Meaning.{Meaning}
@@ -18,7 +18,7 @@ abbrev pub Member : ℕ → List ℕ → Type 0
 Member r [] = ⊥
 Member r (x ∷ xs) = (r ≡ x) ⊎ Member r xs
 
--- x1, x8, x9, x18 to x27
+-- a register that a frame may save: x1, x8, x9, x18 to x27
 abbrev pub IsSavable : ℕ → Type 0
 IsSavable r = (r ≡ 1) ⊎ IsKept r
 
@@ -39,7 +39,7 @@ IsFineMove f (Between to from) = IsTarget f to × IsAllocatable from
 IsFineMove f (Reload to slot) = IsTarget f to × (slot < f.slots)
 IsFineMove f (Spill slot from) = (slot < f.slots) × IsAllocatable from
 
--- a call is of a function with at most eight parameters, in a frame that saves x1
+-- an item is fine: in particular, a call is of a function with at most eight parameters, in a frame that saves x1
 abbrev pub IsFine : Meaning → Frame → LinearItem → Type 0
 IsFine meaning f (Label label) = Unit {0}
 IsFine meaning f (Jump to) = Unit {0}
@@ -56,7 +56,7 @@ IsFine meaning f Read = Unit {0}
 IsFine meaning f Write = Unit {0}
 IsFine meaning f Return = Unit {0}
 
--- an item is fine, and an operator's instructions have its word
+-- a step is fine: its item is, and the instructions of its operator have room for its word
 abbrev pub IsFineStep : Meaning → Frame → Step → Type 0
 IsFineStep meaning f (One item) = IsFine meaning f item
 IsFineStep meaning f (Immediate operator to from word) = IsTarget f to × IsAllocatable from × IsWord word × (has_word operator word ≡ true)

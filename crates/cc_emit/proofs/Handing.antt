@@ -1,10 +1,10 @@
--- What is handed out is the piece of the pair.
+-- What is handed out is the piece of the pair that was taken.
 use Rattle.std.proofs.Common.{◌≡◌, ℕ, false, List, refl, sym, ap, ◌∙◌, subst}
 use Rattle.std.specs.List.{AllByRecursion}
 use Rattle.cc_ast.specs.Tree.{External}
 use Rattle.cc_ast.specs.declared.unit.Unit as parsed
-use Rattle.cc_c_laws.specs.declared.mode.Mode.{Mode}
-use Rattle.cc_c_laws.specs.Numbered.{objects_in}
+use Rattle.cc_c_semantics.specs.declared.mode.Mode.{Mode}
+use Rattle.cc_c_semantics.specs.Numbered.{objects_in}
 use Rattle.cc_ltl.specs.Ltl.{Ltl}
 use Rattle.cc_select.specs.declared.step.Step.{Step}
 use Rattle.cc_select.specs.Selected.{labels, IsStep, IsSelected}

@@ -1,4 +1,5 @@
--- What stands before a frame is code of a function without one, of steps as the function has them; the rest saves what the function saves.
+-- What comes before a frame is the code of a function without a frame, and its steps satisfy what the function's steps satisfy. The
+-- rest saves what the function saves.
 use Rattle.std.proofs.Common.{◌≡◌, ℕ, ◌+◌, ◌*◌, ◌<◌, List, [], ◌∷◌, ◌++◌, Option, Some, None, true, false, Bool, refl, sym, ap, ap₂, ◌∙◌, subst, arith}
 use Rattle.std.specs.Prelude.{if◌then◌else◌, ◌==◌, ◌&&◌, ◌||◌, not, option_map, nat_lt}
 use Rattle.std.specs.List.{AllByRecursion}
@@ -28,7 +29,7 @@ use Rattle.cc_emit.proofs.Choosing.{AreKept, all_kept}
 use Rattle.cc_emit.proofs.Bridging.{contained_below}
 use Rattle.cc_emit.proofs.Heads.{both, fork_there, lit, lit_there, none_says, turned_there}
 
--- ---- a run is the same in code in which each label has the same place
+-- ---- a run is the same in two lists of steps in which each label has the same place
 
 pub does_same : (arity : ℕ → ℕ) (c d : List Step) → ((n : ℕ) → place c n ≡ place d n) → (ops : List Step) (l : Locations) (h : World) (ws : List ℕ) → does arity c ops l h ws ≡ does arity d ops l h ws
 does_same arity c d same [] l h ws = refl
@@ -40,9 +41,9 @@ does_same arity c d same (Branch o nonzero a b n ∷ ops) l h ws = ap (λ p. tri
 does_same arity c d same (BranchImmediate o nonzero a w n ∷ ops) l h ws = ap (λ p. tried (apply_immediate o (l (Register a)) w) (λ v. Goes (at_steps (led nonzero v ops p) l h ws))) (same n)
 does_same arity c d same (_ ∷ ops) l h ws = refl
 
--- ---- what an early function's steps are: light ones, a test, and the rest
+-- ---- the steps of an early function: light ones, a test, and the rest
 
--- a property of steps that light steps and tests have no part in
+-- `part` does not change if a light step or a test is put before the steps
 module _ {A : Type 0} (part : List Step → A) (light : (s : Step) (steps : List Step) → is_light s ≡ true → part (s ∷ steps) ≡ part steps) (test : (s : Step) (f : Fork) (steps : List Step) → fork_of s ≡ Some f → part (s ∷ steps) ≡ part steps) (code : List Step) where
   rest_first : (s : Step) (steps : List Step) (e : Early) → ((d : Early) → early_from code steps ≡ Some d → part steps ≡ part d.rest) → early_from code (s ∷ steps) ≡ Some e → part (s ∷ steps) ≡ part e.rest
   rest_first s steps e again is = by (is_light s) refl is
@@ -105,7 +106,7 @@ turned_quiet _ f e = absurd (cc)
 abbrev AreQuiet : List Step → Type 0
 AreQuiet steps = AllByRecursion Quiet steps
 
--- lists of steps that write the same registers
+-- two lists of steps that write the same registers
 same_written : (steps more : List Step) (rs : List ℕ) → AreKept rs → ((r : ℕ) → IsKept r → is_written steps r ≡ is_written more r) → written steps rs ≡ written more rs
 same_written steps more [] k e = refl
 same_written steps more (r ∷ rs) k e = ap₂ (λ (b : Bool) (xs : List ℕ). if b then r ∷ xs else xs) (e r k.0) (same_written steps more rs k.1 e)
@@ -129,7 +130,7 @@ quiet_writes (s ∷ steps) r k q = ap₂ (λ a b. a || b) (q.0.writes r k) (quie
 
 -- ---- what comes before the frame
 
--- a property of the steps of a head, by one that all the code's steps have
+-- if all steps of the code have one property, those of a head have another
 module _ (P Q : Step → Type 0) (code : List Step) (all : AllByRecursion Q code) (light : (s : Step) → is_light s ≡ true → Q s → P s) (turned : (s : Step) (f : Fork) → fork_of s ≡ Some f → Q s → P f.turned) (ends : P (One Return)) (label : (n : ℕ) → P (One (Label n))) where
   last_has : (ss last : List Step) (n : ℕ) → AllByRecursion Q ss → last_of ss ≡ Some last → AllByRecursion P (last ++ One Return ∷ One (Label n) ∷ [])
   last_has [] last n q e = none_says last e
@@ -195,7 +196,7 @@ head_saves code steps e is =
     let quiet : AreQuiet e.head = head_has Quiet (λ (s : Step). Unit {0}) code (any code) (λ s p q. light_quiet s p) (λ s f t q. turned_quiet s f t) (record { calls = refl; writes = λ r k. refl }) (λ n. record { calls = refl; writes = λ r k. refl }) steps e (any steps) is in
     same_saved e.head [] (quiet_calls e.head quiet) (λ r k. quiet_writes e.head r k quiet)
 
--- ---- each step of it fits, and each of the rest
+-- ---- each step of the head is a step of a function without slots, and each of the rest is one of the whole function
 
 module _ (slots functions : ℕ) (all : List ℕ) where
   abbrev Fits : Step → Type 0
@@ -269,7 +270,7 @@ last_labels (One (Label n) ∷ ss) last l e = behind ss e
         by false p = one_more ss p
 last_labels (_ ∷ ss) last l e = none_says last e
 
--- where a test leads there is a label
+-- a test leads to a label that exists
 fork_below : (count slots functions : ℕ) (all : List ℕ) (s : Step) (f : Fork) → fork_of s ≡ Some f → AllByRecursion (λ label. label < count) all → IsStep slots functions all s → f.to < count
 fork_below count slots functions all (One (IfNonzero r n)) f e below u = (let q : record { to = n; turned = One (IfZero r n) } ≡ f = cc in subst (λ (z : Fork). z.to < count) q (contained_below count all n u.1 below))
 fork_below count slots functions all (One (IfZero r n)) f e below u = (let q : record { to = n; turned = One (IfNonzero r n) } ≡ f = cc in subst (λ (z : Fork). z.to < count) q (contained_below count all n u.1 below))

@@ -1,6 +1,6 @@
--- What comes before a function's frame: from the function's entry it returns as the function does, or the machine arrives at its end when
--- the run arrives at the rest of the function's steps. It is code of its own, of a function that has no frame; the run is that of the whole
--- function.
+-- What comes before a function's frame. From the function's entry, it returns as the function does, or the machine arrives at its end when
+-- the run arrives at the rest of the function's steps. It is code of its own, of a function that has no frame; the run is the run of the
+-- whole function.
 use Rattle.std.proofs.Common.{◌≡◌, ℕ, zero, suc, ◌+◌, ◌*◌, ◌%◌, ◌≤◌, ◌⊎◌, List, [], ◌∷◌, ◌++◌, Option, Some, None, true, false, Bool, refl, sym, ap, ◌∙◌, subst, inl, inr, arith}
 use Rattle.std.specs.Prelude.{if◌then◌else◌, ◌==◌, ◌&&◌, not, option_map}
 use Rattle.cc_words.specs.Operators.{apply_unary, apply_binary}
@@ -36,7 +36,7 @@ none_says {A} b e = absurd (cc)
 
 -- ---- what light steps and tests do, in any code
 
--- the word that a light step makes
+-- the word that a light step computes
 abbrev gives : Step → Locations → Option ℕ
 gives (One (Copy (Between to from))) l = Some (l (Register from))
 gives (One (Const to word)) l = Some word
@@ -88,7 +88,7 @@ turned_does arity code (BranchImmediate o nonzero a w n) k e ops l h ws =
     subst (λ (z : Fork). does arity code (z.turned ∷ ops) l h ws ≡ tried (apply_immediate o (l (Register a)) w) (λ v. Goes (at_steps (led (not nonzero) v ops (place code z.to)) l h ws))) q refl)
 turned_does arity code _ k e ops l h ws = absurd (cc)
 
--- ---- other slots
+-- ---- locations with other slots
 
 abbrev pub merge : Locations → (slots : ℕ → ℕ) → Locations
 merge l slots (Register r) = l (Register r)
@@ -118,7 +118,7 @@ put_merged to v l slots = λ i k. at k i
 
 -- ---- the machine
 
--- by the moves that a step makes, the machine arrives there
+-- if a step makes these moves, the machine arrives at the steps after it
 stepped_to : (x : Site) (ops next : List Step) (l k : Locations) (h : World) (u : State) → ((ws : List ℕ) → selected_move x.meaning.arity x.steps (at_steps ops l h ws) ≡ Goes (at_steps next k h ws)) → Stepped x ops l h u → Reaches x next k h u
 stepped_to x ops next l k h u f z =
     let e : Goes (at_steps next k h (z.prefix ++ [])) ≡ Goes (at_steps z.next z.locations z.world []) = sym (f (z.prefix ++ [])) ∙ z.moves [] in
@@ -144,7 +144,7 @@ turned_case x {held} w a (BranchImmediate o nonzero b v n) k ops l h u e given a
     (let q : record { to = n; turned = BranchImmediate o (not nonzero) b v n } ≡ k = cc in subst (λ (z : Fork). Given x held w a (z.turned ∷ ops) l h u → Stepped x (z.turned ∷ ops) l h u) q (λ g. branch_immediate_case x w a o (not nonzero) b v n ops l h u g all) given)
 turned_case x w a _ k ops l h u e given all = absurd (cc)
 
--- ---- which steps these are
+-- ---- which steps are light, and which are tests
 
 pub lit : (s : Step) → is_light s ≡ true → (to : ℕ) × (written_by s ≡ Some to)
 lit s e = by (written_by s) refl e
@@ -162,7 +162,7 @@ both true true e = (refl, refl)
 both true false e = absurd (let n : false ≡ true = e in cc)
 both false b e = absurd (let n : false ≡ true = e in cc)
 
--- a test goes one of its two ways, and the reversed test the other way round
+-- a test goes one of its two ways, and the reversed test goes the other way
 ways : (H G : List Step → Type 0) (nonzero : Bool) (v : ℕ) (on there on' there' : List Step) → (H on' → G there) → (H there' → G on) → H (led (not nonzero) v on' there') → G (led nonzero v on there)
 ways H G true v on there on' there' f g = by (v == 0)
   where
@@ -175,7 +175,7 @@ ways H G false v on there on' there' f g = by (v == 0)
     by true = f
     by false = g
 
--- none of them is a label, but for the last of a head
+-- no step of a head is a label, except the last
 pub lit_there : (s : Step) (to : ℕ) → written_by s ≡ Some to → IsThere s
 lit_there (One (Label n)) to e = absurd (cc)
 lit_there _ to e = tt
@@ -218,7 +218,7 @@ last_place (One (Label n) ∷ ss) last l e = behind ss e
         by false p = one_more ss p
 last_place (_ ∷ ss) last l e = none_says last e
 
--- ---- the run of a whole function, of which the site has the head
+-- ---- the run of a whole function whose head is the site's
 
 module _ (x : Site) (c : ℕ) (code : List Step) (k j : ℕ) where
   abbrev pub effect : ℕ → Question → Effect
@@ -279,14 +279,14 @@ module _ (x : Site) (c : ℕ) (one : 1 ≤ c) (all : StandsWhole x) (sound : IsS
   returns ss l h words s o p zero n le les = here s h.output o
   returns ss l h words s o p (suc i) n le les = (p.0, p.1, p.2, p.3, omega arith)
 
-  -- a label is no move
+  -- a label takes no move
   labelled : (n : ℕ) (ss : List Step) (l : Locations) (h : World) (words : List ℕ) (s : State) → Follows x c code k j (at_steps ss l h words) s → Follows x c code k j (at_steps (One (Label n) ∷ ss) l h words) s
   labelled n ss l h words s f zero m le les = f zero m le les
   labelled n ss l h words s f (suc i) m le les = f (suc i) m le les
 
   -- ---- a light step
 
-  -- it goes wrong, or the machine does it and the run does too, whatever the slots hold
+  -- a light step goes wrong, or both the machine and the run do it, whatever the slots hold
   pub record Lit (s : Step) (ops ss : List Step) (l : Locations) (h : World) (u : State) : Type 0 where
     pub locations : Locations
     pub reaches : Reaches x ops locations h u
@@ -314,7 +314,7 @@ module _ (x : Site) (c : ℕ) (one : 1 ≤ c) (all : StandsWhole x) (sound : IsS
       by None is = inl (made None is)
       by (Some v) is = inr (lit_by v is (light_case x w a s to ops l h u e given))
 
-  -- ---- after the label of the test: the return, at most one step further on
+  -- ---- after the test's label: the return comes at once, or after one step
 
   at_return : {held : Scratch} (w a : ℕ) (tail ss : List Step) (l : Locations) (h : World) (u : State) → Given x held w a (One Return ∷ tail) l h u → Ended x c code k j (One Return ∷ ss) l h u
   at_return w a tail ss l h u (e, st, inside) slots words = returns ss (merge l slots) h words u inside.shares.output (return_path x w a tail l h u sound back e st inside)
@@ -358,7 +358,7 @@ module _ (x : Site) (c : ℕ) (one : 1 ≤ c) (all : StandsWhole x) (sound : IsS
   place_ends w a (One (Label n) ∷ ss) last tail l h u e given = λ slots words. labelled n ss (merge l slots) h words u (ends w a ss last tail l h u e given slots words)
   place_ends w a (_ ∷ ss) last tail l h u e given = none_says last e
 
-  -- ---- before it
+  -- ---- before the test's label
 
   at_test : {held : Scratch} (w a : ℕ) (s : Step) (f : Fork) (last rest : List Step) (l : Locations) (h : World) (u : State) → fork_of s ≡ Some f → ending (place code f.to) ≡ Some last → place x.steps f.to ≡ One (Label f.to) ∷ []
       → Given x held w a (f.turned ∷ (last ++ One Return ∷ One (Label f.to) ∷ [])) l h u → Goal x c code k j (s ∷ rest) rest l h u
@@ -408,7 +408,7 @@ module _ (x : Site) (c : ℕ) (one : 1 ≤ c) (all : StandsWhole x) (sound : IsS
           (stepped_to x (f.turned ∷ ops) (led (not (sense s)) v ops (place x.steps f.to)) l l h u (own v is) (turned_case x w a s f ops l h u e given all))
           (asked (Some v) is)
 
-  -- the head of these steps
+  -- the machine follows the head of these steps
   abbrev Onward : List Step → Type 0
   Onward steps = (held : Scratch) (w a : ℕ) (e : Early) (l : Locations) (h : World) (u : State) → early_from code steps ≡ Some e → ((n : ℕ) → place x.steps n ≡ place e.head n) → Given x held w a e.head l h u → Goal x c code k j steps e.rest l h u
 

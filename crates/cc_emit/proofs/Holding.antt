@@ -1,4 +1,4 @@
--- What x3 and the scratch registers hold on the machine: each remembered word is there, and each change of another register keeps it.
+-- What x3 and the scratch registers hold on the machine: each remembered word is there, and a change of another register leaves it.
 use Rattle.std.proofs.Common.{◌≡◌, ℕ, ◌+◌, ◌*◌, ◌%◌, ◌^◌, ◌-◌, ◌<◌, ◌≤◌, Bool, true, false, Option, Some, None, refl, sym, ap, ◌∙◌, inl, inr, arith}
 use Rattle.std.specs.Prelude.{if◌then◌else◌, ◌==◌, ◌&&◌, nat_le, nat_lt}
 use Rattle.std.proofs.lemmas.Bool.Decides.{nat_tests}
@@ -63,14 +63,14 @@ holds_set held f d v u h = (let lo = u.0 in record {
   address = address_without held.address d f (with_register f d v) (set_other f d v 5 (λ e. omega arith)) (λ r n. set_other f d v r n) h.address;
 })
 
--- x5 is set, and x6
+-- x5 is set, or x6
 pub holds_address_set : (held : Scratch) (f : ℕ → ℕ) (v : ℕ) → Holds held f → Holds (without_address held) (with_register f 5 v)
 holds_address_set held f v h = record { upper = upper_stays held.upper f (with_register f 5 v) (set_other f 5 v 6 (λ e. omega arith)) h.upper; address = tt }
 
 pub address_stays_6 : (a : Option ElementAddress) (f : ℕ → ℕ) (v : ℕ) → HoldsAddress a f → HoldsAddress a (with_register f 6 v)
 address_stays_6 a f v h = address_stays a f (with_register f 6 v) (set_other f 6 v 5 (λ e. omega arith)) (λ r u. let lo = u.0 in set_other f 6 v r (λ e. omega arith)) h
 
--- ---- what is known about an address is so
+-- ---- what is remembered about an address is true
 
 upper_right : (z : Option ℕ) (u : ℕ) (g : ℕ → ℕ) → HoldsUpper z g → is_upper z u ≡ true → g 6 ≡ u * 2 ^ 12
 upper_right None u g h e = absurd (let q : false ≡ true = e in cc)
@@ -101,12 +101,13 @@ address_right (Some a) w i u g h e =
 
 -- ---- x3
 
--- what x3 holds in a function's body: the global pointer, if the function sets it, else what it held at its entry, or the pointer
+-- what x3 holds in a function's body: the global pointer, if the function sets it; if not, what it held at the function's entry, or the
+-- pointer
 abbrev pub IsPointer : (sets_pointer : Bool) → (before now : ℕ) → Type 0
 IsPointer true before now = now ≡ global_pointer
 IsPointer false before now = IsKeptOrPointer before now
 
--- after a call
+-- the same holds after a call
 pub pointer_behind : (sets_pointer : Bool) (before now after : ℕ) → IsPointer sets_pointer before now → IsKeptOrPointer now after → IsPointer sets_pointer before after
 pointer_behind true before now after b (inl e) = e ∙ b
 pointer_behind true before now after b (inr e) = e
@@ -114,7 +115,7 @@ pointer_behind false before now after (inl b) (inl e) = inl (e ∙ b)
 pointer_behind false before now after (inr b) (inl e) = inr (e ∙ b)
 pointer_behind false before now after b (inr e) = inr e
 
--- at the return
+-- at the return, x3 holds what a caller allows
 pub pointer_given : (sets_pointer : Bool) (before now : ℕ) → IsPointer sets_pointer before now → IsKeptOrPointer before now
 pointer_given true before now b = inr b
 pointer_given false before now b = b
@@ -136,7 +137,7 @@ in_reach_says a e = (at_least globals_from a (both_0 (nat_le globals_from a) (na
     less : (a b : ℕ) → nat_lt a b ≡ true → a < b
     less a b e = grind (arith, nat_tests)
 
--- the address is that far from there
+-- from x3, which holds the global pointer, the offset leads to the address
 pointer_reaches_of : (a x : ℕ) → IsInReach a → LowIs (add a (2 ^ 32 - global_pointer)) x → (global_pointer + x) % 2 ^ 32 ≡ a
 pointer_reaches_of a x (lo, hi) (inl h) = (let e = h.0 in let k = h.1 in omega arith)
 pointer_reaches_of a x (lo, hi) (inr h) = (let e = h.0 in let k = h.1 in omega arith)
@@ -146,7 +147,7 @@ pointer_reaches a r = pointer_reaches_of a (from_pointer a) r (low_is (add a (2 
 
 -- ---- what is known about an address
 
--- of an element whose number is in a register, and of an address
+-- what is known about the address of an element whose number is in a register, and about an address
 abbrev pub IsKnown : Remembered → Width → (base index : ℕ) → (registers : ℕ → ℕ) → Type 0
 IsKnown Nothing width base index g = Unit {0}
 IsKnown Upper width base index g = g 6 ≡ high base * 2 ^ 12
@@ -187,7 +188,7 @@ is_known_at sets_pointer before held b g pointer h =
     by false true r p = p refl
     by false false r p = tt
 
--- ---- together with the object's part it is the address of the element
+-- ---- what x5 holds plus the object's part of the address is the element's address
 
 pub element_address : (w : Width) (i b n o part : ℕ) (g : ℕ → ℕ) → g i ≡ n → element_place w b n < 2 ^ 32 → (o + part) % 2 ^ 32 ≡ b → IsAddress w i o g → (g 5 + part) % 2 ^ 32 ≡ element_place w b n
 element_address Byte i b n o part g e lt both h = by o part (g 5) (g i) both h e
@@ -199,7 +200,7 @@ element_address Word i b n o part g e lt both h = by o part (g 5) (g i) both h e
     by : (hi lo five k : ℕ) → (hi + lo) % 2 ^ 32 ≡ b → five ≡ (4 * k + hi) % 2 ^ 32 → k ≡ n → (five + lo) % 2 ^ 32 ≡ b + 4 * n
     by hi lo five k p q r = omega arith
 
--- the object's part and the rest of what x5 holds are its address
+-- the object's part and the rest of what x5 holds add up to the object's address
 pub parts_of : (known : Remembered) (w : Width) (b i : ℕ) (g : ℕ → ℕ) → b < 2 ^ 32 → IsKnown known w b i g → (sum_base known b + part_of known b) % 2 ^ 32 ≡ b
 parts_of Nothing w b i g lt k = high_low b lt
 parts_of Upper w b i g lt k = high_low b lt

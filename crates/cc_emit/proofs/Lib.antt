@@ -1,8 +1,8 @@
--- How the machine is shown to follow the steps. Each step of the source is paid for by an instruction within a fixed rate, so an endless loop
--- cannot be dropped. A function without a frame may execute nothing before its first move, so the first step is paid for by the jump that
--- calls the function.
+-- How the machine is shown to follow the steps. Each step of the source is paid for by an instruction within a fixed rate, so an endless
+-- loop cannot be dropped. A function without a frame can reach its first move without executing an instruction, so the jump that calls it
+-- pays for the first step.
 --
--- what emission needs of frames and items
+-- what emission requires of frames and items
 pub mod Fine
 -- reads after writes, and words
 pub mod Basics
@@ -10,7 +10,7 @@ pub mod Basics
 pub mod Bytes
 -- sizes and places, and near branches
 pub mod Places
--- what the scratch registers hold
+-- what x3 and the scratch registers hold
 pub mod Holding
 -- where items are in the code
 pub mod Standing
@@ -36,27 +36,27 @@ pub mod Emitted
 pub mod Choosing
 -- what comes before a frame
 pub mod Heads
--- its steps, and what the rest saves
+-- the steps before a frame, and what the rest saves
 pub mod Headed
--- the rest in its frame after it
+-- what comes before a frame, followed by the rest in the frame
 pub mod Earlier
--- every item has a word
+-- every item can be encoded as a word
 pub mod Encoding
 -- a pair's code is a piece
 pub mod Pieces
--- the code: which steps are in loops
+-- the code finds which steps are in loops
 pub mod Looping
--- the code: what is known about addresses
+-- the code finds what is known about addresses
 pub mod Addressing
--- the code: what comes before a frame
+-- the code finds what comes before a frame
 pub mod Ahead
--- the code: which registers are saved
+-- the code finds which registers are saved
 pub mod Kept
--- the code: the table of labels
+-- the code makes the table of labels
 pub mod Tabling
--- the code: places from the end are places
+-- the code counts places from the end, and they are the right places
 pub mod Bridging
--- the code: the table of the objects' addresses
+-- the code makes the table of the objects' addresses
 pub mod Addresses
--- the code: what is handed out
+-- what the code hands out
 pub mod Handing

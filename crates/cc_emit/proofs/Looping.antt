@@ -1,5 +1,5 @@
--- The code: which steps are in loops. The position of the last step that leads to each label is noted from the back, and from that follows
--- up to where steps lead back to a label so far.
+-- The code finds which steps are in loops. From the back, it notes for each label the position of the last step that leads to it.
+-- Going forward, it works out from that how far steps lead back to one of the labels so far.
 use Rattle.std.proofs.Common.{◌≡◌, ℕ, zero, suc, ◌+◌, ◌-◌, ◌<◌, ◌≤◌, ◌⊎◌, List, [], ◌∷◌, Bool, ◌||◌, ◌==◌, Option, Some, None, true, false, length, get_or, drop, replicate, nat_lt, refl, sym, ap, ap₂, ◌∙◌, subst, inl, inr, arith}
 use Rattle.std.specs.Prelude.{if◌then◌else◌}
 use Rattle.std.specs.List.{AllByRecursion}
@@ -48,7 +48,7 @@ entry_more true old at pos h = by (old == 0) (eqb_denies old 0) h
     by false p (inl e) = absurd (p refl e)
     by false p (inr lt) = inr (omega arith)
 
--- it says the same about a step further on
+-- a new note leaves what the table says about steps further on
 entry_same : (led : Bool) (old at k : ℕ) → at ≤ k → nat_lt k (noted led old at) ≡ nat_lt k old
 entry_same false old at k le = refl
 entry_same true old at k le = by (old == 0) (eqb_says old 0)
@@ -57,7 +57,7 @@ entry_same true old at k le = by (old == 0) (eqb_says old 0)
     by true p = (let e = p refl in less_not k at le ∙ sym (less_not k old (omega arith)))
     by false p = refl
 
--- and about this one
+-- a new note says the right thing about this step
 entry_here : (led : Bool) (old at : ℕ) → 0 < at → (old ≡ 0) ⊎ (at < old) → (led || nat_lt at old) ≡ nat_lt (at - 1) (noted led old at)
 entry_here false old at pos (inl e) = less_not at old (omega arith) ∙ sym (less_not (at - 1) old (omega arith))
 entry_here false old at pos (inr lt) = less_yes at old lt ∙ sym (less_yes (at - 1) old (omega arith))
@@ -99,7 +99,7 @@ noted_more code count at step old new pos is same each n =
 pub noted_all : (code : List Step) (count at : ℕ) (last : List ℕ) → at ≤ 0 → Noted code count at last → AreLast code count last
 noted_all code count at last none n = record { long = n.long; each = λ l k lt. n.each l k lt (omega arith) }
 
--- ---- from a step on: how far steps lead back to one of these labels
+-- ---- how far steps lead back to one of these labels, from a given step on
 
 abbrev pub Reaches : (code : List Step) → (labels : List ℕ) → (index reach : ℕ) → Type 0
 Reaches code labels i reach = (k : ℕ) → i ≤ k → lead_back labels (drop k code) ≡ nat_lt k reach

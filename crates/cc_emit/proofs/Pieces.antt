@@ -7,8 +7,8 @@ use Rattle.cc_types.specs.Limits.{too_many, most_parameters, parameter_excesses,
 use Rattle.cc_types.specs.Typed.{IsTyped, IsWithinLimits}
 use Rattle.cc_types.specs.Scope.{FileScope, file_scope_behind, first_file_scope}
 use Rattle.cc_types.specs.declared.rule.RuleError.{RuleError}
-use Rattle.cc_c_laws.specs.Meaning.{Function, functions, functions_from, text_of}
-use Rattle.cc_c_laws.specs.Numbered.{arity_in, objects_in}
+use Rattle.cc_c_semantics.specs.Meaning.{Function, functions, functions_from, text_of}
+use Rattle.cc_c_semantics.specs.Numbered.{arity_in, objects_in}
 use Rattle.cc_simulation.specs.World.{Size}
 use Rattle.cc_simulation.specs.Meaning.{Meaning}
 use Rattle.cc_simulation.specs.Tracks.{TracksForAll}
@@ -72,11 +72,11 @@ few_parameters unit limits g = few_in unit first_file_scope g (prefix_none (exte
 abbrev pub items_for : above.Pair → List PieceItem
 items_for p = function_items (object_address (objects_in (above.tree_of p))) p.ltl.slots p.code
 
--- the bytes of its frame
+-- the number of bytes of the frame of a pair's steps
 abbrev pub frame_for : above.Pair → ℕ
 frame_for p = frame_size (frame_of false p.ltl.slots p.code)
 
--- the steps of a function in their frame do what it does
+-- the steps of a function, all in their frame, do what the function does
 whole_does : (meaning : Meaning) (layout : ObjectLayout meaning.objects) (f rate slots : ℕ) (ls : List ℕ) (code : List Step) → TracksForAll meaning f rate (selected_move meaning.arity code) selected_output (selected_start slots code) → ((g : ℕ) → meaning.arity g ≤ 8) → AllByRecursion (IsStep slots meaning.functions ls) code → slots ≤ most_slots
     → IsPiece meaning layout f (frame_size (frame_of false slots code)) (whole_items layout.base slots code)
 whole_does meaning layout f rate slots ls code keeps few fits le =
@@ -86,7 +86,7 @@ whole_does meaning layout f rate slots ls code keeps few fits le =
     let framed = is_frame sets_pointer slots code le in
     record { rate = rate + rate; meets = framed_meets meaning layout f rate frame code keeps framed fine; small = (let z = framed.small in omega arith); fit = framed_fit meaning layout.base frame code framed fine }
 
--- and so do those that have some steps before the frame
+-- so do the steps of a function with some of them before the frame
 early_does : (meaning : Meaning) (layout : ObjectLayout meaning.objects) (f rate slots : ℕ) (ls : List ℕ) (code : List Step) (e : Early) → early_from code code ≡ Some e → TracksForAll meaning f rate (selected_move meaning.arity code) selected_output (selected_start slots code) → ((g : ℕ) → meaning.arity g ≤ 8)
     → AllByRecursion (IsStep slots meaning.functions ls) code → slots ≤ most_slots → IsPiece meaning layout f (frame_size (frame_of false slots code)) (early_items layout.base slots (Some e) code)
 early_does meaning layout f rate slots ls code e is keeps few fits le =
@@ -129,7 +129,7 @@ items_do p limits selected keeps meaning is layout in_order =
 frame_small : (p : above.Pair) → IsSelected p.ltl.slots (length (functions (above.tree_of p))) p.code → frame_for p ≤ 2032
 frame_small p selected = let z = (is_frame false p.ltl.slots p.code selected.few).small in omega arith
 
--- with what `SelectedPair::code` and `into_parts` say about a pair, and the limits of its unit
+-- what a pair becomes is a piece, given what `SelectedPair::code` and `into_parts` say about the pair, and the limits of its unit
 pub piece_of : (p : above.Pair) → IsLtl p.ltl → length p.ltl.blocks ≤ most_blocks → LtlKeepsUp p.mode (above.tree_of p) p.function p.ltl → IsTyped (above.tree_of p) → IsWithinLimits (above.tree_of p) → p.function < length (functions (above.tree_of p)) → IsSelected p.ltl.slots (length (functions (above.tree_of p))) p.code → above.KeepsUp p.mode (above.tree_of p) p.function p.ltl.slots p.code
     → IsPieceOfUnit (record { mode = p.mode; unit = p.unit; function = p.function; ltl = p.ltl; frame = frame_for p; items = items_for p })
 piece_of p is_ltl few ltl_keeps typed limits lt selected keeps = record { typed = typed; function = lt; ltl = is_ltl; few = few; small = frame_small p selected; ltl_keeps_up = ltl_keeps; items = items_do p limits selected keeps }

@@ -136,7 +136,7 @@ word_branch_size_le : (alone : Option Condition) (near : Bool) → word_branch_s
 word_branch_size_le (Some c) near = branch_size_le near
 word_branch_size_le None near = let le = branch_size_le near in omega arith
 
--- in its long form a step is no shorter
+-- a step is no shorter in its long form
 one_size_le : (f : Frame) (near : ℕ → Bool) (k : Remembered) (i : LinearItem) → size_of_one f near k i ≤ size_of_one f (λ label. false) k i
 one_size_le f near k (Label n) = omega arith
 one_size_le f near k (Jump n) = omega arith
@@ -168,7 +168,7 @@ size_le f near s = step_size_le f near s.known s.step
 
 -- ---- places
 
--- the place of a label is after w and a, by no more in the second pass than in the first
+-- the place of a label comes after w and a, and it is no further away in the second pass than in the first
 record IsAhead (w a long short : ℕ) : Type 0 where
   longer : w ≤ long
   shorter : a ≤ short
@@ -188,13 +188,13 @@ is_ahead f near w a (i ∷ items) l =
     let next = is_ahead f near (w + long_size f i) (a + size f (near w) i) items l in
     ahead_if (is_label l i) w a _ _ (further w a (w + long_size f i) (a + size f (near w) i) _ _ (omega arith) (omega arith) (omega arith) next)
 
--- where a label of all items is, seen from items at w and a: before them, or among them
+-- where a label is, seen from items at place w in the first pass and a in the second: before them, or among them
 abbrev pub IsSeen : Frame → (all items : List Addressed) → (w a : ℕ) → (l : ℕ) → Type 0
 IsSeen f all items w a l =
     ((long_place f 0 all l ≤ w) × (short_place f (is_near f all) 0 (prologue_size f) all l ≤ a) × (a + long_place f 0 all l ≤ w + short_place f (is_near f all) 0 (prologue_size f) all l))
     ⊎ ((long_place f 0 all l ≡ long_place f w items l) × (short_place f (is_near f all) 0 (prologue_size f) all l ≡ short_place f (is_near f all) w a items l))
 
--- the same for each label
+-- where each label is, seen from these items
 abbrev pub AreSeen : Frame → (all items : List Addressed) → (w a : ℕ) → Type 0
 AreSeen f all items w a = (l : ℕ) → IsSeen f all items w a l
 
@@ -213,11 +213,11 @@ seen_next f all i items w a seen l =
 
 -- ---- near branches
 
--- what a branch reaches
+-- a branch reaches from one place to the other
 abbrev pub Nears : (from to : ℕ) → Type 0
 Nears from to = (from ≤ to + 1024) × (to < from + 1024)
 
--- what a step's branch reaches, from the step's place and from the next one
+-- a step's branch reaches its label both from the step's place and from the next one
 abbrev pub IsClose : (from to : ℕ) → Type 0
 IsClose from to = (from < to + 1024) × (to < from + 1024)
 
@@ -239,11 +239,11 @@ seen_ahead : (f : Frame) (all items : List Addressed) (w a l : ℕ) → IsSeen f
 seen_ahead f all items w a l (inl h) = inl h
 seen_ahead f all items w a l (inr h) = inr (subst (λ n. IsAhead w a n (short_place f (is_near f all) 0 (prologue_size f) all l)) (sym h.0) (subst (IsAhead w a (long_place f w items l)) (sym h.1) (is_ahead f (is_near f all) w a items l)))
 
--- a branch that is near by the first pass
+-- a branch that is near in the first pass reaches its label in the second
 pub stays_near : (f : Frame) (all items : List Addressed) (w a l : ℕ) → AreSeen f all items w a → is_near f all w l ≡ true → IsClose a (short_place f (is_near f all) 0 (prologue_size f) all l)
 stays_near f all items w a l seen e = near_by w a (long_place f 0 all l) _ (close_says w (long_place f 0 all l) e) (seen_ahead f all items w a l (seen l))
 
--- the offset of such a branch: its value, and that the instruction can hold it
+-- the offset of such a branch: its value, and that the instruction has room for it
 abbrev pub DistanceIs : (from to x : ℕ) → Type 0
 DistanceIs from to x = ((from ≤ to) × (x ≡ 4 * (to - from))) ⊎ ((to < from) × (x ≡ 2 ^ 32 - 4 * (from - to)))
 

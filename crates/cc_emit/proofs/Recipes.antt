@@ -25,7 +25,7 @@ use Rattle.cc_emit.specs.declared.recipe.Recipe.TheVariants.{Direct, NonzeroOf, 
 use Rattle.cc_emit.specs.declared.recipe.WordRecipe.TheVariants.{NonzeroOfImmediate, OnZero, ShiftBy, WithImmediate, ZeroOfImmediate}
 use Rattle.cc_emit.proofs.Basics.{LowIs, eqb_denies, eqb_says, low_is}
 
--- a recipe gives a word v
+-- a recipe for two words a and b gives the word v
 abbrev pub IsRight : Recipe → (a b v : ℕ) → Type 0
 IsRight (Direct i) a b v = computed i a b ≡ v
 IsRight (ZeroOf i) a b v = (computed i a b < 2 ^ 32) × (lt_u (computed i a b) 1 ≡ v)
@@ -93,7 +93,7 @@ binary_word LtU a b v p q e = is_word _ v (IsWord-lt_u a b) e
 binary_word LeS a b v p q e = is_word _ v (IsWord-le_s a b) e
 binary_word LeU a b v p q e = is_word _ v (IsWord-le_u a b) e
 
--- what a unary operator's instruction computes of its register's word
+-- what a unary operator's instruction computes from its register's word
 abbrev pub unary_by : unary.Unary → ℕ → ℕ
 unary_by Neg w = sub 0 w
 unary_by Complement w = xor w (2 ^ 32 - 1)
@@ -111,7 +111,7 @@ unary_right IsZero w h = (sym (is_zero-lt_u w), IsWord-is_zero w)
 
 -- ---- a register and a word
 
--- a recipe gives a word v for a register's word
+-- a recipe for a register's word a gives the word v
 abbrev pub IsRightWord : WordRecipe → (a v : ℕ) → Type 0
 IsRightWord (WithImmediate i n) a v = computed (immediate_operation i) a n ≡ v
 IsRightWord (ShiftBy i n) a v = computed (shift_operation i) a n ≡ v
@@ -126,7 +126,7 @@ short_is : (w x : ℕ) → IsWord w → (w + 2 ^ 11) % 2 ^ 32 < 2 ^ 12 → LowIs
 short_is w x b lt (inl h) = omega arith
 short_is w x b lt (inr h) = omega arith
 
--- a short word is its lower part
+-- the lower part of a short word is the word itself
 low_short : (w : ℕ) → IsWord w → is_short w ≡ true → low w ≡ w
 low_short w b e = short_is w (low w) b (short_says w e) (low_is w)
 
@@ -168,7 +168,7 @@ le_u_by a w p q e =
     denied true f = absurd (cc)
     denied false f = refl
 
--- a difference, by the word's negative
+-- a difference is the sum with the negative of the word
 minus : (a w : ℕ) → IsWord a → IsWord w → is_short (neg w) ≡ true → sub a w ≡ add a (low (neg w))
 minus a w p q e = sub_neg a w p q ∙ ap (add a) (sym (low_short (neg w) (IsWord-neg w) e))
 
@@ -183,7 +183,7 @@ ne_by : (a w : ℕ) (b : Bool) → IsWord a → IsWord w → is_short (neg w) �
 ne_by a w true p q e z = not_zero a ∙ ap (ne a) (sym (eqb_says w 0 z))
 ne_by a w false p q e z = (IsWord-add a _, ap (lt_u 0) (sym (minus a w p q e)) ∙ sym (ne-sub a w p q))
 
--- ---- what the operators give
+-- ---- what the operators compute
 
 -- an operator on a register's word and a word has a value, and its instructions give it
 pub record Gives (o : WordOperator) (a w : ℕ) : Type 0 where
@@ -216,7 +216,7 @@ immediate_gives immediates.GeS a w p q e =
 immediate_gives immediates.GeU a w p q e =
     gives immediates.GeU a w (le_u w a) refl (IsWord-lt_u a (low w), turned _ ∙ ap (λ n. 1 - lt_u a n) (low_short w q e) ∙ sym (le_u-lt_u w a))
 
--- and the value is a word
+-- the operator's value is a word
 pub gives_word : (o : WordOperator) (a w v : ℕ) → IsWord a → IsWord w → apply_immediate o a w ≡ Some v → IsWord v
 gives_word o a w v p q e = by_side (is_exchanged o) (operator_of o) e
   where

@@ -31,7 +31,7 @@ use Rattle.cc_emit.proofs.Standing.{machine_step, path_then, size_at, size_found
 use Rattle.cc_emit.proofs.Saving.{with_saved, saved_below, saved_above, saved_words, saved_at, saving_path, restored, restored_right, restored_member, restored_other, restored_words, restoring_path, stack_path}
 use Rattle.cc_emit.proofs.Within.{SavedAt, saved_moved, Within, above_floor}
 
--- a jump that keeps no return address
+-- a jump that does not keep the return address
 jump_to : (s : State) (to b : ℕ) → to ≡ b → b % 4 ≡ 0 → jumps 0 to s ≡ Continues (record s { pc = b })
 jump_to s to b e z =
     ap (λ n. jumps 0 n s) e ∙ ap (λ t. if t then Continues (record s { pc = b; registers = with_register s.registers 0 (s.pc + 4) }) else Traps) (eqb_yes (b % 4) 0 z)
@@ -192,7 +192,7 @@ kept_on x s t to r one kept (inr k) (inr q) = inr (kept r k ∙ set_other s.regi
     not_1 r (inl k) e = omega arith
     not_1 r (inr k) e = omega arith
 
--- after a call the function goes on in its frame
+-- after a call the machine is again within the function's body
 pub within_behind : (x : Site) {held : Scratch} (l : Locations) (h : World) (s : State) (to : ℕ) (a : Answer) (t : State) → Member 1 x.frame.saved → Within x held l h s → ComesBack x.layout (called s to) a t → Within x nothing (put (Register 10) a.value (regained l t)) a.world t
 unfolding called
 within_behind x l h s to a t one w r =
@@ -213,7 +213,7 @@ within_behind x l h s to a t one w r =
 
 -- ---- the prologue
 
--- after the words that set x3
+-- the registers after the instructions that set x3
 abbrev pub begun_registers : (sets_pointer : Bool) → (ℕ → ℕ) → ℕ → ℕ
 begun_registers b g = if b then with_register g 3 global_pointer else g
 
@@ -249,7 +249,7 @@ pointer_path code places place f s p = by f.sets_pointer p
         (u, one, (v, two, ap₂ (λ (k : ℕ) (g : ℕ → ℕ). record s { pc = k; registers = g }) at (set_twice s.registers 3 up global_pointer)))
     by false p = ap (λ k. record s { pc = k }) (let e : s.pc ≡ s.pc + 4 * 0 = omega arith in e)
 
--- after it
+-- the state after the prologue
 pub framed : Frame → State → State
 framed f s = record s { pc = s.pc + 4 * pointer_size f.sets_pointer + 4 * stack_moved_size f + 4 * length f.saved; registers = with_register (begun f s).registers 2 (s.registers 2 - frame_size f); memory = with_saved f.saved (s.registers 2 - frame_size f + 4 * f.slots) (with_register (begun f s).registers 2 (s.registers 2 - frame_size f)) s.memory }
 
@@ -281,7 +281,7 @@ saved_other : (rs : List ℕ) (a : ℕ) (f g m : ℕ → ℕ) → AreSavable rs 
 saved_other [] a f g m sv same p = tt
 saved_other (r ∷ rs) a f g m sv same p = (p.0 ∙ same r (savable_not_2 r sv.0) (savable_not_3 r sv.0), saved_other rs (a + 4) f g m sv.1 same p.1)
 
--- the word of an argument, or of a register that has none
+-- the word that a register has at the entry: an argument, or what it held if it has none
 argument_at : (ws : List ℕ) (r i other : ℕ) (s : State) → Passes ws r s → s.registers (r + i) ≡ other → get_or ws i other ≡ s.registers (r + i)
 argument_at [] r i other s p e = sym e
 argument_at (w ∷ ws) r zero other s p e = sym p.0 ∙ ap s.registers (let z : r ≡ r + 0 = omega arith in z)
@@ -316,7 +316,7 @@ pub framed_other : (f : Frame) (s : State) (r : ℕ) → (r ≡ 2 → ⊥) → (
 unfolding framed
 framed_other f s r e q = set_other (begun f s).registers 2 (s.registers 2 - frame_size f) r e ∙ begun_other f.sets_pointer s.registers r q
 
--- after the prologue, when the locations are what the machine holds there
+-- after the prologue the machine is within the function's body, if the locations are what the machine holds then
 pub framed_inside : (x : Site) (l : Locations) (h : World) → IsSound x.from → Shares x.layout x.from h → ((r : ℕ) → IsAllocatable r → l (Register r) ≡ (framed x.frame x.from).registers r)
     → ((i : ℕ) → i < x.frame.slots → l (Slot i) ≡ (framed x.frame x.from).memory ((framed x.frame x.from).registers 2 + 4 * i)) → Within x nothing l h (framed x.frame x.from)
 unfolding framed

@@ -1,4 +1,4 @@
--- Entry and return: x2 moves, and the registers of a list are saved and restored, one after the other.
+-- Entry and return: x2 moves, and the registers of a list are saved or restored one by one.
 use Rattle.std.proofs.Common.{◌≡◌, ℕ, suc, ◌+◌, ◌*◌, ◌%◌, ◌^◌, ◌<◌, ◌≤◌, List, [], ◌∷◌, Bool, Some, true, false, length, refl, sym, ap, ap₂, ◌∙◌, subst, inl, inr, arith}
 use Rattle.std.specs.Prelude.{if◌then◌else◌, ◌==◌}
 use Rattle.std.proofs.lemmas.Bool.Decides.{eqb_tells}
@@ -74,13 +74,13 @@ one_le_savable x (inl e) = omega arith
 one_le_savable x (inr (inl k)) = omega arith
 one_le_savable x (inr (inr k)) = omega arith
 
--- a register that is right stays so
+-- a register that already has the right word keeps it
 pub restored_right : (rs : List ℕ) (f g : ℕ → ℕ) (r : ℕ) → AreSavable rs → g r ≡ f r → restored rs f g r ≡ f r
 restored_right [] f g r sv e = e
 restored_right (x ∷ rs) f g r sv e =
     restored_right rs f (with_register g x (f x)) r sv.1 (elim (eqb_tells r x) [ inl t ↦ ap (with_register g x (f x)) t.1 ∙ set_same g x (f x) (one_le_savable x sv.0) ∙ ap f (sym t.1) | inr t ↦ set_other g x (f x) r t.1 ∙ e ])
 
--- one of the list becomes right
+-- a register of the list gets the right word
 pub restored_member : (rs : List ℕ) (f g : ℕ → ℕ) (r : ℕ) → AreSavable rs → Member r rs → restored rs f g r ≡ f r
 restored_member [] f g r sv m = absurd m
 restored_member (x ∷ rs) f g r sv (inl e) = restored_right rs f (with_register g x (f x)) r sv.1 (ap (with_register g x (f x)) e ∙ set_same g x (f x) (one_le_savable x sv.0) ∙ ap f (sym e))
@@ -93,7 +93,7 @@ differs : (x r : ℕ) → IsSavable x → IsOther r → r ≡ x → ⊥
 differs x r (inl e) o q = o.0 (q ∙ e)
 differs x r (inr k) o q = o.1 (subst IsKept (sym q) k)
 
--- one that is never saved stays as it is
+-- a register that is never saved stays as it is
 pub restored_other : (rs : List ℕ) (f g : ℕ → ℕ) (r : ℕ) → AreSavable rs → IsOther r → restored rs f g r ≡ g r
 restored_other [] f g r sv o = refl
 restored_other (x ∷ rs) f g r sv o = restored_other rs f (with_register g x (f x)) r sv.1 o ∙ set_other g x (f x) r (differs x r sv.0 o)
@@ -116,7 +116,7 @@ restoring_path code places place (r ∷ rs) o f s p sv saved z from to =
     let more = restoring_path code places place rs (o + 4) f u p.1 sv.1 (subst (λ n. SavedAt rs n f s.memory) a1 saved.1) (omega arith) (omega arith) (omega arith) in
     (u, one, subst (λ n. Path code (length rs) u (record s { pc = n; registers = restored rs f u.registers })) n1 more)
 
--- x2 is moved, if there is a frame
+-- x2 moves, if there is a frame
 pub stack_path : (code : Code) (places : ℕ → ℕ) (place : ℕ) (f : Frame) (s : State) (by n : ℕ) → Placed code places place s.pc (stack_moved f by) → (frame_size f ≡ 0 → n ≡ s.registers 2) → ((frame_size f ≡ 0 → ⊥) → add (s.registers 2) by ≡ n)
     → Path code (stack_moved_size f) s (record s { pc = s.pc + 4 * stack_moved_size f; registers = with_register s.registers 2 n })
 stack_path code places place f s by n p none some = path_by (frame_size f == 0) (λ e. none (eqb_says (frame_size f) 0 e)) (λ e. some (eqb_denies (frame_size f) 0 e)) p

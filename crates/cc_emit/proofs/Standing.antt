@@ -1,4 +1,4 @@
--- Where items are in the code: the code from an item on, and from a label on.
+-- Where items are in the code: from an item on, and from a label on.
 use Rattle.std.proofs.Common.{◌≡◌, ℕ, zero, suc, ◌+◌, ◌-◌, ◌*◌, ◌%◌, ◌^◌, ◌≤◌, List, [], ◌∷◌, ◌++◌, Some, true, false, Bool, length, get_or, map, refl, sym, ap, ◌∙◌, subst, arith}
 use Rattle.std.specs.Prelude.{if◌then◌else◌, ◌==◌}
 use Rattle.std.proofs.lemmas.List.{length-append}
@@ -25,7 +25,7 @@ use Rattle.cc_emit.proofs.Fine.{AreFine, IsFrame}
 use Rattle.cc_emit.proofs.Basics.{eqb_yes, with_zero}
 use Rattle.cc_emit.proofs.Places.{AreSeen, size_is, seen_next}
 
--- one instruction of some code
+-- the machine executes one instruction of the code
 abbrev pub machine_step : Code → State → Turn
 machine_step code s = executed_above code.floor (code.at s.pc) s
 
@@ -53,7 +53,7 @@ pub record Site : Type 0 where
   pub room : code.floor + frame_size frame ≤ from.registers 2
   pub top : from.registers 2 ≤ stack_to
 
--- there is room for a call of this function
+-- there is room on the stack for a call of the function g
 abbrev pub HasRoom : Site → ℕ → Type 0
 HasRoom x g = x.code.floor + frame_size x.frame + x.code.need g (suc x.opened) ≤ x.from.registers 2
 
@@ -81,7 +81,7 @@ size_found objects h e g = ap (λ (o : List Size). size_in o g) (sym e) ∙ foun
     found_at (o ∷ os) zero = refl
     found_at (o ∷ os) (suc g) = found_at os g
 
--- steps with what is known about their addresses, if the scratch registers hold this before them
+-- steps with what is known about their addresses, if the scratch registers hold `held` before them
 abbrev pub addressed_at : Site → Scratch → List Step → List Addressed
 addressed_at x held ops = addressed x.layout.base x.frame.sets_pointer held ops
 
@@ -109,11 +109,12 @@ items_for x held w a op = items_of x.layout.base x.frame (near x w) (labels x) a
 abbrev pub Stands : Site → ℕ → List PieceItem → Type 0
 Stands x p items = Placed x.code x.places x.place p items
 
--- the number of items of the code
+-- the number of all items of the function's code
 abbrev pub end_of : Site → ℕ
 end_of x = prologue_size x.frame + length (items_at x nothing 0 (prologue_size x.frame) x.steps)
 
--- the items of these steps begin at an item of the piece and go on to its end, at w in the first pass, if this is known
+-- the items of these steps begin at item a of the piece and go on to its end; they begin at w in the first pass, and the scratch registers
+-- hold `held`
 pub record Standing (x : Site) (held : Scratch) (w a : ℕ) (ops : List Step) : Type 0 where
   pub placed : Stands x (x.place + 4 * a) (items_at x held w a ops)
   pub from : IsPlace (x.place + 4 * a)
@@ -133,19 +134,19 @@ placed_append code places place a (x ∷ xs) ys p =
 pub between : (a b c : ℕ) → IsPlace a → IsPlace c → a ≤ b → b ≤ c → b % 4 ≡ 0 → IsPlace b
 between a b c p q le lt z = let from = p.from in let to = q.to in record { aligned = z; from = omega arith; to = omega arith }
 
--- the items of the first one
+-- the items of the first step
 pub first_items : (x : Site) {held : Scratch} (w a : ℕ) (op : Step) (ops : List Step) → Standing x held w a (op ∷ ops) → Stands x (x.place + 4 * a) (items_for x held w a op)
 first_items x {held} w a op ops st =
     let i = one_addressed x held op in
     (placed_append x.code x.places x.place (x.place + 4 * a) (items_for x held w a op) (items_at x (behind x held op) (w + long_size x.frame i) (a + size x.frame (near x w) i) ops) st.placed).0
 
--- there is room for the calls that they make
+-- there is room for the calls that the first step makes
 pub first_calls : (x : Site) {held : Scratch} (w a : ℕ) (op : Step) (ops : List Step) → Standing x held w a (op ∷ ops) → EachCalled (HasRoom x) (items_for x held w a op)
 first_calls x {held} w a op ops st =
     let i = one_addressed x held op in
     (each_append (HasRoom x) (items_for x held w a op) (items_at x (behind x held op) (w + long_size x.frame i) (a + size x.frame (near x w) i) ops) st.calls).0
 
--- the items after it
+-- the items after the first step
 pub standing_tail : (x : Site) {held : Scratch} (w a : ℕ) (op : Step) (ops : List Step) → Standing x held w a (op ∷ ops) → Standing x (behind x held op) (w + long_size x.frame (one_addressed x held op)) (a + size x.frame (near x w) (one_addressed x held op)) ops
 standing_tail x {held} w a op ops st =
     let i = one_addressed x held op in
@@ -168,7 +169,7 @@ standing_tail x {held} w a op ops st =
       seen = seen_next x.frame (all_addressed x) i (addressed_at x (behind x held op) ops) w a st.seen;
     }
 
--- a label forgets what is known before it, and if no step is left nothing needs to be known
+-- what is known is forgotten at a label; if no step is left, nothing needs to be known
 standing_none : (x : Site) {held : Scratch} (w a : ℕ) → Standing x held w a [] → Standing x nothing w a []
 standing_none x {held} w a st = record { placed = st.placed; from = st.from; to = st.to; last = st.last; calls = st.calls; fine = st.fine; seen = st.seen }
 
@@ -184,7 +185,7 @@ place_next : (op : Step) (ops : List Step) (l : ℕ) → selected.place (op ∷ 
 place_next (One (Label n)) ops l = refl
 place_next _ ops l = refl
 
--- the steps from a label's place on are at the label's place
+-- the items of the steps from a label on are at the label's place
 pub standing_from : (x : Site) {held : Scratch} (l w a : ℕ) (ops : List Step) → Standing x held w a ops → Standing x nothing (long_place x.frame w (addressed_at x held ops) l) (short_place x.frame (near x) w a (addressed_at x held ops) l) (selected.place ops l)
 standing_from x {held} l w a [] st = standing_none x w a st
 standing_from x {held} l w a (op ∷ ops) st =

@@ -1,4 +1,4 @@
--- The table of labels, one more item at a time, from the back.
+-- The table of labels, filled from the back with one item after the other.
 use Rattle.std.proofs.Common.{◌≡◌, ℕ, zero, suc, ◌+◌, ◌-◌, ◌*◌, ◌<◌, ◌≤◌, List, [], ◌∷◌, Bool, Option, Some, None, true, false, length, get_or, set, drop, replicate, refl, sym, ap, ◌∙◌, subst, inl, inr, arith}
 use Rattle.std.specs.Prelude.{if◌then◌else◌}
 use Rattle.std.specs.List.{AllByRecursion}
@@ -28,7 +28,7 @@ counted_more code i count above count' item lt is le more one counted n ln all =
     let rest : drop i code ≡ item ∷ drop (i + 1) code = drop_more code i item lt ∙ ap (λ x. x ∷ drop (i + 1) code) (sym is) in
     counted n (omega arith) (subst (λ items. AllByRecursion (λ label. label < n) (labels items)) (sym rest) (one n (drop (i + 1) code) (omega arith) all))
 
--- ---- the number of items of a step: as many as with each branch long, and one less if it is a near branch
+-- ---- the number of items of a step: as with each branch long, but one less if it is a near branch
 
 word_less : (alone : Option Condition) → word_branch_size alone true + 1 ≡ word_branch_size alone false
 word_less (Some c) = refl
@@ -86,7 +86,7 @@ label_noted f first count n k items table lt t =
       ];
     }
 
--- a label past the end of the table is not
+-- a label past the end of the table is not noted
 pub label_past : (f : Frame) (first : List ℕ) (count n : ℕ) (k : Remembered) (items : List Addressed) (table : List ℕ) → count ≤ n → IsTable f first items count table → IsTable f first (labelled k n ∷ items) count table
 label_past f first count n k items table le t = record {
   long = t.long;
@@ -137,7 +137,7 @@ filled_first f first code count table e =
       few_all = omega arith;
     }
 
--- the item before number `at`
+-- `item` is the item before number `at`
 abbrev pub At : (code : List Addressed) (at : ℕ) → Addressed → Type 0
 At code at item = (0 < at) × (item ≡ get_or code (at - 1) item)
 
@@ -149,7 +149,7 @@ rest_more code at item le (pos, is) =
 pub is_label_at : (code : List Addressed) (at : ℕ) (item : Addressed) (n : ℕ) (k : Remembered) → item ≡ get_or code at item → item ≡ labelled k n → labelled k n ≡ get_or code at (labelled k n)
 is_label_at code at item n k is e = subst (λ x. x ≡ get_or code at x) e is
 
--- one more item
+-- the table has one item more
 filled_more : (f : Frame) (first : List ℕ) (code : List Addressed) (count at here all here' all' : ℕ) (item : Addressed) (table table' : List ℕ) → Filled f first code count at here all table → At code at item
     → here' ≡ here + long_size f item → all' ≡ all + size f (near_behind first here') item → long_size f item ≤ 15 → size f (near_behind first here') item ≤ 15
     → (here' ≡ long_behind f (item ∷ drop at code) → all' ≡ behind f first (item ∷ drop at code) → IsTable f first (item ∷ drop at code) count table') → Filled f first code count (at - 1) here' all' table'

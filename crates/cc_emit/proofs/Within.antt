@@ -1,4 +1,4 @@
--- The machine within a function's body: what the run of Linear says about its state, and what each change of it keeps.
+-- The machine within a function's body: what the run of Linear says about the machine's state, and what stays true when the state changes.
 use Rattle.std.proofs.Common.{◌≡◌, ℕ, ◌+◌, ◌*◌, ◌^◌, ◌<◌, ◌≤◌, ◌⊎◌, List, [], ◌∷◌, ◌++◌, length, refl, sym, ap, ◌∙◌, subst, inl, inr, arith}
 use Rattle.std.proofs.lemmas.Bool.Decides.{eqb_tells}
 use Rattle.cc_rv32.specs.Machine as machine
@@ -21,7 +21,7 @@ use Rattle.cc_emit.proofs.Standing.{Site}
 use Rattle.cc_emit.proofs.Bytes.{stored_words, words_behind}
 use Rattle.cc_emit.proofs.Elements.{IsElement, elements_stay, placed, stored_element, stored_sizes}
 
--- the words of these registers lie from an address on
+-- the words of these registers lie in memory from address a on
 abbrev pub SavedAt : List ℕ → (a : ℕ) → (registers memory : ℕ → ℕ) → Type 0
 SavedAt [] a f m = Unit {0}
 SavedAt (r ∷ rs) a f m = (m a ≡ f r) × SavedAt rs (a + 4) f m
@@ -47,7 +47,7 @@ scratch_other r d lo hi (inl k) e = omega arith
 scratch_other r d lo hi (inr (inl k)) e = omega arith
 scratch_other r d lo hi (inr (inr k)) e = omega arith
 
--- the registers change, but x2 and x3 do not
+-- the registers may change, but x2 and x3 do not
 pub with_registers : (x : Site) {held : Scratch} (new : Scratch) (l k : Locations) (h : World) (s : State) (p : ℕ) (g : ℕ → ℕ) → g 0 ≡ 0 → ((r : ℕ) → g r < 2 ^ 32) → g 2 ≡ s.registers 2 → g 3 ≡ s.registers 3
     → ((r : ℕ) → IsAllocatable r → k (Register r) ≡ g r) → ((i : ℕ) → k (Slot i) ≡ l (Slot i)) → ((r : ℕ) → IsSavable r → Member r x.frame.saved ⊎ (g r ≡ x.from.registers r)) → Holds new g → Within x held l h s → Within x new k h (record s { pc = p; registers = g })
 with_registers x new l k h s p g at_0 words at_2 at_3 same slots kept holds w = record {
@@ -84,7 +84,7 @@ kept_scratch : (x : Site) (s : State) (d v r : ℕ) → (r ≡ d → ⊥) → Me
 kept_scratch x s d v r n (inl m) = inl m
 kept_scratch x s d v r n (inr e) = inr (set_other s.registers d v r n ∙ e)
 
--- a register that it does not use is set, and something else is known about the scratch registers
+-- a register that the function does not use is set, and something else is known about the scratch registers then
 pub within_scratch : (x : Site) {held : Scratch} (new : Scratch) (l : Locations) (h : World) (s : State) (p d v : ℕ) → 4 ≤ d → d < 7 → v < 2 ^ 32 → Holds new (with_register s.registers d v) → Within x held l h s → Within x new l h (record s { pc = p; registers = with_register s.registers d v })
 within_scratch x new l h s p d v from to b holds w =
     with_registers x new l l h s p (with_register s.registers d v) (set_other s.registers d v 0 (λ e. omega arith) ∙ w.sound.zero) (set_word s.registers d v b w.sound.registers) (set_other s.registers d v 2 (λ e. omega arith)) (set_other s.registers d v 3 (λ e. omega arith))
@@ -96,7 +96,7 @@ within_scratch x new l h s p d v from to b holds w =
 pub within_5 : (x : Site) {held : Scratch} (l : Locations) (h : World) (s : State) (p v : ℕ) → v < 2 ^ 32 → Within x held l h s → Within x (without_address held) l h (record s { pc = p; registers = with_register s.registers 5 v })
 within_5 x l h s p v b w = within_scratch x _ l h s p 5 v (omega arith) (omega arith) b (holds_address_set _ s.registers v w.holds) w
 
--- something else is known about them, for example nothing
+-- something else, for example nothing, is known about the scratch registers
 pub within_as : (x : Site) {held : Scratch} (new : Scratch) (l : Locations) (h : World) (s : State) → Holds new s.registers → Within x held l h s → Within x new l h s
 within_as x new l h s holds w = record {
   sound = w.sound;
@@ -114,7 +114,7 @@ within_as x new l h s holds w = record {
 pub within_nothing : (x : Site) {held : Scratch} (l : Locations) (h : World) (s : State) → Within x held l h s → Within x nothing l h s
 within_nothing x l h s w = within_as x nothing l h s (holds_nothing s.registers) w
 
--- only the place changes
+-- only the place in the code changes
 pub within_pc : (x : Site) {held : Scratch} (l : Locations) (h : World) (s : State) (p : ℕ) → Within x held l h s → Within x held l h (record s { pc = p })
 within_pc x l h s p w = record {
   sound = record { zero = w.sound.zero; registers = w.sound.registers; memory = w.sound.memory; input = w.sound.input };
@@ -129,7 +129,7 @@ within_pc x l h s p w = record {
   above = w.above;
 }
 
--- where x2 lies
+-- x2 lies in the stack, and at or above the floor
 pub low_stack : (x : Site) {held : Scratch} (l : Locations) (h : World) (s : State) → Within x held l h s → stack_from ≤ s.registers 2
 low_stack x l h s w = let a = w.stack in let b = x.room in let c = x.code.low in omega arith
 

@@ -1,5 +1,5 @@
--- The machine of a board with less stack. It is that of the instruction table, except that a load or a store from `stack_from` to `floor`
--- traps.
+-- The machine of a board with less stack. It is the machine of the instruction table, except that a load or a store from `stack_from` to
+-- `floor` traps.
 use Rattle.std.specs.Prelude.{ℕ, zero, suc, ◌+◌, ◌-◌, ◌%◌, Bool, ◌&&◌, ◌||◌, ◌==◌, nat_lt, nat_le, if◌then◌else◌, List, Option, Some, None}
 use Rattle.cc_words.specs.Words.{add}
 use Rattle.cc_rv32.specs.declared.instr.Instr.{Instr}
@@ -16,7 +16,7 @@ is_data_above floor a = (nat_le globals_from a && nat_lt a globals_to) || (nat_l
 abbrev pub is_accessible_above : (floor bytes a : ℕ) → Bool
 is_accessible_above floor bytes a = (a % bytes == 0) && is_data_above floor a
 
--- a load and a store require that; every other instruction does what it does on the whole machine
+-- a load or a store requires that its address is accessible there; every other instruction does what it does on the whole machine
 abbrev pub execute_above : (floor : ℕ) → Instr → State → Turn
 execute_above floor (Load o d s1 i) s = let a = add (s.registers s1) i in if is_accessible_above floor (load_bytes o) a then puts d (loaded o s.memory a) s else Traps
 execute_above floor (Store o s1 s2 i) s = let a = add (s.registers s1) i in if is_accessible_above floor (store_bytes o) a then Continues (record s { pc = s.pc + 4; memory = stored o s.memory a (s.registers s2) }) else Traps
@@ -31,7 +31,7 @@ run_on_above floor code Going s = turned s (executed_above floor (instruction_at
 run_on_above floor code (Exited w) s = record { state = s; outcome = Exited w }
 run_on_above floor code Trapped s = record { state = s; outcome = Trapped }
 
--- at most n more instructions
+-- a run after at most n more instructions
 unfoldable pub run_above : (floor : ℕ) (code : List ℕ) (n : ℕ) → Run → Run
 run_above floor code zero r = r
 run_above floor code (suc n) r = run_above floor code n (run_on_above floor code r.outcome r.state)

@@ -28,7 +28,7 @@ compares operation left right = record { operation = operation; left = left; rig
 abbrev pub opposed : Condition → Condition
 opposed c = compares (opposite c.operation) c.left c.right
 
--- it holds, or it does not
+-- the condition if `nonzero` is true, else its opposite
 abbrev pub turned : (nonzero : Bool) → Condition → Condition
 turned nonzero c = if nonzero then c else opposed c
 
@@ -45,14 +45,16 @@ comparison operator a b = compares Bne a b
 
 -- ---- a register and a word
 
--- the condition under which an instruction with an immediate gives a word that is not 0, if it compares its register with 0: less than 0;
--- less than 1, so that 0 is at least the register's word; less than 1 as unsigned, so that it equals 0
+-- the condition under which an instruction with an immediate gives a word that is not 0, if it compares its register with 0. There are
+-- three cases: the register's word is less than 0; it is less than 1, so 0 is at least that word; it is less than 1 as unsigned, so it
+-- equals 0
 abbrev pub immediate_against_zero : ImmediateOperation → (part from : ℕ) → Option Condition
 immediate_against_zero Slti n a = if n == 0 then Some (compares Blt a 0) else if n == 1 then Some (compares Bge 0 a) else None
 immediate_against_zero Sltiu n a = if n == 1 then Some (compares Beq a 0) else None
 immediate_against_zero operation n a = None
 
--- the same for an instruction on 0 and a register: more than 0; more than 0 as unsigned, so that it is not equal to 0
+-- the same for an instruction on 0 and a register: the register's word is more than 0; or it is more than 0 as unsigned, so it does not
+-- equal 0
 abbrev pub operation_on_zero : RegisterOperation → (from : ℕ) → Option Condition
 operation_on_zero Slt a = Some (compares Blt 0 a)
 operation_on_zero Sltu a = Some (compares Bne a 0)

@@ -101,14 +101,14 @@ Passes (w ∷ ws) r s = (s.registers r ≡ w) × Passes ws (suc r) s
 abbrev pub IsKept : ℕ → Type 0
 IsKept r = ((8 ≤ r) × (r ≤ 9)) ⊎ ((18 ≤ r) × (r ≤ 27))
 
--- this holds for each function that items call
+-- `Holds` is true of each function that items call
 abbrev pub EachCalled : (ℕ → Type 0) → List PieceItem → Type 0
 EachCalled Holds [] = Unit {0}
 EachCalled Holds (Plain i ∷ items) = EachCalled Holds items
 EachCalled Holds (Call g ∷ items) = Holds g × EachCalled Holds items
 EachCalled Holds (Go n ∷ items) = EachCalled Holds items
 
--- the most bytes of a function's frame, and the most calls that are open at once
+-- the largest number of bytes of a function's frame, and the largest number of calls that are open at once
 abbrev pub largest_frame : ℕ
 largest_frame = 2032
 
@@ -138,11 +138,12 @@ pub record Enters (meaning : Meaning) (layout : ObjectLayout meaning.objects) (c
 abbrev pub global_pointer : ℕ
 global_pointer = globals_from + 2048
 
--- what x3 holds after a call: what it held before, or that word; so a function that set it to that word still finds it there
+-- what x3 holds after a call: what it held before, or the global pointer; so a function that set it to the pointer still finds it
+-- there
 abbrev pub IsKeptOrPointer : (before after : ℕ) → Type 0
 IsKeptOrPointer before after = (after ≡ before) ⊎ (after ≡ global_pointer)
 
--- the machine after the return
+-- the state of the machine after the return
 pub record ComesBack {objects : List Size} (layout : ObjectLayout objects) (s : State) (a : Answer) (t : State) : Type 0 where
   pub at : t.pc ≡ s.registers 1
   pub sound : IsSound t
@@ -153,9 +154,9 @@ pub record ComesBack {objects : List Size} (layout : ObjectLayout objects) (s : 
   pub kept : (r : ℕ) → IsKept r → t.registers r ≡ s.registers r
   pub above : (a : ℕ) → s.registers 2 ≤ a → t.memory a ≡ s.memory a
 
--- The machine, starting from s, does what the source does within n steps, of which `left` are left if it gives an answer. Each c of the
--- steps taken are paid for by one of the m instructions, except `spare` steps, which are paid for elsewhere. So for a greater n more
--- instructions are executed, and a run that never ends is matched by one that never ends.
+-- The machine, starting from s, does what the source does within n steps; `left` of them are left if it gives an answer. Each of the m
+-- instructions pays for at most c of the steps taken; at most `spare` of them are paid for elsewhere. So more instructions are executed for
+-- a greater n, and a run that never ends is matched by one that never ends.
 abbrev pub Meets : {objects : List Size} (layout : ObjectLayout objects) → Code → (c spare n : ℕ) → State → Effect → Type 0
 Meets layout code c spare n s (Gives a left) = (m : ℕ) × (t : State) × Path code m s t × ComesBack layout s a t × (n ≤ left + spare + c * m)
 Meets layout code c spare n s (Unfinished o) = (m : ℕ) × (t : State) × Path code m s t × (t.output ≡ o) × (n ≤ spare + c * m)
@@ -172,7 +173,7 @@ pub record IsPlace (a : ℕ) : Type 0 where
   pub from : 0x10000 ≤ a
   pub to : a < 0x100000
 
--- What a piece keeps, wherever it is, at each number of open calls: if the calls that it makes do what the source's do at c steps an
+-- What a piece keeps, wherever it is, at each number of open calls: if the calls that it makes do what the source's do at c steps per
 -- instruction, its body does what the source's body does. Of the two `rate * c` below, the first is the number of steps for which one
 -- instruction pays. The second is what is spare: the steps of one more instruction, which are left to the jump that called the function. A
 -- function without a frame has nothing to execute on entry, so when the source's body has begun, the machine may still be at the function's
@@ -183,7 +184,7 @@ PieceMeets meaning layout f frame rate items =
     → (opened c : ℕ) → opened < most_open → 1 ≤ c → CallsMeet meaning layout code places c (suc opened)
     → (ws : List ℕ) (h : World) (s : State) (n : ℕ) → Enters meaning layout code f opened place ws h s → Meets layout code (rate * c) (rate * c) n s (meaning.body n opened f ws h)
 
--- an item that has a word, wherever the piece is
+-- an item that can be encoded as a word, wherever the piece is
 abbrev pub IsFit : (functions long : ℕ) → PieceItem → Type 0
 IsFit functions long (Plain i) = IsEncodable i
 IsFit functions long (Call g) = g < functions

@@ -1,7 +1,7 @@
--- Functions that may return before they have a frame. Where a function begins with operations on registers that a call destroys and a test, and
--- the test leads to a label behind which the function returns, at most one such operation further on, these stand before the frame is made:
--- the operations, the test the other way round, what is behind the label, and the return. The test goes on behind them, where the rest stands in
--- its frame as a function's code does.
+-- Functions that may return before they have a frame. Such a function begins with operations on registers that a call destroys, and a test.
+-- The test leads to a label after which the function returns, with at most one such operation before the return. In such a function these
+-- come before the frame is made: the operations, the test the other way round, what is after the label, and the return. The test jumps over
+-- them to the rest, which is in its frame as the code of any function is.
 use Rattle.std.specs.Prelude.{ℕ, Bool, true, false, not, ◌&&◌, ◌||◌, ◌==◌, nat_le, if◌then◌else◌, Option, Some, None, option_map, List, [], ◌∷◌, ◌++◌}
 use Rattle.cc_ltl.specs.declared.operation.Move.TheVariants.{Between}
 use Rattle.cc_linear_language.specs.declared.item.LinearItem.TheVariants.{Label, IfNonzero, IfZero, Copy, Const, Unary, Binary, Return}
@@ -13,7 +13,7 @@ use Rattle.cc_emit.specs.Frames.{frame_of, frame_size}
 
 -- ---- operations that need no frame
 
--- x7, x10 to x17, x28 to x31
+-- a call destroys the register, and it is neither x5 nor x6: x7, x10 to x17, x28 to x31
 abbrev pub is_lost : (register : ℕ) → Bool
 is_lost r = (r == 7) || ((nat_le 10 r && nat_le r 17) || nat_le 28 r)
 
@@ -57,12 +57,12 @@ abbrev pub last_of : List Step → Option (List Step)
 last_of [] = None
 last_of (step ∷ steps) = if is_return step then Some [] else last_one step steps
 
--- what is done from a label's place up to a return
+-- the steps between a label and the return after it: at most one, and a light one; none if they are other steps
 abbrev pub ending : List Step → Option (List Step)
 ending (One (Label label) ∷ steps) = last_of steps
 ending steps = None
 
--- ---- what stands before the frame
+-- ---- what is before the frame
 
 -- the steps before the frame, followed by the label to which the test goes on, and the steps in the frame
 pub record Early : Type 0 where
@@ -80,11 +80,11 @@ early_by all (Some fork) rest = early_at (ending (place all fork.to)) fork rest
 abbrev pub with_first : Step → Early → Early
 with_first step e = record { head = step ∷ e.head; rest = e.rest }
 
--- for these steps of the function
+-- what comes before the frame, for these steps of the function
 abbrev pub early_from : (all : List Step) → List Step → Option Early
 early_from all [] = None
 early_from all (step ∷ steps) = if is_light step then option_map (with_first step) (early_from all steps) else early_by all (fork_of step) steps
 
--- for a function with this many slots, if it has a frame
+-- what comes before the frame of a function with this many slots, if it has a frame
 abbrev pub early : (slots : ℕ) → List Step → Option Early
 early slots steps = if frame_size (frame_of false slots steps) == 0 then None else early_from steps steps

@@ -143,8 +143,8 @@ abbrev pub upper_items : Remembered → (address : ℕ) → List PieceItem
 upper_items Nothing address = Plain (instr.Lui 6 (high address)) ∷ []
 upper_items known address = []
 
--- the register from which an address is reached: x3, or x6 with the address's upper part; if x5 holds the element's address, by an upper
--- part or by x3, the answer is 6 and is never used
+-- the register from which an address is reached: x3, or x6 with the address's upper part; if x5 already holds the element's address, the
+-- answer is 6 and is never used
 abbrev pub base_register : Remembered → ℕ
 base_register ByPointer = 3
 base_register known = 6
@@ -159,11 +159,12 @@ part_of ByPointer a = from_pointer a
 part_of ElementByPointer a = from_pointer a
 part_of known a = low a
 
--- before the access to an element: x5 becomes its address minus the object's part of it, from its distance in bytes from the first element
+-- before the access to an element: x5 becomes the element's address minus the object's part of it; the register `distance` has the
+-- element's distance in bytes from the first one
 abbrev pub based : Remembered → (base distance : ℕ) → List PieceItem → List PieceItem
 based known base distance items = upper_items known base ++ Plain (instr.Op operation.Add 5 distance (base_register known)) ∷ items
 
--- from its number, unless x5 has that address already
+-- before the access to an element whose number is in a register, unless x5 has its address already
 abbrev pub indexed : Remembered → Width → (base index : ℕ) → List PieceItem → List PieceItem
 indexed Element width base index items = items
 indexed ElementByPointer width base index items = items
@@ -184,8 +185,8 @@ branch_items near c place to =
     if near then Plain (instr.Branch c.operation c.left c.right (distance place to)) ∷ []
     else Plain (instr.Branch (opposite c.operation) c.left c.right 8) ∷ Go to ∷ []
 
--- the items of one item of Linear at a place; `known` is how much of its address is there, `base` has the objects' addresses, `labels` the
--- labels' places, and `near` says whether a branch from here to a label is near
+-- the items of one item of Linear at a place; `known` is how much of its address the registers hold, `base` has the objects' addresses,
+-- `labels` the labels' places, and `near` says whether a branch from here to a label is near
 abbrev pub items_of_one : (base : ℕ → ℕ) → Frame → (near : ℕ → Bool) → (labels : ℕ → ℕ) → (place : ℕ) → Remembered → LinearItem → List PieceItem
 items_of_one base f near labels place known (Label label) = []
 items_of_one base f near labels place known (Jump to) = Go (labels to) ∷ []
@@ -215,19 +216,19 @@ word_recipe immediates.ShrU w = ShiftBy Srli (w % 32)
 word_recipe immediates.And w = WithImmediate Andi (low w)
 word_recipe immediates.Or w = WithImmediate Ori (low w)
 word_recipe immediates.Xor w = WithImmediate Xori (low w)
--- equal to 0 is less than 1, as unsigned; equal to another word means that the difference is 0
+-- "equal to 0" is "less than 1", as unsigned; "equal to another word" means that the difference is 0
 word_recipe immediates.Eq w = if w == 0 then WithImmediate Sltiu 1 else ZeroOfImmediate Addi (low (neg w))
--- not equal to 0 is "0 is less", as unsigned; not equal to another word means that the difference is not 0
+-- "not equal to 0" is "0 is less", as unsigned; "not equal to another word" means that the difference is not 0
 word_recipe immediates.Ne w = if w == 0 then OnZero operation.Sltu else NonzeroOfImmediate Addi (low (neg w))
 word_recipe immediates.LtS w = WithImmediate Slti (low w)
 word_recipe immediates.LtU w = WithImmediate Sltiu (low w)
--- at most the word is less than the next one
+-- "at most the word" is "less than the next word"
 word_recipe immediates.LeS w = WithImmediate Slti (low (add w 1))
 word_recipe immediates.LeU w = WithImmediate Sltiu (low (add w 1))
--- more than the word, which is 0, is "0 is less"
+-- "more than the word", which is 0, is "0 is less"
 word_recipe immediates.GtS w = OnZero operation.Slt
 word_recipe immediates.GtU w = OnZero operation.Sltu
--- at least the word is not less than it
+-- "at least the word" is "not less than the word"
 word_recipe immediates.GeS w = ZeroOfImmediate Slti (low w)
 word_recipe immediates.GeU w = ZeroOfImmediate Sltiu (low w)
 
@@ -244,8 +245,8 @@ word_recipe_items (ZeroOfImmediate o n) to a = Plain (first_instr (ZeroOfImmedia
 word_recipe_items (NonzeroOfImmediate o n) to a = Plain (first_instr (NonzeroOfImmediate o n) 5 a) ∷ Plain (instr.Op operation.Sltu to 0 5) ∷ []
 word_recipe_items recipe to a = Plain (first_instr recipe to a) ∷ []
 
--- a branch on a register and a word, by the recipe of the comparison: on x0 alone if that has the same result, else on x5 after the
--- recipe's first instruction
+-- a branch on a register and a word, by the recipe of the comparison: a comparison with x0 only, if that has the same result, else one of
+-- x5 after the recipe's first instruction
 abbrev pub word_branch_items : (alone : Option Condition) → WordRecipe → (near nonzero : Bool) → (from place to : ℕ) → List PieceItem
 word_branch_items (Some c) recipe near nonzero a place to = branch_items near (turned nonzero c) place to
 word_branch_items None recipe near nonzero a place to = Plain (first_instr recipe 5 a) ∷ branch_items near (turned nonzero (compares (asked_of recipe) 5 0)) (place + 1) to
@@ -260,8 +261,8 @@ load_at known width to address = upper_items known address ++ load_element width
 abbrev pub store_at : Remembered → Width → (from address : ℕ) → List PieceItem
 store_at known width from address = upper_items known address ++ store_element width (base_register known) from (part_of known address) ∷ []
 
--- the items of a step at a place; `known` is how much of its address is there; a nearby element is an element of an object that begins that
--- much further on
+-- the items of a step at a place; `known` is how much of its address the registers hold; a nearby element is an element of an object that
+-- begins that much further on
 abbrev pub items_of_step : (base : ℕ → ℕ) → Frame → (near : ℕ → Bool) → (labels : ℕ → ℕ) → (place : ℕ) → Remembered → Step → List PieceItem
 items_of_step base f near labels place known (One item) = items_of_one base f near labels place known item
 items_of_step base f near labels place known (Immediate operator to from word) = word_recipe_items (word_recipe operator word) to from
@@ -283,11 +284,11 @@ items_of base f near labels place s = items_of_step base f near labels place s.k
 abbrev pub stack_moved_size : Frame → ℕ
 stack_moved_size f = if frame_size f == 0 then 0 else 1
 
--- those that set x3
+-- the number of items that set x3
 abbrev pub pointer_size : (sets_pointer : Bool) → ℕ
 pointer_size sets_pointer = if sets_pointer then 2 else 0
 
--- those of the prologue
+-- the number of items of the prologue
 abbrev pub prologue_size : Frame → ℕ
 prologue_size f = pointer_size f.sets_pointer + (stack_moved_size f + length f.saved)
 
@@ -303,7 +304,7 @@ recipe_size (NonzeroOf o) = 2
 abbrev pub branch_size : (near : Bool) → ℕ
 branch_size near = if near then 1 else 2
 
--- those of an access to an element whose number is in a register
+-- the number of items of an access to an element whose number is in a register
 abbrev pub access_size : Remembered → Width → ℕ
 access_size Nothing Byte = 3
 access_size Nothing Word = 4
@@ -314,7 +315,7 @@ access_size ByPointer Byte = 2
 access_size ByPointer Word = 3
 access_size ElementByPointer width = 1
 
--- those of an access to an element whose number is known
+-- the number of items of an access to an element whose number is known
 abbrev pub known_access_size : Remembered → ℕ
 known_access_size Nothing = 2
 known_access_size known = 1
@@ -359,7 +360,7 @@ size_of_step f near known (BranchImmediate operator nonzero from word to) = word
 abbrev pub size : Frame → (near : ℕ → Bool) → Addressed → ℕ
 size f near s = size_of_step f near s.known s.step
 
--- those of a step with each branch in its long form
+-- the number of items of a step with each branch in its long form
 abbrev pub long_size : Frame → Addressed → ℕ
 long_size f s = size f (λ label. false) s
 
@@ -377,7 +378,7 @@ label_of_step step = None
 abbrev pub is_label : (label : ℕ) → Addressed → Bool
 is_label label s = is_label_step label s.step
 
--- in the first pass, in steps from this place on; their end, if the label does not occur
+-- a label's place in the first pass, for steps that begin at `place`; the end of the steps, if the label does not occur
 abbrev pub long_place : Frame → (place : ℕ) → List Addressed → (label : ℕ) → ℕ
 long_place f place [] label = place
 long_place f place (s ∷ steps) label = if is_label label s then place else long_place f (place + long_size f s) steps label
@@ -391,7 +392,7 @@ is_close from to = nat_lt from (to + 1024) && nat_lt to (from + 1024)
 abbrev pub is_near : Frame → List Addressed → (long label : ℕ) → Bool
 is_near f steps long label = is_close long (long_place f 0 steps label)
 
--- in the second pass, in steps from this place on; `long` is their place in the first pass
+-- a label's place in the second pass, for steps that begin at `place`; `long` is their place in the first pass
 abbrev pub short_place : Frame → (near : (long label : ℕ) → Bool) → (long place : ℕ) → List Addressed → (label : ℕ) → ℕ
 short_place f near long place [] label = place
 short_place f near long place (s ∷ steps) label =

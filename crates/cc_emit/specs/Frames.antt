@@ -21,7 +21,7 @@ frame_size f = 4 * (f.slots + length f.saved)
 abbrev pub kept_registers : List ℕ
 kept_registers = 8 ∷ 9 ∷ 18 ∷ 19 ∷ 20 ∷ 21 ∷ 22 ∷ 23 ∷ 24 ∷ 25 ∷ 26 ∷ 27 ∷ []
 
--- whether an item of Linear writes a register, other than as one that a call destroys
+-- whether an item of Linear writes a register; a call that destroys the register does not count
 abbrev pub item_writes : (register : ℕ) → LinearItem → Bool
 item_writes r (Copy m) = same_location (target m) (Register r)
 item_writes r (Const to word) = to == r
@@ -30,7 +30,7 @@ item_writes r (Binary operator to left right) = to == r
 item_writes r (Load width object to index) = to == r
 item_writes r item = false
 
--- whether a step does
+-- whether a step writes a register, in the same sense
 abbrev pub writes : (register : ℕ) → Step → Bool
 writes r (One item) = item_writes r item
 writes r (Immediate operator to from word) = to == r
@@ -42,7 +42,7 @@ abbrev pub is_written : List Step → (register : ℕ) → Bool
 is_written [] r = false
 is_written (step ∷ steps) r = writes r step || is_written steps r
 
--- those of these registers that steps write
+-- those of these registers that the steps write
 abbrev pub written : List Step → List ℕ → List ℕ
 written steps [] = []
 written steps (r ∷ rs) = if is_written steps r then r ∷ written steps rs else written steps rs

@@ -1,6 +1,6 @@
 -- The code of a whole function: its steps, each with how much of its address is known, in their frame.
 use Rattle.std.specs.Prelude.{ℕ, ◌+◌, Bool, false, Option, Some, None, List, ◌++◌, length, map}
-use Rattle.cc_c_laws.specs.Numbered.{objects_in}
+use Rattle.cc_c_semantics.specs.Numbered.{objects_in}
 use Rattle.cc_select.specs.Pair as above
 use Rattle.cc_select.specs.declared.step.Step.{Step}
 use Rattle.cc_emit.specs.declared.item.PieceItem.{PieceItem}
@@ -15,11 +15,11 @@ use Rattle.cc_emit.specs.Scratch.{nothing, addressed, gains}
 abbrev pub items_with : (base : ℕ → ℕ) → (sets_pointer : Bool) → (slots : ℕ) → List Step → List PieceItem
 items_with base sets_pointer slots steps = framed_items base (frame_of sets_pointer slots steps) (addressed base sets_pointer nothing steps)
 
--- it does where it gains by that
+-- the function's code, which sets x3 exactly if the function gains by that
 abbrev pub whole_items : (base : ℕ → ℕ) → (slots : ℕ) → List Step → List PieceItem
 whole_items base slots steps = items_with base (gains base steps) slots steps
 
--- an item of code that stands behind this many others
+-- an item of code that has this many others before it
 abbrev pub shifted : (before : ℕ) → PieceItem → PieceItem
 shifted n (Plain i) = Plain i
 shifted n (Call g) = Call g
@@ -28,7 +28,7 @@ shifted n (Go to) = Go (to + n)
 abbrev pub behind : List PieceItem → List PieceItem → List PieceItem
 behind head items = head ++ map (shifted (length head)) items
 
--- behind what may return before there is a frame
+-- the function's code: first what may return before there is a frame, if there is such a part
 abbrev pub early_items : (base : ℕ → ℕ) → (slots : ℕ) → Option Early → List Step → List PieceItem
 early_items base slots None steps = whole_items base slots steps
 early_items base slots (Some e) steps = behind (items_with base false 0 e.head) (whole_items base slots e.rest)

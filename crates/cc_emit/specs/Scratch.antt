@@ -1,11 +1,11 @@
--- What x5 and x6 hold between the steps of a straight piece, and how much of an element's address is there already because of it. An access
+-- What x5 and x6 hold between the steps of a straight piece, and how much of an element's address they therefore hold already. An access
 -- leaves in x6 the upper part of an address, and in x5 the address of the element, minus the lower part of its object's address or minus
 -- the object's distance from x3. So the next access to a nearby object needs no upper part, and the next one to elements with the same
 -- number, in any object that is reached the same way, is one instruction.
 --
 -- A function sets x3 to the global pointer if its accesses then take fewer instructions, including those that set it: from there an access
 -- reaches the first 4 KiB of the globals. An access in a loop counts as eight. Each step says which of these applies to its access, and its
--- size follows from that alone.
+-- size follows from that and nothing else.
 use Rattle.std.specs.Prelude.{ℕ, ◌*◌, ◌+◌, ◌^◌, Bool, true, false, ◌&&◌, ◌||◌, ◌==◌, nat_le, nat_lt, if◌then◌else◌, Option, Some, None, List, [], ◌∷◌}
 use Rattle.cc_words.specs.declared.operators.Width.{Width}
 use Rattle.cc_words.specs.Widths.{same_width}
@@ -32,12 +32,12 @@ use Rattle.cc_emit.specs.Emission.{access_size, high, known_access_size, known_p
 
 -- ---- what the registers hold
 
--- nothing is known about them
+-- nothing is known about either register
 abbrev pub nothing : Scratch
 nothing = record { upper = None; address = None }
 
--- x5 is the sum of a word, which is the upper part of the object's address times 2^12 or the global pointer, and of what the element's
--- number takes in bytes
+-- x5 is the sum of a word and of the distance in bytes of the element from the first one; the word is the upper part of the object's
+-- address times 2^12, or the global pointer
 abbrev pub address_of : Width → (index sum_base : ℕ) → ElementAddress
 address_of width index sum_base = record { width = width; index = index; sum_base = sum_base }
 
@@ -55,8 +55,8 @@ is_address (Some a) width index sum_base = same_width a.width width && ((a.index
 abbrev pub is_in_reach : (address : ℕ) → Bool
 is_in_reach a = nat_le globals_from a && nat_lt a (globals_from + 4096)
 
--- how much is there of the address of an element whose number is in a register; `sets_pointer` says whether x3 is the global pointer. An
--- address in x5 needs no instruction, so it has priority
+-- how much the registers hold of the address of an element whose number is in a register; `sets_pointer` says whether x3 is the global
+-- pointer. An address in x5 needs no instruction, so it has priority
 abbrev pub known_of : (sets_pointer : Bool) → Scratch → Width → (base index : ℕ) → Remembered
 known_of sets_pointer k width base index =
     if is_address k.address width index (high base * 2 ^ 12) then Element
@@ -64,11 +64,11 @@ known_of sets_pointer k width base index =
     else if is_upper k.upper (high base) then Upper
     else Nothing
 
--- how much is there of a known address
+-- how much the registers hold of a known address
 abbrev pub known_at : (sets_pointer : Bool) → Scratch → (address : ℕ) → Remembered
 known_at sets_pointer k address = if sets_pointer && is_in_reach address then ByPointer else if is_upper k.upper (high address) then Upper else Nothing
 
--- of the address that a step reads or writes, if it does
+-- how much the registers hold of the address that a step reads or writes, if it does either
 abbrev pub remembered : (base : ℕ → ℕ) → (sets_pointer : Bool) → Scratch → Step → Remembered
 remembered base sets_pointer k (One (Load width object to index)) = known_of sets_pointer k width (base object) index
 remembered base sets_pointer k (One (Store width object index from)) = known_of sets_pointer k width (base object) index
@@ -85,11 +85,11 @@ abbrev pub unless_of : (register : ℕ) → Option ElementAddress → Option Ele
 unless_of register None = None
 unless_of register (Some a) = if a.index == register then None else Some a
 
--- a register is written
+-- what is known after a register is written
 abbrev pub without : (register : ℕ) → Scratch → Scratch
 without register k = record { upper = k.upper; address = unless_of register k.address }
 
--- x5 is used
+-- what is known after x5 is used
 abbrev pub without_address : Scratch → Scratch
 without_address k = record { upper = k.upper; address = None }
 
@@ -118,21 +118,21 @@ upper_behind Nothing upper a = Some (high a)
 upper_behind Upper upper a = Some (high a)
 upper_behind known upper a = upper
 
--- what x5 holds in addition to the element's number in bytes
+-- what x5 holds in addition to the element's distance in bytes from the first one
 abbrev pub sum_base : Remembered → (base : ℕ) → ℕ
 sum_base ByPointer base = global_pointer
 sum_base ElementByPointer base = global_pointer
 sum_base known base = high base * 2 ^ 12
 
--- after an access to an element whose number is in a register
+-- what is known after an access to an element whose number is in a register
 abbrev pub behind_element : Remembered → Scratch → Width → (base index : ℕ) → Scratch
 behind_element known k width base index = record { upper = upper_behind known k.upper base; address = Some (address_of width index (sum_base known base)) }
 
--- after an access to an address
+-- what is known after an access to an address
 abbrev pub behind_at : Remembered → Scratch → (address : ℕ) → Scratch
 behind_at known k address = record { upper = upper_behind known k.upper address; address = k.address }
 
--- after an item of Linear: a jump may lead to a label, and a call destroys both registers
+-- what is known after an item of Linear: a jump may lead to a label, and a call destroys both registers
 abbrev pub behind_one : (base : ℕ → ℕ) → (sets_pointer : Bool) → LinearItem → Scratch → Scratch
 behind_one base sets_pointer (Label label) k = nothing
 behind_one base sets_pointer (Jump to) k = nothing
@@ -206,7 +206,7 @@ abbrev pub lead_back : (labels : List ℕ) → List Step → Bool
 lead_back [] steps = false
 lead_back (label ∷ labels) steps = lead_to label steps || lead_back labels steps
 
--- how many times an access counts, by the labels before it and the steps from it on: eight times in a loop, which goes from a label to a
+-- how many times an access counts, given the labels before it and the steps from it on: eight times in a loop, which goes from a label to a
 -- later step that leads back to it
 abbrev pub loop_weight : ℕ
 loop_weight = 8
@@ -219,7 +219,7 @@ abbrev pub labels_past : Option ℕ → List ℕ → List ℕ
 labels_past None labels = labels
 labels_past (Some label) labels = label ∷ labels
 
--- the number of instructions that the accesses of these steps take, each counted by its weight
+-- the number of instructions that the accesses of these steps take, each multiplied by its weight
 abbrev pub accesses_size : (base : ℕ → ℕ) → (sets_pointer : Bool) → Scratch → (labels : List ℕ) → List Step → ℕ
 accesses_size base sets_pointer k labels [] = 0
 accesses_size base sets_pointer k labels (step ∷ steps) =

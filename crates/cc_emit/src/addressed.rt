@@ -1,23 +1,24 @@
-// A step together with how much of its address is in the machine's registers already. Both decide how many items the step takes.
+// A step, together with how much of the address that it accesses is in the machine's registers already. Both decide how many items the step
+// takes.
 
 use cc_select::Step;
 
-/// How much of an access's address is already there.
+/// How much of an access's address the registers already hold.
 #[derive(Clone, Copy)]
 pub(crate) enum Remembered {
     /// Nothing.
     Nothing,
-    /// `x6` holds its upper part.
+    /// `x6` holds the address's upper part.
     Upper,
     /// `x5` holds the element's address, minus the lower part of its object's address.
     Element,
-    /// `x3` holds the global pointer, from which the access is reached.
+    /// `x3` holds the global pointer, from which the address is reached.
     ByPointer,
     /// `x5` holds the element's address, minus the distance of its object from `x3`.
     ElementByPointer,
 }
 
-/// A step, and how much of its address is there, if it reads or writes an element.
+/// A step and, if it reads or writes an element, how much of the element's address the registers already hold.
 #[derive(Clone, Copy)]
 pub(crate) struct Addressed {
     pub(crate) step: Step,

@@ -1,23 +1,23 @@
-// The addresses of a unit's objects: each right after the one before it, in the order of their declarations.
+// The addresses of a unit's objects: each object lies right after the one before it, in the order of their declarations.
 
 ghost use Rattle.std.specs.Prelude.{◌≡◌, ◌≤◌, ◌<◌, ◌++◌, ◌∷◌, ℕ, List, length, IfOk, OnOk};
 ghost use Rattle.cc_ast.specs.Erase.{object_trees, external_tree, external_trees};
 ghost use Rattle.cc_ast.specs.Tree.{External as Tree};
 ghost use Rattle.cc_types.specs.Limits.{objects};
 ghost use Rattle.cc_types.specs.Typed.{IsTyped, IsWithinLimits};
-ghost use Rattle.cc_c_laws.specs.Numbered.{objects_in};
+ghost use Rattle.cc_c_semantics.specs.Numbered.{objects_in};
 ghost use Rattle.cc_rv32.specs.Machine.{globals_to};
 ghost use Rattle.cc_emit.specs.Objects.{object_address};
 ghost use Rattle.cc_emit.specs.internal.Bases.{base_in, bases_from, address_behind};
 
 use cc_ast::{External, Object};
-use cc_c_laws::names_have_numbers;
+use cc_c_semantics::names_have_numbers;
 use cc_rv32::map::GLOBALS_FROM;
 use cc_types::object_words;
 use std::alloc::{AllocError, Global};
 use std::marker::Model;
 
-/// The address of each object, and the one after the last. Contracts see the list.
+/// The address of each object, and the address after the last one. Contracts see the list.
 #[derive(Drop)]
 pub(crate) struct Bases {
     addresses: Vec<u32>,
@@ -34,7 +34,7 @@ impl Model for Bases {
 }
 
 impl Bases {
-    /// The addresses of a unit's objects, from its declarations. Err: memory ran out.
+    /// Works out the addresses of a unit's objects from its declarations. Err: memory ran out.
     pub(crate) fn new(alloc: Global, trees: &[External]) -> Result<Bases, AllocError>
         requires typed { IsTyped (external_trees trees.now) }
         requires limits { IsWithinLimits (external_trees trees.now) }
@@ -70,7 +70,7 @@ fn objects_of(external: &External) -> &[Object]
     }
 }
 
-// Adds the addresses of some objects, the first of which lies at `address`, and answers the address after them.
+// Adds the addresses of these objects, which lie from `address` on, and answers the address after them.
 fn add_bases(addresses: &mut Vec<u32>, address: u32, trees: &[Object]) -> Result<u32, AllocError>
     requires { address_behind address (object_trees trees.now) ≤ globals_to }
     ensures bases { OnOk result (addresses.new.items ≡ addresses.old.items ++ bases_from address (object_trees trees.now)) }

@@ -47,7 +47,7 @@ fn put_branch(
     }
 }
 
-// Puts a branch on a register and a word to the item with that number, by the recipe of their comparison.
+// Puts a branch on a register and a word to the item with that number, by the recipe for their comparison.
 fn put_word_branch(
     items: &mut Vec<PieceItem>,
     near: bool,
@@ -72,7 +72,7 @@ fn put_word_branch(
     }
 }
 
-/// Puts a branch to a label. `here` is the number of items from the step on, with each branch long.
+/// Puts a branch to a label. `here` is the number of items from the step to the end, with each branch long.
 pub(crate) fn put_branch_to(
     items: &mut Vec<PieceItem>,
     places: &Places,
@@ -89,7 +89,7 @@ pub(crate) fn put_branch_to(
     put_branch(items, near, condition, place)
 }
 
-/// The same for a branch on a register and a word.
+/// Does the same for a branch on a register and a word.
 pub(crate) fn put_word_branch_to(
     items: &mut Vec<PieceItem>,
     places: &Places,

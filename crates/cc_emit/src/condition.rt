@@ -19,7 +19,7 @@ pub(crate) struct Condition {
 }
 
 impl Condition {
-    /// Two registers compare like this.
+    /// The condition that two registers compare like this.
     pub(crate) fn new(operation: BranchOperation, left: u8, right: u8) -> Condition
         requires left { left < 32 }
         requires right { right < 32 }
@@ -43,7 +43,7 @@ impl Condition {
         }
     }
 
-    /// This condition for `nonzero`, else its opposite.
+    /// This condition if `nonzero` is true, else its opposite.
     pub(crate) fn turned(self, nonzero: bool) -> Condition
         ensures { result ≡ turned nonzero self }
     {
@@ -114,7 +114,7 @@ fn immediate_against_zero(operation: ImmediateOperation, part: u32, from: u8) ->
     }
 }
 
-// The same for an instruction on 0 and a register.
+// The same condition for an instruction on 0 and a register.
 fn operation_on_zero(operation: RegisterOperation, from: u8) -> Option<Condition>
     requires { from < 32 }
     ensures { result ≡ operation_on_zero operation from }

@@ -1,6 +1,6 @@
-// What stands before a function's frame: where a function begins with operations on registers that a call destroys and a test, and the test
-// leads to a label behind which the function returns, at most one such operation further on, these stand before the frame is made, with the
-// test the other way round. The test goes on behind them.
+// What comes before a function's frame. A function may begin with operations on registers that a call destroys, followed by a test that
+// leads to a label after which the function returns, with at most one such operation before the return. In such a function all of this
+// comes before the frame is made, with the test the other way round: it jumps over the return to the rest of the function.
 
 ghost use Rattle.std.specs.Prelude.{◌≡◌, ◌≤◌, ◌+◌, ◌∷◌, ◌++◌, [], List, IfOk, IfSome, drop, take, length, option_map};
 ghost use Rattle.cc_ltl.specs.Registers.{most_slots};
@@ -169,7 +169,7 @@ fn last_of(code: &[Step], at: usize) -> Option<Option<Step>>
     }
 }
 
-// The same from a label on.
+// What comes between a label and the return after it: at most one light step.
 fn ending(code: &[Step], label: u32) -> Option<Option<Step>>
     ensures { option_map listed result ≡ ending (place code.now label) }
 {
@@ -196,7 +196,7 @@ fn light_count(code: &[Step]) -> usize
     count
 }
 
-// The steps before the frame: these, the test the other way round, the return and the label.
+// The steps before the frame: those of `before`, the test the other way round, the return and the label.
 fn head_of(alloc: Global, before: &[Step], fork: Fork) -> Result<Vec<Step>, AllocError>
     ensures { IfOk result (λ head. head.items ≡ before.now ++ (fork.turned ∷ One Return ∷ One (Label fork.to) ∷ [])) }
 {
@@ -224,7 +224,7 @@ fn head_with(
     Ok(head)
 }
 
-// What stands before a frame, if there is such.
+// What comes before the frame, if anything does.
 fn found(alloc: Global, code: &[Step]) -> Result<Option<Ahead>, AllocError>
     ensures found { IfOk result (λ found. option_map (shown code.now) found ≡ early_from code.now code.now) }
     ensures few { IfOk result (λ found. IfSome found (λ a. (a.taken ≤ length code.now) × (length a.head.items ≤ length code.now + 4))) }

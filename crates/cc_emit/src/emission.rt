@@ -92,7 +92,8 @@ fn part_of(known: Remembered, address: u32) -> u32
     }
 }
 
-// Puts an access to an element that lies this many bytes after the first one: x5 becomes its address, minus the object's part of it.
+// Puts an access to an element whose distance in bytes from the first one is in a register: x5 becomes the element's address, minus the
+// object's part of it.
 fn put_based(
     items: &mut Vec<PieceItem>,
     known: Remembered,
@@ -155,7 +156,7 @@ fn put_load(
     put_indexed(items, known, width, base, index, access)
 }
 
-// Puts a store into such an element.
+// Puts a store into an element of an object whose address is `base`.
 fn put_store(
     items: &mut Vec<PieceItem>,
     known: Remembered,
@@ -217,8 +218,8 @@ fn put_service(items: &mut Vec<PieceItem>, number: u32) -> Result<(), AllocError
     put(items, serve())
 }
 
-// Puts the items of one item of Linear. `known` is how much of its address is there, `here` the number of items from it on, with each
-// branch long; `bases` has the objects' addresses.
+// Puts the items of one item of Linear. `known` is how much of its address the registers hold, `here` the number of items from it to the
+// end, with each branch long; `bases` has the objects' addresses.
 fn put_items_of_one(
     items: &mut Vec<PieceItem>,
     frame: &Frame,
@@ -288,8 +289,8 @@ fn put_items_of_one(
     }
 }
 
-// Puts the items of a step. `known` is how much of its address is there, `here` the number of items from it on, with each branch long;
-// `bases` has the objects' addresses.
+// Puts the items of a step. `known` is how much of its address the registers hold, `here` the number of items from it to the end, with each
+// branch long; `bases` has the objects' addresses.
 fn put_items_of(
     items: &mut Vec<PieceItem>,
     frame: &Frame,
@@ -368,7 +369,7 @@ fn put_items_of(
     }
 }
 
-// Puts the items of a function after its prologue.
+// Puts the items that follow a function's prologue.
 fn put_code(
     items: &mut Vec<PieceItem>,
     frame: &Frame,
@@ -390,8 +391,8 @@ fn put_code(
     Ok(())
 }
 
-// The items of the code of a function with this many slots, all in its frame. `bases` has the objects' addresses, and the labels are below
-// `count`. Err: memory ran out.
+// The items of the code of a function with this many slots, with all of it in the frame. `bases` has the objects' addresses, and the labels
+// are below `count`. Err: memory ran out.
 fn whole_items(
     alloc: Global,
     slots: u16,
@@ -414,7 +415,7 @@ fn whole_items(
     Ok(items)
 }
 
-// An item of code after this many others. No memory holds so many items that the sum overflows.
+// An item of code, adjusted for `before` other items that come before it. No memory holds so many items that the sum overflows.
 fn shifted(before: usize, item: PieceItem) -> Result<PieceItem, AllocError>
     ensures { IfOk result (λ moved. moved ≡ shifted before item) }
 {

@@ -11,14 +11,13 @@ use cc_select::SelectedPair;
 use std::alloc::{AllocError, Global};
 use std::sync::Arc;
 
-/// The most steps that are emitted. No memory holds more.
+/// At most this many steps are emitted. No memory holds more.
 const MOST_STEPS: usize = 1 << 55;
 
-/// The code of a function of a unit, as its items: those of `specs/Function.antt`, at most 15 for a step.
-/// That the machine does with them what the function does belongs to the answer's type. The LTL is kept beside them, and how many bytes the
-/// frame has.
+/// Makes the items of the code of a unit's function: those of `specs/Function.antt`, at most 15 for a step. The answer's type keeps that
+/// the machine does with them what the function does. The answer also has the LTL, and the number of bytes of the frame.
 ///
-/// It fails only for lack of memory (40); the pair is gone then.
+/// This fails only if memory runs out (40); the pair is gone then.
 pub fn emit(alloc: Global, pair: SelectedPair) -> Result<Piece, AllocError>
     ensures mode { IfOk result (λ piece. piece.mode ≡ pair.mode) }
     ensures unit { IfOk result (λ piece. piece.unit ≡ pair.unit) }

@@ -20,7 +20,7 @@ use std::marker::Model;
 /// The registers that a function leaves as it found them.
 const KEPT: [u8; 12] = [8, 9, 18, 19, 20, 21, 22, 23, 24, 25, 26, 27];
 
-/// A function saves at most this many registers: those, and `x1`.
+/// A function saves at most this many registers: those of `KEPT`, and `x1`.
 const MOST_SAVED: usize = 13;
 
 /// The frame of a function: whether it sets `x3`, at most 495 slots, and at most 13 registers. Contracts see all three.
@@ -72,7 +72,7 @@ impl Frame {
         })
     }
 
-    /// The registers that it saves, in the order of their places.
+    /// The registers that the function saves, in the order of their places.
     pub(crate) fn saved(&self) -> &[u8]
         ensures answer { result.now ≡ self.now.saved }
         ensures few { length self.now.saved ≤ 13 }
@@ -81,7 +81,7 @@ impl Frame {
         self.saved.as_slice()
     }
 
-    /// Its number of bytes.
+    /// The number of bytes of the frame.
     pub(crate) fn size(&self) -> u32
         ensures answer { result ≡ frame_size self.now }
         ensures small { result ≤ 2032 }
@@ -89,7 +89,7 @@ impl Frame {
         4 * (u32::from(self.slots) + self.saved.len() as u32)
     }
 
-    /// The number of items that move the stack pointer by it: one, or none if the frame is empty.
+    /// The number of items that move the stack pointer by the frame's size: one, or none if the frame is empty.
     pub(crate) fn moves(&self) -> usize
         ensures answer { result ≡ stack_moved_size self.now }
         ensures few { result ≤ 1 }
@@ -193,7 +193,7 @@ fn is_call(step: &Step) -> bool
     matches!(step, Step::One(LinearItem::Call { .. }))
 }
 
-// For each register, whether steps write it, other than as a register that a call destroys.
+// For each register, whether steps write it. A call that destroys it does not count.
 fn written(code: &[Step]) -> [bool; 32]
     ensures { (r : ℕ) → r < 32 → get_or result r false ≡ is_written code.now r }
 {
@@ -206,7 +206,7 @@ fn written(code: &[Step]) -> [bool; 32]
     written
 }
 
-// The register that a step writes, other than one that a call destroys.
+// The register that a step writes, if there is one. What a call destroys does not count.
 fn target(step: &Step) -> Option<u8>
     ensures { MatchOption result ((r : ℕ) → writes r step.now ≡ false) (λ to. (to < 32) × ((r : ℕ) → writes r step.now ≡ (to == r))) }
 {
@@ -219,7 +219,7 @@ fn target(step: &Step) -> Option<u8>
     }
 }
 
-// The register that an item of Linear writes.
+// The register that an item of Linear writes, in the same sense.
 fn item_target(item: &LinearItem) -> Option<u8>
     ensures { MatchOption result ((r : ℕ) → item_writes r item.now ≡ false) (λ to. (to < 32) × ((r : ℕ) → item_writes r item.now ≡ (to == r))) }
 {

@@ -1,4 +1,4 @@
-// Instructions by the numbers of their operands, as items; and a word split in two, for `lui` and the instruction after it.
+// Makes instructions, as items, from the numbers of their operands; and splits a word in two, for `lui` and the instruction after it.
 
 ghost use Rattle.std.specs.Prelude.{◌≡◌, ◌<◌, ◌^◌, ◌++◌, ◌∷◌, [], OnOk};
 ghost use Rattle.cc_rv32.specs.Fields.{IsImmediate, IsBranchOffset};
@@ -91,7 +91,7 @@ pub(crate) fn operate_immediate(operation: ImmediateOperation, to: u8, from: u8,
     }
 }
 
-/// A register plus an immediate.
+/// The instruction that adds an immediate to a register.
 pub(crate) fn add_immediate(to: u8, from: u8, word: u32) -> Instr
     requires to { to < 32 }
     requires from { from < 32 }
@@ -101,7 +101,7 @@ pub(crate) fn add_immediate(to: u8, from: u8, word: u32) -> Instr
     operate_immediate(ImmediateOperation::Addi, to, from, word)
 }
 
-/// A register shifted by 0 to 31 bits.
+/// The instruction that shifts a register by 0 to 31 bits.
 pub(crate) fn shift(operation: ShiftOperation, to: u8, from: u8, bits: u8) -> Instr
     requires to { to < 32 }
     requires from { from < 32 }
@@ -116,7 +116,7 @@ pub(crate) fn shift(operation: ShiftOperation, to: u8, from: u8, bits: u8) -> In
     }
 }
 
-/// A register times 4.
+/// The instruction that multiplies a register by 4.
 pub(crate) fn four_times(to: u8, from: u8) -> Instr
     requires to { to < 32 }
     requires from { from < 32 }
@@ -125,7 +125,7 @@ pub(crate) fn four_times(to: u8, from: u8) -> Instr
     shift(ShiftOperation::Slli, to, from, 2)
 }
 
-/// The element at a register plus an offset.
+/// The instruction that loads the element at a register plus an offset.
 pub(crate) fn load_element(width: Width, to: u8, at: u8, offset: u32) -> Instr
     requires to { to < 32 }
     requires at { at < 32 }
@@ -143,7 +143,7 @@ pub(crate) fn load_element(width: Width, to: u8, at: u8, offset: u32) -> Instr
     }
 }
 
-/// The word at a register plus an offset.
+/// The instruction that loads the word at a register plus an offset.
 pub(crate) fn load(to: u8, at: u8, offset: u32) -> Instr
     requires to { to < 32 }
     requires at { at < 32 }
@@ -153,7 +153,7 @@ pub(crate) fn load(to: u8, at: u8, offset: u32) -> Instr
     load_element(Width::Word, to, at, offset)
 }
 
-/// An element written at a register plus an offset.
+/// The instruction that stores an element at a register plus an offset.
 pub(crate) fn store_element(width: Width, at: u8, from: u8, offset: u32) -> Instr
     requires at { at < 32 }
     requires from { from < 32 }
@@ -171,7 +171,7 @@ pub(crate) fn store_element(width: Width, at: u8, from: u8, offset: u32) -> Inst
     }
 }
 
-/// A word written at a register plus an offset.
+/// The instruction that stores a word at a register plus an offset.
 pub(crate) fn store(at: u8, from: u8, offset: u32) -> Instr
     requires at { at < 32 }
     requires from { from < 32 }
@@ -194,7 +194,7 @@ pub(crate) fn branch(condition: Condition, offset: u32) -> Instr
     }
 }
 
-/// The upper twenty bits of a register, and zeros below them.
+/// The instruction that sets the upper twenty bits of a register, and zeros below them.
 pub(crate) fn load_upper(to: u8, field: u32) -> Instr
     requires to { to < 32 }
     requires field { field < 2 ^ 20 }
@@ -206,7 +206,7 @@ pub(crate) fn load_upper(to: u8, field: u32) -> Instr
     }
 }
 
-/// Goes back to where the function was called.
+/// The instruction that goes back to where the function was called.
 pub(crate) fn go_back() -> Instr
     ensures { result ≡ Jalr 0 1 0 }
 {
@@ -217,7 +217,7 @@ pub(crate) fn go_back() -> Instr
     }
 }
 
-/// Calls the machine's service whose number is in `x17`.
+/// The instruction that calls the machine's service whose number is in `x17`.
 pub(crate) fn serve() -> Instr
     ensures { result ≡ Ecall }
 {
@@ -245,7 +245,7 @@ pub(crate) fn high(word: u32) -> u32
     ((u64::from(word) + 2048) / 4096 % 1_048_576) as u32
 }
 
-/// The distance from `x3` of an address within its reach.
+/// The distance from `x3` to an address within its reach.
 pub(crate) fn from_pointer(address: u32) -> u32
     ensures value { result ≡ from_pointer address }
     ensures fits { IsImmediate result }

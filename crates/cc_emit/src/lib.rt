@@ -1,4 +1,4 @@
-//! Emission: from the selected steps of a function to the items of its code for RV32IM.
+//! Emission: makes the items of a function's code for RV32IM from its selected steps.
 //!
 //! `item` has the items, `piece` the type that keeps that a function's code does what the function does. The steps of a function are those
 //! that `cc_select` selects. `specs/Emission.antt` defines the items of a step, `specs/Branches.antt` the branch that replaces a
@@ -6,8 +6,8 @@
 //!
 //! `emitting` is the pass. `bases` has the objects' addresses, `frame` which registers are saved and where, `loops` which steps are in
 //! loops, `scratch` whether `x3` is set and what the scratch registers hold between steps, so that each step is `addressed`, `early` what
-//! is before the frame, `tables` the places of labels and which branches are near; `emission` puts the items of each step, with the help of
-//! `constants`, `recipe`, `operators`, `condition`, `branches` and `instructions`.
+//! comes before the frame, `tables` the places of labels and which branches are near; `emission` puts the items of each step, with the help
+//! of `constants`, `recipe`, `operators`, `condition`, `branches` and `instructions`.
 #![tactic(auto)]
 
 mod addressed;

@@ -27,7 +27,7 @@ fn led_to(step: &Step) -> Option<u32>
     }
 }
 
-// Notes a step that leads to a label, if no later step does; `at` is the number of steps up to it.
+// If a step leads to a label to which no later step leads, notes it; `at` is the number of steps up to and including this one.
 fn note(last: &mut Vec<usize>, step: &Step, at: usize)
     ensures long { length last.new.items ≡ length last.old.items }
     ensures each { (label : ℕ) → label < length last.old.items → get_or last.new.items label 0 ≡ noted (is_led (led_to step.now) label) (get_or last.old.items label 0) at }
@@ -40,7 +40,8 @@ fn note(last: &mut Vec<usize>, step: &Step, at: usize)
     }
 }
 
-/// For each label below a number, the number of steps up to the last one that leads to it; 0 if none does. Err: memory ran out.
+/// For each label below `count`, the number of steps up to and including the last one that leads to it; 0 if none does. Err: memory ran
+/// out.
 pub(crate) fn last_leads(
     alloc: Global,
     code: &[Step],
@@ -63,7 +64,7 @@ fn later(a: usize, b: usize) -> usize
     if a < b { b } else { a }
 }
 
-/// The number of steps up to the last one that leads back to a label before the point after this step.
+/// The number of steps up to the last one that leads back to this step, if it is a label, or to a label before it.
 pub(crate) fn reach_past(last: &[usize], reach: usize, step: &Step) -> usize
     ensures { result ≡ reach_past last.now (label_of_step step.now) reach }
 {

@@ -85,7 +85,7 @@ pub(crate) fn put_immediate(
     }
 }
 
-// Whether the scratch register's word is 0.
+// The instruction that asks whether the scratch register's word is 0.
 fn is_zero(to: u8) -> Instr
     requires { to < 32 }
     ensures { result ≡ OpImm Sltiu to 5 1 }
@@ -93,7 +93,7 @@ fn is_zero(to: u8) -> Instr
     operate_immediate(ImmediateOperation::Sltiu, to, SCRATCH, 1)
 }
 
-// Whether the scratch register's word is not 0.
+// The instruction that asks whether the scratch register's word is not 0.
 fn is_nonzero(to: u8) -> Instr
     requires { to < 32 }
     ensures { result ≡ Op Sltu to 0 5 }

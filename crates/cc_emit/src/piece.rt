@@ -2,14 +2,14 @@
 
 ghost use Rattle.std.specs.Prelude.{◌≡◌, ◌<◌, ◌≤◌, length};
 ghost use Rattle.std.specs.Arc.{arc_value};
-ghost use Rattle.cc_c_laws.specs.Meaning.{functions};
+ghost use Rattle.cc_c_semantics.specs.Meaning.{functions};
 ghost use Rattle.cc_ltl.specs.Ltl.{IsLtl};
 ghost use Rattle.cc_linear_language.specs.Pair.{most_blocks, LtlKeepsUp};
 ghost use Rattle.cc_emit.specs.Contract.{largest_frame};
 ghost use Rattle.cc_emit.specs.Piece.{Piece as Shown, tree_of, IsPieceOfUnit};
 
 use crate::item::PieceItem;
-use cc_c_laws::Mode;
+use cc_c_semantics::Mode;
 use cc_ltl::Ltl;
 use cc_types::TypedUnit;
 use std::marker::Model;
@@ -27,7 +27,7 @@ pub struct Piece {
     items: Vec<PieceItem>,
 }
 
-// Written by hand, so that crates above call it and need not prove again how each part is dropped.
+// This is written by hand, so that crates above call it and need not prove again how each part is dropped.
 impl Drop for Piece {
     fn drop(self) {
         let Piece {
@@ -45,7 +45,7 @@ impl Model for Piece {
     ghost use Rattle.std.specs.Arc.{arc_value};
     ghost use Rattle.std.specs.Coded.{codes};
     ghost use Rattle.cc_ast.specs.contracts.unit.Unit as parsed;
-    ghost use Rattle.cc_c_laws.specs.contracts.mode.Mode as modes;
+    ghost use Rattle.cc_c_semantics.specs.contracts.mode.Mode as modes;
     ghost use Rattle.cc_emit.specs.Piece.{Piece as Shown, IsPieceOfUnit};
 
     ghost Value = { Shown };
@@ -102,7 +102,7 @@ impl Piece {
         self.function
     }
 
-    /// The LTL from which its code was made: at most 4,096 blocks, whose run keeps up with the function.
+    /// The LTL from which the code was made. It has at most 4,096 blocks, and its run keeps up with the function.
     pub fn ltl(&self) -> &Ltl
         ensures ltl { result.now ≡ self.now.ltl }
         ensures is_ltl { IsLtl self.now.ltl }
@@ -112,7 +112,7 @@ impl Piece {
         &self.ltl
     }
 
-    /// The number of bytes of its frame: at most 2,032.
+    /// The number of bytes of the frame: at most 2,032.
     pub fn frame(&self) -> u32
         ensures answer { result ≡ self.now.frame }
         ensures small { self.now.frame ≤ largest_frame }
@@ -120,7 +120,7 @@ impl Piece {
         self.frame
     }
 
-    /// The items of its code, one for each word. Each call is of a function of the unit, and each jump goes to an item of the piece or to
+    /// The items of the code, one for each word. Each call is of a function of the unit, and each jump goes to an item of the piece or to
     /// its end. Wherever the items are, the machine does with them what the function does.
     pub fn items(&self) -> &[PieceItem]
         ensures items { result.now ≡ self.now.items }
@@ -129,7 +129,7 @@ impl Piece {
         self.items.as_slice()
     }
 
-    /// The unit's owner.
+    /// Drops the piece and gives back its unit.
     pub fn into_unit(self) -> Arc<TypedUnit>
         ensures answer { arc_value result ≡ self.unit }
     {

@@ -1,5 +1,4 @@
-// How operators become instructions: one instruction, or one followed by asking whether its result is 0. And how many instructions that
-// takes.
+// How operators become instructions: each takes one, or one followed by a second that asks whether the first one's result is 0 or not.
 
 ghost use Rattle.std.specs.Prelude.{◌≡◌, ◌<◌, ◌≤◌};
 ghost use Rattle.cc_emit.specs.Branches.{asked_of};
@@ -56,7 +55,7 @@ impl Recipe {
         }
     }
 
-    /// The number of items that it takes.
+    /// The number of items that the recipe takes.
     pub(crate) fn size(self) -> usize
         ensures answer { result ≡ recipe_size self }
         ensures few { result ≤ 2 }
@@ -120,7 +119,7 @@ impl WordRecipe {
         }
     }
 
-    /// The number of items that it takes.
+    /// The number of items that the recipe takes.
     pub(crate) fn size(self) -> usize
         ensures answer { result ≡ word_recipe_size self }
         ensures few { result ≤ 2 }
@@ -132,7 +131,7 @@ impl WordRecipe {
         }
     }
 
-    /// The first instruction, with its result in a register.
+    /// The recipe's first instruction, with its result in a register.
     pub(crate) fn first(self, to: u8, from: u8) -> Instr
         requires room { HasRoom self }
         requires to { to < 32 }
@@ -150,7 +149,7 @@ impl WordRecipe {
         }
     }
 
-    /// How the word of that instruction compares to 0 if the recipe gives a word that is not 0.
+    /// How the first instruction's word compares with 0 if the recipe gives a word that is not 0.
     pub(crate) fn asked(self) -> BranchOperation
         ensures { result ≡ asked_of self }
     {
@@ -161,7 +160,7 @@ impl WordRecipe {
     }
 }
 
-// Whether a register's word is this one. For 0: whether it is less than 1, as unsigned.
+// The recipe that asks whether a register's word is this one. For 0 it asks whether the word is less than 1, as unsigned.
 fn equal_to(word: u32) -> WordRecipe
     ensures answer { result ≡ word_recipe Eq word }
     ensures fits { HasRoom result }
@@ -173,7 +172,7 @@ fn equal_to(word: u32) -> WordRecipe
     }
 }
 
-// Whether a register's word is another one. For 0: whether it is more than 0, as unsigned.
+// The recipe that asks whether a register's word is another one. For 0 it asks whether the word is more than 0, as unsigned.
 fn unequal_to(word: u32) -> WordRecipe
     ensures answer { result ≡ word_recipe Ne word }
     ensures fits { HasRoom result }

@@ -1,7 +1,7 @@
 // What the scratch registers hold within a straight piece. An access leaves in `x6` the upper part of an address, and in `x5` the address
 // of an element, minus the lower part of its object's address or minus the object's distance from `x3`. Later accesses use what they need
-// of it. It is forgotten at a label and at a call; the element's address is also forgotten if its index register is written or `x5` is
-// used. What is reached from `x3`, the global pointer, needs no upper part. A function sets `x3` if its accesses then take fewer
+// of it. What they hold is forgotten at a label and at a call; the element's address is also forgotten if its index register is written or
+// `x5` is used. What is reached from `x3`, the global pointer, needs no upper part. A function sets `x3` if its accesses then take fewer
 // instructions, including those that set it; accesses in loops count eight times.
 
 ghost use Rattle.std.specs.Prelude.{◌≡◌, ◌≤◌, ◌<◌, ◌^◌, Bool, [], length, if◌then◌else◌, IfOk};
@@ -43,7 +43,7 @@ pub(crate) struct ElementAddress {
     sum_base: u32,
 }
 
-/// The upper part in `x6`, and the element's address in `x5`.
+/// The upper part in `x6`, and the element's address in `x5`, as far as they are known.
 #[derive(Clone, Copy)]
 pub(crate) struct Scratch {
     upper: Option<u32>,
@@ -51,7 +51,7 @@ pub(crate) struct Scratch {
 }
 
 impl Scratch {
-    // Nothing is known about them.
+    // Nothing is known about either register.
     fn nothing() -> Scratch
         ensures { result ≡ nothing }
     {
@@ -71,7 +71,7 @@ impl Scratch {
         }
     }
 
-    // Whether x5 holds the sum of this word and of an element's number in bytes.
+    // Whether x5 holds the sum of `sum_base` and of the distance in bytes of this element from the first one.
     fn is_address(&self, width: Width, index: u8, sum_base: u32) -> bool
         ensures { result ≡ is_address self.now.address width index sum_base }
     {
@@ -83,7 +83,8 @@ impl Scratch {
         }
     }
 
-    // How much of the address of an element whose number is in a register is there; `sets_pointer` says whether x3 is the global pointer.
+    // How much the registers hold of the address of an element whose number is in a register; `sets_pointer` says whether x3 is the global
+    // pointer.
     fn known_of(&self, sets_pointer: bool, width: Width, base: u32, index: u8) -> Remembered
         ensures { result ≡ known_of sets_pointer self.now width base index }
     {
@@ -102,7 +103,7 @@ impl Scratch {
         }
     }
 
-    // How much of an address is there.
+    // How much the registers hold of an address.
     fn known_at(&self, sets_pointer: bool, address: u32) -> Remembered
         ensures { result ≡ known_at sets_pointer self.now address }
     {
@@ -115,7 +116,7 @@ impl Scratch {
         }
     }
 
-    // How much of the address of the element that an item of Linear reads or writes is there.
+    // How much the registers hold of the address of the element that an item of Linear reads or writes.
     fn remembered_of_one(&self, bases: &Bases, sets_pointer: bool, item: LinearItem) -> Remembered
         ensures { result ≡ remembered (base_in bases.now) sets_pointer self.now (One item) }
     {
@@ -136,7 +137,7 @@ impl Scratch {
         }
     }
 
-    // How much of the address of a step's element is there.
+    // How much the registers hold of the address of a step's element.
     fn remembered(&self, bases: &Bases, sets_pointer: bool, step: Step) -> Remembered
         ensures { result ≡ remembered (base_in bases.now) sets_pointer self.now step }
     {
@@ -253,7 +254,7 @@ impl Scratch {
         }
     }
 
-    // Advances past an access to an element whose number is in a register; `known` is how much of its address was there.
+    // Advances past an access to an element whose number is in a register; `known` is how much of its address the registers held.
     fn go_behind_element(&mut self, known: Remembered, width: Width, base: u32, index: u8)
         ensures { self.new ≡ behind_element known self.old width base index }
     {
@@ -265,14 +266,14 @@ impl Scratch {
         });
     }
 
-    // Advances past an access to an address; `known` is how much of it was there.
+    // Advances past an access to an address; `known` is how much of it the registers held.
     fn go_behind_at(&mut self, known: Remembered, address: u32)
         ensures { self.new ≡ behind_at known self.old address }
     {
         self.upper = self.upper_behind(known, address);
     }
 
-    // Advances past an item of Linear; `known` is how much of its element's address was there.
+    // Advances past an item of Linear; `known` is how much of its element's address the registers held.
     fn go_behind_one(&mut self, bases: &Bases, known: Remembered, item: LinearItem)
         ensures { (sets_pointer : Bool) → known ≡ remembered (base_in bases.now) sets_pointer self.old (One item) → self.new ≡ behind_one (base_in bases.now) sets_pointer item self.old }
     {
@@ -312,7 +313,7 @@ impl Scratch {
         }
     }
 
-    // Advances past a step; `known` is how much of its element's address was there.
+    // Advances past a step; `known` is how much of its element's address the registers held.
     fn go_behind(&mut self, bases: &Bases, known: Remembered, step: Step)
         ensures { (sets_pointer : Bool) → known ≡ remembered (base_in bases.now) sets_pointer self.old step → self.new ≡ behind_step (base_in bases.now) sets_pointer step self.old }
     {
@@ -388,7 +389,7 @@ fn is_in_reach(address: u32) -> bool
     GLOBALS_FROM <= address && address < GLOBALS_FROM + 4096
 }
 
-// What x5 holds after an access, in addition to an element's number in bytes.
+// What x5 holds after an access in addition to the element's distance in bytes from the first one.
 fn sum_base(known: Remembered, base: u32) -> u32
     ensures { result ≡ sum_base known base }
 {
@@ -423,16 +424,16 @@ fn weight(in_loop: bool) -> usize
     if in_loop { LOOP_WEIGHT } else { 1 }
 }
 
-// The steps of a function, each with how much of its address is there, and how many instructions their accesses take together, each counted
-// by its weight.
+// The steps of a function, each with how much of its address the registers hold, and the number of instructions that their accesses take
+// together, each multiplied by its weight.
 #[derive(Drop)]
 struct Walked {
     steps: Vec<Addressed>,
     accesses: usize,
 }
 
-// The steps of a function, each with how much of its address is there; `bases` has the objects' addresses, `sets_pointer` says whether `x3`
-// is the global pointer, `last` which steps are in loops. Their accesses take at most 2^61 instructions.
+// The steps of a function, each with how much of its address the registers hold; `bases` has the objects' addresses, `sets_pointer` says
+// whether `x3` is the global pointer, `last` says which steps are in loops. Their accesses take at most 2^61 instructions.
 fn walk(
     alloc: Global,
     bases: &Bases,
@@ -463,9 +464,9 @@ fn walk(
     Ok(Walked { steps, accesses })
 }
 
-/// The steps of a function, each with how much of its address is there, and whether the function sets `x3` to the global pointer: it does
-/// if its accesses then take fewer instructions, including the two that set it; accesses in loops count eight times. `bases` has the
-/// objects' addresses; the labels are below `count`.
+/// The steps of a function, each with how much of its address the registers hold, and whether the function sets `x3` to the global pointer.
+/// It does if its accesses then take fewer instructions, including the two that set `x3`; accesses in loops count eight times. `bases` has
+/// the objects' addresses; the labels are below `count`.
 pub(crate) fn addressed(
     alloc: Global,
     bases: &Bases,

@@ -1,6 +1,6 @@
-// The places of labels. A place is given by the number of items from it on, so a table of labels is filled from the back, and each sum is
-// known when it is needed. A first table takes each branch as long; it decides which branches are near. A second one has the places with
-// each branch at its final length.
+// The places of labels. A place is given as the number of items from there to the end, so a table of labels is filled from the back, and
+// each sum is known when it is needed. A first table takes each branch as long; it decides which branches are near. A second one has the
+// places with each branch at its final length.
 
 ghost use Rattle.std.specs.Prelude.{◌≡◌, ◌≤◌, ◌<◌, ◌^◌, length, get_or, ℕ, List, [], ◌∷◌, false, IfOk};
 ghost use Rattle.std.specs.List.{AllByRecursion};
@@ -20,8 +20,8 @@ use cc_select::Step;
 use cc_words::Width;
 use std::alloc::{AllocError, Global};
 
-/// The places of a function's labels, as the number of items from there on: with each branch long, and with each at its final length; the
-/// number of items after the prologue with each branch long, and the number of items of the function's code.
+/// The places of a function's labels, as the number of items from there to the end: with each branch long, and with each branch at its
+/// final length. Also the number of items after the prologue with each branch long, and the number of items of the function's code.
 #[derive(Drop)]
 pub(crate) struct Places {
     first: Vec<usize>,
@@ -31,7 +31,7 @@ pub(crate) struct Places {
 }
 
 impl Places {
-    /// The places for these steps, for the labels below a number. Err: memory ran out.
+    /// The places of the labels below `count` in these steps. Err: memory ran out.
     pub(crate) fn new(
         alloc: Global,
         frame: &Frame,
@@ -68,7 +68,7 @@ impl Places {
         self.end
     }
 
-    /// Whether a branch to a label is near; `here` is the number of items from the branch on, with each branch long.
+    /// Whether a branch to a label is near; `here` is the number of items from the branch to the end, with each branch long.
     pub(crate) fn is_near(&self, here: usize, label: u32) -> bool
         ensures { result ≡ near_behind self.now.first.items here label }
     {
@@ -117,7 +117,7 @@ fn is_close(from: usize, to: usize) -> bool
     }
 }
 
-// Whether a branch is near, if the first table knows its label; `here` is the number of items from the branch on.
+// Whether a branch is near, if the first table knows its label; `here` is the number of items from the branch to the end.
 fn is_near(first: &[usize], here: usize, label: u32) -> bool
     ensures { result ≡ near_behind first.now here label }
 {
@@ -213,7 +213,8 @@ pub(crate) fn long_size(frame: &Frame, step: &Addressed) -> usize
     }
 }
 
-// The number of items of a step that takes `long` if each branch is long, with this many items from it on: one less if it is a near branch.
+// The number of items of a step: `long`, which it takes if each branch is long, or one less if it is a near branch. `here` is the number of
+// items from the step to the end.
 fn size(frame: &Frame, first: &[usize], here: usize, long: usize, step: &Addressed) -> usize
     requires long { long ≡ long_size frame.now step.now }
     requires few { long ≤ 15 }

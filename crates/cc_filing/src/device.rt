@@ -1,4 +1,4 @@
-// A block device that a library is to be put on: whether it may be overwritten. What is looked at is a help and no promise, since the
+// Whether a block device on which a library is to be put may be overwritten. The check is a help and not a promise, since the
 // system may begin to use a device at any moment.
 
 use cc_disk::{Disk, FileDisk};
@@ -13,16 +13,16 @@ pub enum NoDisk {
     Refused(LibraryFault),
     /// 34: the device has fewer bytes than the library takes.
     SmallDevice,
-    /// 35: the device is mounted or swapped on, or another device stands on it.
+    /// 35: the device is mounted or swapped on, or another device is built on it.
     DeviceInUse,
-    /// 35: the device has something that is no library.
+    /// 35: the device has something on it that is not a library.
     OtherContent,
-    /// 35: the name under which a library is made is that of one that has records.
+    /// 35: the name under which a library is made is that of a library that has records.
     Prepared,
 }
 
 impl NoDisk {
-    /// The fault that is answered.
+    /// The fault to report.
     pub fn fault(&self) -> LibraryFault {
         match self {
             NoDisk::Refused(fault) => *fault,
@@ -40,7 +40,8 @@ const LIBRARY: &[u8] = b"CCLIB01";
 /// The first byte of a record that is in force.
 const OPEN_GATE: &[u8] = b"\xa5";
 
-/// By what others are known whose first 16 bytes may be zeros: tables of partitions, and the volumes and file systems of Linux.
+/// How to recognize other content whose first 16 bytes may be zeros: partition tables, and the volumes and file systems of
+/// Linux.
 const OTHERS: [(usize, &[u8]); 7] = [
     (510, b"\x55\xaa"),
     (512, b"EFI PART"),
@@ -51,7 +52,7 @@ const OTHERS: [(usize, &[u8]); 7] = [
     (65600, b"_BHRfS_M"),
 ];
 
-// Whether these bytes, 16 at most, stand there on the disk.
+// Whether the disk has these bytes, at most 16, at that offset.
 fn has(disk: &mut FileDisk, offset: usize, wanted: &[u8]) -> bool {
     let mut found = [0u8; 16];
     let size = disk.size();
@@ -61,7 +62,7 @@ fn has(disk: &mut FileDisk, offset: usize, wanted: &[u8]) -> bool {
     disk.read_at(offset, &mut found).is_ok() && found.starts_with(wanted)
 }
 
-// Whether the disk has a library with a record: the gate of the first one, in the area that byte 0 names, is open.
+// Whether the disk has a library with a record: the gate of the first record, in the area that byte 0 names, is open.
 fn has_record(disk: &mut FileDisk) -> bool {
     let mut header = [0u8; 16];
     if disk.size() < 16
@@ -79,7 +80,7 @@ fn has_record(disk: &mut FileDisk) -> bool {
     has(disk, begin, OPEN_GATE)
 }
 
-/// Whether a file has a library with a record. One that can't be opened, or that another process has open, counts as one.
+/// Whether a file has a library with a record. A file that can't be opened, or that another process has open, counts as one.
 pub(crate) fn is_prepared(files: &HostRuntime, path: &str) -> bool {
     match FileDisk::open(files, path) {
         Ok(mut disk) => has_record(&mut disk),
@@ -87,7 +88,7 @@ pub(crate) fn is_prepared(files: &HostRuntime, path: &str) -> bool {
     }
 }
 
-// Whether the disk has nothing but a library, or 16 zeros and none of the others.
+// Whether the disk has a library, or begins with 16 zeros and has none of the other content.
 fn is_free(disk: &mut FileDisk) -> bool {
     if has(disk, 1, LIBRARY) {
         return true;
@@ -111,7 +112,7 @@ fn device_at(files: &HostRuntime, path: &str) -> Option<u64> {
     }
 }
 
-// Whether the first word of a line of that list is a path of the device: under whichever of its names.
+// Whether a line of that list begins with a path of the device, under any of the device's names.
 fn is_listed(files: &HostRuntime, list: &str, device: u64) -> bool {
     let Ok(text) = fs::read_to_string(files, list) else {
         return false;
@@ -125,7 +126,7 @@ fn is_listed(files: &HostRuntime, list: &str, device: u64) -> bool {
     false
 }
 
-// Whether another device stands on this one, by the folder that the system keeps of each.
+// Whether another device is built on this one, according to the folder that the system keeps for each device.
 fn has_holders(files: &HostRuntime, device: u64) -> bool {
     let major = (device >> 8 & 0xfff) | (device >> 32 & 0xffff_f000);
     let minor = (device & 0xff) | (device >> 12 & 0xffff_ff00);
@@ -138,7 +139,7 @@ fn has_holders(files: &HostRuntime, device: u64) -> bool {
     }
 }
 
-/// Whether a library of that size may be put on the file: `Ok` of each that is no block device.
+/// Whether a library of that size may be put on the file: `Ok` for each file that is not a block device.
 pub fn may_overwrite(files: &HostRuntime, path: &str, size: usize) -> Result<(), NoDisk> {
     let Some(device) = device_at(files, path) else {
         return Ok(());

@@ -1,4 +1,4 @@
-// The file of a library: opened as it is, or made.
+// The file of a library: it is opened as it is, or made.
 
 ghost use Rattle.std.specs.Prelude.{◌≡◌};
 
@@ -7,23 +7,24 @@ use cc_answers::explain_words;
 use cc_disk::FileDisk;
 use cc_journal::format;
 use cc_library::LibraryFault;
+use cc_tasks::PartFault;
 use std::fs::{self, File};
 use std::io::{self, Write};
 use std::os::unix::fs::MetadataExt;
 use std::path::Path;
 
-/// What is told where there is no disk on the file for 35.
+/// What a person reads if there is no disk on the file, because of 35.
 const NO_FILE: &str =
-    "cclib: the file could not be opened, or another process has it open; where it is not there yet, `--format AREA` makes it\n";
+    "cclib: the file could not be opened, or another process has it open; if it is not there yet, `--format AREA` makes it\n";
 
-/// The same for a block device that is in use.
+/// What a person reads if a block device is in use.
 const IN_USE: &str =
-    "cclib: the device is mounted or swapped on, or another device stands on it: lsblk, findmnt and swapon --show tell which\n";
+    "cclib: the device is mounted or swapped on, or another device is built on it: lsblk, findmnt and swapon --show say which\n";
 
-/// The same for one that is too small.
+/// What a person reads if a block device is too small.
 const SMALL: &str = "cclib: the device has fewer than 16 + 2 * AREA bytes\n";
 
-/// The disk on the file, made anew where an area is given.
+/// The disk on the file. If an area is given, the file is made anew and formatted.
 pub fn disk_of(files: &HostRuntime, path: &str, area: Option<u32>) -> Result<FileDisk, NoDisk> {
     let Some(area) = area else {
         return match FileDisk::open(files, path) {
@@ -39,12 +40,20 @@ pub fn disk_of(files: &HostRuntime, path: &str, area: Option<u32>) -> Result<Fil
     }
 }
 
-// How many bytes a library takes with areas of so many.
+/// The disk on the file of a library that is there, for a command that reads it.
+pub fn library_disk(files: &HostRuntime, path: &str) -> Result<FileDisk, PartFault> {
+    match disk_of(files, path, None) {
+        Ok(disk) => Ok(disk),
+        Err(reason) => Err(PartFault::Library(reason.fault())),
+    }
+}
+
+// How many bytes a library takes, given the size of its areas.
 fn size_for(area: u32) -> usize {
     16 + 2 * area as usize
 }
 
-// A new disk, formatted.
+// The disk, formatted as a new library.
 fn formatted(mut disk: FileDisk, area: u32) -> Result<FileDisk, NoDisk> {
     match format(&mut disk, area) {
         Ok(()) => Ok(disk),
@@ -55,7 +64,7 @@ fn formatted(mut disk: FileDisk, area: u32) -> Result<FileDisk, NoDisk> {
     }
 }
 
-/// Tells where others may read or write the file of a library, which has the sources of all units.
+/// Warns if others may read or write the file of a library, since the file has the sources of all units.
 pub fn tell_wide_disk<E: Write>(files: &HostRuntime, path: &str, told: &mut E) -> io::Result<()> {
     let Ok(found) = fs::metadata(files, path) else {
         return Ok(());
@@ -70,7 +79,7 @@ pub fn tell_wide_disk<E: Write>(files: &HostRuntime, path: &str, told: &mut E) -
     told.flush()
 }
 
-/// Gives a new disk its name, where nothing has it, and syncs that. The name under which it was made goes.
+/// Gives a new disk its name, if nothing has that name; removes the name under which the disk was made; and syncs the folder.
 pub fn name_disk(files: &HostRuntime, making: &str, path: &str) -> io::Result<()> {
     fs::hard_link(files, making, path)?;
     fs::remove_file(files, making)?;
@@ -81,7 +90,7 @@ pub fn name_disk(files: &HostRuntime, making: &str, path: &str) -> io::Result<()
     File::open(files, folder)?.sync_all()
 }
 
-// Whether two names are those of one file.
+// Whether two names belong to one file.
 fn is_same(files: &HostRuntime, one: &str, other: &str) -> bool {
     match (
         fs::symlink_metadata(files, one),
@@ -92,9 +101,9 @@ fn is_same(files: &HostRuntime, one: &str, other: &str) -> bool {
     }
 }
 
-// Takes what has the name under which a library is made away: what a server left that was killed while it made one. A file that has another
-// name too is a library, of which a server was killed between the two: it loses this name, and is not touched. One that has records was
-// prepared by somebody, and stays.
+// Removes what has the name under which a library is made: the file of a server that was killed while it made a library. A file
+// that has another name too is a library whose server was killed between giving it the one name and removing the other: it
+// loses this name, and is not touched. A file that has records was prepared by somebody, and is kept.
 fn clear_name(files: &HostRuntime, making: &str) -> Result<(), NoDisk> {
     let Ok(found) = fs::symlink_metadata(files, making) else {
         return Ok(());
@@ -108,7 +117,7 @@ fn clear_name(files: &HostRuntime, making: &str) -> Result<(), NoDisk> {
     Ok(())
 }
 
-// A new library's disk under a name that it has only until it is whole.
+// A new library's disk, under a name that it has only until it is complete.
 fn disk_to_name(files: &HostRuntime, making: &str, area: u32) -> Result<FileDisk, NoDisk> {
     clear_name(files, making)?;
     match FileDisk::create_new(files, making, size_for(area)) {
@@ -117,8 +126,9 @@ fn disk_to_name(files: &HostRuntime, making: &str, area: u32) -> Result<FileDisk
     }
 }
 
-/// The disk of a server: the file as it is; where nothing is there and an area is given, a new one. It gets its name when it is whole, so
-/// that a server that was killed while it made the file leaves none. Where an area is given though the file is there, that is told.
+/// The disk of a server: the file as it is; if nothing is there and an area is given, a new file. A new file gets its name once
+/// it is complete, so a server that is killed while it makes the file leaves nothing under that name. If an area is given
+/// although the file is there, a note says that it is opened as it is.
 pub fn disk_to_serve<E: Write>(
     files: &HostRuntime,
     path: &str,
@@ -152,7 +162,7 @@ pub fn disk_to_serve<E: Write>(
     }
 }
 
-// Tells a person why there is no disk.
+// Explains to a person why there is no disk.
 fn explain<E: Write>(reason: NoDisk, path: &str, errors: &mut E) -> io::Result<()> {
     match reason {
         NoDisk::Refused(LibraryFault::DiskFault) => errors.write_all(NO_FILE.as_bytes())?,
@@ -171,7 +181,7 @@ fn explain<E: Write>(reason: NoDisk, path: &str, errors: &mut E) -> io::Result<(
     errors.flush()
 }
 
-/// Writes why there is no disk; the status.
+/// Writes why there is no disk, and explains it. Returns the status.
 pub fn no_disk<W: Write, E: Write>(reason: NoDisk, path: &str, writer: &mut W, errors: &mut E) -> u8
     ensures { result ≡ 1 }
 {

@@ -1,5 +1,5 @@
-// The folder of a server: taken with the library's disk, and cleaned of what an earlier server left; what is told of it, and what its clients
-// begin with.
+// The folder of a server. It is taken together with the library's disk, and cleaned of what an earlier server left. Here is
+// also what is written about it, and what its clients begin with.
 
 ghost use Rattle.std.specs.Prelude.{◌≡◌, ◌≢◌, IfErr, IfOk};
 
@@ -21,11 +21,11 @@ pub enum NoFolder {
     Refused(io::Error),
     /// 57: another server works in it.
     InUse,
-    /// 56: it could be used at the start, and not any more.
+    /// 56: the folder could be used at the start, but can't be any more.
     Lost,
 }
 
-// Writes the line of the fault of a folder that can't be served.
+// Writes the fault line for a folder that can't be served.
 fn write_fault<W: Write>(reason: &NoFolder, writer: &mut W) -> io::Result<()> {
     let fault = match reason {
         NoFolder::Refused(why) if why.kind() == io::ErrorKind::OutOfMemory => {
@@ -39,7 +39,8 @@ fn write_fault<W: Write>(reason: &NoFolder, writer: &mut W) -> io::Result<()> {
     writer.flush()
 }
 
-/// Writes the fault of a folder that can't be served, 56 or 57, or 40 if memory was refused, and tells why; the status.
+/// Writes the fault of a folder that can't be served (56 or 57, or 40 if memory was refused), and explains why. Returns the
+/// status.
 pub fn no_folder<W: Write, E: Write>(
     reason: NoFolder,
     folder: &str,
@@ -61,7 +62,7 @@ pub fn no_folder<W: Write, E: Write>(
     1
 }
 
-// The word for so many of a thing: of one, or of any other number.
+// The word for `count` things: `one` for one thing, `more` for any other number.
 fn word(count: u64, one: &'static str, more: &'static str) -> &'static str
     ensures one { count ≡ 1 → result.now ≡ one.now }
     ensures more { count ≢ 1 → result.now ≡ more.now }
@@ -69,7 +70,7 @@ fn word(count: u64, one: &'static str, more: &'static str) -> &'static str
     if count == 1 { one } else { more }
 }
 
-// Tells of the parts of a folder whose rights are wider than they should be.
+// Warns about the parts of a folder that have wider rights than they should have.
 fn tell_wide<E: Write>(folder: &str, parts: &[WidePart], told: &mut E) -> io::Result<()> {
     for wide in parts {
         writeln!(
@@ -81,7 +82,7 @@ fn tell_wide<E: Write>(folder: &str, parts: &[WidePart], told: &mut E) -> io::Re
     told.flush()
 }
 
-// Tells what an earlier server had left.
+// Reports what an earlier server had left.
 fn tell_recovered<E: Write>(begun: u64, kept: usize, stuck: u64, told: &mut E) -> io::Result<()> {
     if begun > 0 {
         let scripts = word(begun, "script", "scripts");
@@ -101,24 +102,24 @@ fn tell_recovered<E: Write>(begun: u64, kept: usize, stuck: u64, told: &mut E) -
         let names = word(stuck, "name", "names");
         writeln!(
             told,
-            "cclib: cur has {stuck} {names} that can't be taken away, as that of a directory that is not empty: nobody else can use these for scripts"
+            "cclib: cur has {stuck} {names} that can't be removed, as that of a directory that is not empty: scripts can't have these names"
         )?;
     }
     told.flush()
 }
 
-// Tells that `new` has more entries than a client looks at.
+// Warns that `new` has more entries than a client looks at.
 fn tell_crowded<E: Write>(folder: &str, waiting: usize, told: &mut E) -> io::Result<()> {
     if waiting > MOST_ENTRIES {
         writeln!(
             told,
-            "cclib: {folder}/new has more than {MOST_ENTRIES} entries: what stands behind these is not seen before some are gone"
+            "cclib: {folder}/new has more than {MOST_ENTRIES} entries: those after these are not seen until some are gone"
         )?;
     }
     told.flush()
 }
 
-// Answers what an earlier server had begun; the names of the scripts for which that has to be tried again.
+// Answers what an earlier server had begun. Returns the names of the scripts that have to be answered again later.
 fn clean_folder<E: Write>(
     layout: &FolderLayout,
     asked: &Server,
@@ -127,7 +128,7 @@ fn clean_folder<E: Write>(
     let Recovered { begun, kept, stuck } = recover(layout)?;
     let wide = wide_parts(layout)?;
     let waiting = count_entries(layout, MOST_ENTRIES + 1)?;
-    // What can't be told is no reason to end.
+    // A report that can't be written is no reason to end.
     let folder = asked.folder.as_str();
     let _ = tell_recovered(begun, kept.len(), stuck, told);
     let _ = tell_wide(folder, wide.as_slice(), told);
@@ -151,15 +152,15 @@ pub struct Taken {
     pub layout: FolderLayout,
     /// The disk.
     pub disk: FileDisk,
-    /// The scripts for which what the start had to answer has to be tried again.
+    /// The scripts that the start had to answer and could not; they have to be tried again.
     pub kept: Vec<String>,
     /// The folder is the server's until this is dropped.
     pub held: Held,
 }
 
-/// Takes a folder and a library's disk for a server, and answers what an earlier server had begun. Where either can't be had, the line of the
-/// fault is written (56 or 57 for the folder, else as `no_disk` has it), and the status stands in place of the two; nothing is held then. The
-/// error is lack of memory, before anything was taken or written.
+/// Takes a folder and a library's disk for a server, and answers what an earlier server had begun. If either can't be had, it
+/// writes the line of the fault (56 or 57 for the folder, otherwise the line that `no_disk` writes) and returns the status
+/// instead; nothing is held then. Fails only if memory was refused before anything was taken or written.
 pub fn take_to_serve<W: Write, E: Write>(
     files: &HostRuntime,
     alloc: Global,
@@ -183,7 +184,7 @@ pub fn take_to_serve<W: Write, E: Write>(
         Ok(held) => held,
         Err(reason) => return Ok(Err(no_folder(reason, folder, writer, told))),
     };
-    // The disk's lock comes before what an earlier server left is answered.
+    // The disk is locked before what an earlier server left is answered.
     let path = asked.disk.as_str();
     let disk = match disk_to_serve(files, path, asked.area, told) {
         Ok(disk) => disk,
@@ -205,7 +206,7 @@ pub fn take_to_serve<W: Write, E: Write>(
     }))
 }
 
-// Tells that scripts are taken.
+// Reports that the server now takes scripts.
 fn tell_ready<E: Write>(folder: &str, clients: usize, told: &mut E) -> io::Result<()> {
     let many = word(clients as u64, "client", "clients");
     writeln!(
@@ -215,16 +216,13 @@ fn tell_ready<E: Write>(folder: &str, clients: usize, told: &mut E) -> io::Resul
     told.flush()
 }
 
-// Tells that what nobody fetched was not taken away.
+// Reports that what nobody fetched was not removed.
 fn tell_uncleared<E: Write>(folder: &str, why: &io::Error, told: &mut E) -> io::Result<()> {
-    writeln!(
-        told,
-        "cclib: what is old in {folder} is not taken away: {why}"
-    )?;
+    writeln!(told, "cclib: old files in {folder} are not removed: {why}")?;
     told.flush()
 }
 
-/// Tells what a generation did, and why it ended; the error is that of `told`, as in `tell_kept`.
+/// Reports what a generation did, and why it ended. Fails if `told` failed, as `tell_kept` does.
 pub fn tell_generation<E: Write>(
     scripts: u64,
     entries: u64,
@@ -243,19 +241,19 @@ pub fn tell_generation<E: Write>(
     told.flush()
 }
 
-/// Who keeps a folder while it is served.
+/// Keeps a folder while it is served.
 #[derive(Drop)]
 pub struct Keeper {
     layout: FolderLayout,
     folder: String,
     clients: usize,
-    // For how many days an answer is kept.
+    // How many days an answer is kept.
     keep: u32,
     is_ready: bool,
 }
 
 impl Keeper {
-    /// The keeper of the folder that is asked for. The error is lack of memory.
+    /// The keeper of the folder that was asked for. Fails only if memory was refused.
     pub fn new(alloc: Global, layout: &FolderLayout, asked: &Server) -> Result<Keeper, AllocError> {
         Ok(Keeper {
             layout: layout.again()?,
@@ -266,9 +264,9 @@ impl Keeper {
         })
     }
 
-    /// Takes away what nobody fetched. The first time it tells that scripts are taken.
+    /// Removes what nobody fetched. The first time, it also reports that the server now takes scripts.
     pub fn tidy<E: Write>(&mut self, told: &mut E) {
-        // What can't be removed stays.
+        // What can't be removed remains.
         if let Err(why) = clear_old(&self.layout, self.keep) {
             let _ = tell_uncleared(self.folder.as_str(), &why, told);
         }
@@ -279,8 +277,8 @@ impl Keeper {
     }
 }
 
-/// A spool for each of so many clients, 1 at least, the first of which tries again what the start could not answer. The error is lack of memory;
-/// what was to be tried again stays in the folder then.
+/// A spool for each of `count` clients; there is at least one. The first client tries again what the start could not answer.
+/// Fails only if memory was refused; what was to be tried again then stays in the folder.
 pub fn spools_of(
     alloc: Global,
     layout: &FolderLayout,
@@ -302,13 +300,13 @@ pub fn spools_of(
 pub struct AnswerCounts {
     /// How many were handed over.
     pub answered: u64,
-    /// How many could not be.
+    /// How many could not be handed over.
     pub kept: u64,
-    /// Whether the folder could not be used any more.
+    /// Whether the folder could no longer be used.
     pub has_failed: bool,
 }
 
-/// Counts over all spools, each as far as 64 bits go.
+/// Counts over all spools. Each count stops at the largest number of 64 bits.
 pub fn count_all(spools: &[FolderSpool]) -> AnswerCounts {
     let mut counts = AnswerCounts {
         answered: 0,
@@ -323,7 +321,7 @@ pub fn count_all(spools: &[FolderSpool]) -> AnswerCounts {
     counts
 }
 
-/// Tells how many answers could not be handed over, where there are some.
+/// Reports how many answers could not be handed over, if there are any.
 pub fn tell_kept<E: Write>(kept: u64, told: &mut E) -> io::Result<()> {
     if kept == 0 {
         return Ok(());

@@ -1,20 +1,22 @@
-//! The library in a file: what the program does with one without a service.
+//! The library in a file: what the program does with a library without a service.
 //!
-//! `filing` opens the file or makes it, and tells why it is none; `device` says whether a block device in its place may be overwritten;
-//! `taking` prints a part of a unit that it keeps; `folder` takes a server's folder with it, and tells of that. It knows no session, so it is
-//! proved beside `cc_session`.
-//! Hands out `disk_of`, `no_disk`, `NoDisk` and `take_out_of_file`, and what takes a server's folder, tidies it and tells of it.
+//! `filing` opens the file or makes it, and explains why it could not; `device` says whether a block device in the file's place may be
+//! overwritten; `taking` prints a part of a unit in the file; `folder` takes a server's folder together with the library, and reports on that;
+//! `printing` has buffers for what a command prints. The crate knows nothing of sessions, so it is proved in parallel with `cc_session`.
+//! It exports `disk_of`, `library_disk`, `no_disk`, `NoDisk`, `take_out_of_file` and `buffers`, and what takes a server's folder, tidies it and reports on it.
 #![tactic(auto)]
 
 mod device;
 mod filing;
 mod folder;
+mod printing;
 mod taking;
 
 pub use device::NoDisk;
-pub use filing::{disk_of, name_disk, no_disk, tell_wide_disk};
+pub use filing::{disk_of, library_disk, name_disk, no_disk, tell_wide_disk};
 pub use folder::{
     AnswerCounts, Keeper, NoFolder, Taken, count_all, no_folder, spools_of, take_to_serve,
     tell_generation, tell_kept,
 };
+pub use printing::buffers;
 pub use taking::{explain_part, take_out_of_file, write_found};

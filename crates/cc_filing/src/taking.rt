@@ -1,45 +1,42 @@
-// The commands `image` and `source` with a library: a part of a unit that the library in a file keeps. The file is opened as for `library`, with
-// its lock, and nothing is written to it.
+// The commands `image` and `source` with a library: they print a part of a unit that the library in a file keeps. The file is
+// opened as it is for `library`, with its lock, and nothing is written to it.
 
 ghost use Rattle.std.specs.Prelude.{◌≡◌, false, true, MatchResult};
 ghost use Rattle.std.specs.Io.KnownBytes.{Appends};
 ghost use Rattle.cc_tasks.specs.Written.{found_text};
 
-use crate::filing::disk_of;
-use cc_answers::{Telling, explain_words};
+use crate::filing::library_disk;
+use crate::printing::buffers;
+use cc_answers::explain_words;
 use cc_command_line::Wanted;
 use cc_library::LibraryFault;
 use cc_screen::Screen;
 use cc_tasks::{Done, PartFault, take_out, write_part};
 use std::alloc::{AllocError, Global};
-use std::io::{self, BufWriter, IsTerminal, Print, Write};
+use std::io::{self, IsTerminal, Print, Write};
 
-/// What is told where there is no disk on the file for 35.
+/// What a person reads if there is no disk on the file, because of 35.
 const NO_FILE: &str =
     "cclib: the file could not be opened, or failed, or another process has it open\n";
 
-/// The same where it is no library, for 38.
+/// What a person reads if the file is no library, because of 38.
 const NO_LIBRARY: &str = "cclib: the file is no library\n";
 
-// The bytes of what is wanted.
+// The bytes of the part that is wanted.
 fn bytes_of<E: Write>(
     alloc: Global,
     files: &HostRuntime,
     wanted: &Wanted,
     errors: &mut E,
 ) -> Result<Vec<u8>, PartFault> {
-    match disk_of(files, wanted.disk.as_str(), None) {
-        Ok(disk) => {
-            let name = wanted.name.as_bytes();
-            let (found, disk) = take_out(alloc, disk, name, wanted.part, errors);
-            drop(disk);
-            found
-        }
-        Err(reason) => Err(PartFault::Library(reason.fault())),
-    }
+    let disk = library_disk(files, wanted.disk.as_str())?;
+    let name = wanted.name.as_bytes();
+    let (found, disk) = take_out(alloc, disk, name, wanted.part, errors);
+    drop(disk);
+    found
 }
 
-/// Tells a person of a fault; of a name that no unit has it is told already.
+/// Explains a fault to a person. If no unit has the name, that was explained before.
 pub fn explain_part<E: Write>(fault: PartFault, errors: &mut E) -> io::Result<()> {
     match fault {
         PartFault::Library(LibraryFault::DiskFault) => errors.write_all(NO_FILE.as_bytes())?,
@@ -52,7 +49,7 @@ pub fn explain_part<E: Write>(fault: PartFault, errors: &mut E) -> io::Result<()
     errors.flush()
 }
 
-// Tells a person of the fault, if there is one; the status.
+// Explains the fault to a person, if there is one. Returns the status.
 fn told<E: Write>(found: &Result<Vec<u8>, PartFault>, errors: &mut E) -> u8
     ensures { MatchResult found.now (λ _. result ≡ 0) (λ _. result ≡ 1) }
 {
@@ -65,7 +62,8 @@ fn told<E: Write>(found: &Result<Vec<u8>, PartFault>, errors: &mut E) -> u8
     }
 }
 
-/// Writes the bytes, or the fault's line: that was appended to what the writer held and nothing else, or it could not be written.
+/// Writes the bytes, or the fault's line. Either it was appended to what the writer held, and nothing else was, or it could not
+/// be written.
 pub fn write_found<W: Write, E: Write>(
     found: Result<Vec<u8>, PartFault>,
     writer: &mut W,
@@ -91,8 +89,9 @@ pub fn write_found<W: Write, E: Write>(
     }
 }
 
-/// Writes a part of a unit of the library in a file to standard output: its image as Intel HEX, or its source to the byte; the status. On a
-/// terminal control bytes of the source are shown as `?`. The error is lack of memory before it began.
+/// Writes a part of a unit of the library in a file to standard output: the unit's image as Intel HEX, or its source, byte for
+/// byte. Returns the status. On a terminal, control bytes of the source are shown as `?`. Fails only if memory was refused
+/// before anything began.
 pub fn take_out_of_file<R: AllocGlobal + Print, E: Write + Drop>(
     rt: &R,
     files: &HostRuntime,
@@ -100,14 +99,8 @@ pub fn take_out_of_file<R: AllocGlobal + Print, E: Write + Drop>(
     is_quiet: bool,
     errors: E,
 ) -> Result<u8, AllocError> {
-    let (Ok(buffered), Ok(errors)) = (
-        BufWriter::new(rt.alloc(), io::writer(rt)),
-        BufWriter::new(rt.alloc(), errors),
-    ) else {
-        return Err(AllocError);
-    };
+    let (buffered, mut told) = buffers(rt.alloc(), io::writer(rt), errors, is_quiet)?;
     let mut writer = Screen::new(buffered, files.stdout().is_terminal());
-    let mut told = Telling { errors, is_quiet };
     let found = bytes_of(rt.alloc(), files, wanted, &mut told);
     let done = write_found(found, &mut writer, &mut told);
     Ok(done.status)

@@ -1,2 +1,2 @@
--- Where the functions of an image are.
+-- The places of an image's functions.
 pub mod Placing

@@ -4,7 +4,7 @@ use Rattle.std.specs.Arc.{arc_value}
 use Rattle.cc_ast.specs.Source.{source}
 use Rattle.cc_ast.specs.Tree.{Source}
 use Rattle.cc_types.specs.Typed.{defined_names}
-use Rattle.cc_c_laws.specs.declared.mode.Mode.{Mode}
+use Rattle.cc_c_semantics.specs.declared.mode.Mode.{Mode}
 use Rattle.cc_size.specs.Sized.{IsSizedIn}
 use Rattle.cc_size.specs.declared.recursion.Recursion.{Recursion}
 use Rattle.cc_size.specs.declared.size.FunctionSize.{FunctionSize}
@@ -12,7 +12,8 @@ use Rattle.cc_findings.specs.declared.sizing.CyclicCall.{CyclicCall}
 use Rattle.cc_findings.specs.declared.sizing.Measure.{Measure}
 use Rattle.cc_findings.specs.declared.sizing.SizedFunction.{SizedFunction}
 
--- the first function is behind the three words that call main and exit, and each other one is behind the one before
+-- the first function comes after the three words that call main and exit, and each other function directly after the one before
+-- it
 abbrev pub place_by : List FunctionSize → (f : ℕ) → ℕ
 place_by sizes f = 0x1000c + 4 * sum_by (λ (size : FunctionSize). size.words) (take f sizes)
 
@@ -27,7 +28,8 @@ pub record AreFunctions (program : Source) (sizes : List FunctionSize) (function
   pub count : length functions ≡ length sizes
   pub each : (f : ℕ) (one : SizedFunction) → slice_get functions f ≡ Some one → IsFunction program sizes f one
 
--- a call that is part of a cycle of calls, number k of those that were found: the names of the function that calls, and of the one that is called
+-- a call that is part of a cycle of calls, number k of those that were found: the names of the calling function and of the
+-- called one
 pub record IsCycle (program : Source) (calls : List Recursion) (k : ℕ) (it : CyclicCall) : Type 0 where
   pub of : Recursion
   pub call : slice_get calls k ≡ Some of
@@ -39,7 +41,8 @@ pub record AreCycles (program : Source) (calls : List Recursion) (cycles : List 
   pub count : length cycles ≡ length calls
   pub each : (k : ℕ) (one : CyclicCall) → slice_get cycles k ≡ Some one → IsCycle program calls k one
 
--- what an image takes that follows what the text's program shows in the mode, where each function is, and which calls are parts of cycles of calls
+-- what is taken by an image that follows what the text's program shows in the mode; the place of each function; and which calls
+-- are parts of cycles of calls
 pub record Measures (m : Mode) (text : List ℕ) (it : Measure) : Type 0 where
   pub sized : IsSizedIn m text it.sized
   pub functions : AreFunctions (source (arc_value it.sized.made.typed)) it.sized.size.functions.items it.functions.items

@@ -1,10 +1,10 @@
--- What is written of what was found of a program.
+-- What is written about what was found in a program.
 use Rattle.std.specs.Prelude.{ℕ, List, [], ◌∷◌, ◌++◌, Option, Some, None, codes}
 use Rattle.std.specs.Fmt.{decimal}
 use Rattle.std.specs.List.{flat_map}
 use Rattle.cc_tokens.specs.declared.place.Place.{Place}
-use Rattle.cc_c_laws.specs.declared.cause.Cause.{Cause}
-use Rattle.cc_c_laws.specs.declared.cause.Cause.TheVariants.{Division, Shift, Index, Depth}
+use Rattle.cc_c_semantics.specs.declared.cause.Cause.{Cause}
+use Rattle.cc_c_semantics.specs.declared.cause.Cause.TheVariants.{Division, Shift, Index, Depth}
 use Rattle.cc_rv32.specs.Listing.{hexadecimal}
 use Rattle.cc_answers.specs.Text.{line}
 use Rattle.cc_size.specs.declared.size.UnitSize.{UnitSize}
@@ -48,7 +48,7 @@ cycle_text it = codes "recursion " ++ name_text it.caller.items ++ line it.calle
 abbrev pub measure_text : Measure → List ℕ
 measure_text it = flat_map function_size_text it.functions.items ++ whole_size_text it.sized.size ++ flat_map cycle_text it.cycles.items
 
--- what may go wrong: why, and where in the text, or in which function
+-- what may go wrong: why, and the place in the text or the function
 abbrev pub in_function_text : (name : List ℕ) → List ℕ
 in_function_text name = codes " in " ++ name ++ codes "\n"
 

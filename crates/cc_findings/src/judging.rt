@@ -1,7 +1,7 @@
-// Whether a program can go wrong, and where it may.
+// Whether a program can go wrong, and at which places.
 //
-// That it can't is proved. The lines of what may go wrong come of a walk over the instructions on which explanations rest: of functions
-// that need a guard, the operations whose right operand or index is no constant that is evidently right.
+// If it can't, that is proved. The lines about what may go wrong come from a walk over the instructions on which explanations
+// rest: in functions that need a guard, the operations whose right operand or index is not a constant that is evidently right.
 
 ghost use Rattle.std.specs.Prelude.{◌≡◌, [], true, IfOk, OnOk};
 ghost use Rattle.std.specs.Arc.{arc_value};
@@ -21,7 +21,7 @@ use std::alloc::{AllocError, Global};
 use std::io::{self, Write};
 use std::sync::Arc;
 
-/// What may go wrong: why, and where in the text; if that is not known, in which function.
+/// What may go wrong: why, and the place in the text; if that is not known, the function.
 #[derive(Drop)]
 pub struct Unsure {
     pub cause: Cause,
@@ -75,7 +75,7 @@ fn number_before_bracket(digits: &[u8]) -> Option<u32> {
     None
 }
 
-// Whether the text has a number within the array as the index of an element.
+// Whether the index of the element is written in the text as a number, and is within the array.
 fn is_fixed(text: &[u8], element: Element<'_>) -> bool {
     let name = element.array.bytes.len();
     let Some(from) = element.array.at.checked_add(name) else {
@@ -115,7 +115,7 @@ fn risk_at(text: &[u8], code: &[Instruction<'_>], at: usize) -> Option<(Cause, u
     }
 }
 
-// The function that has an instruction: the one that begins last before it.
+// The function that has an instruction: of those that begin at or before it, the one that begins last.
 fn owner_of<'a>(functions: &'a [Function<'a>], at: usize) -> Option<&'a Function<'a>> {
     let mut owner: Option<&Function<'_>> = None;
     for function in functions {
@@ -130,7 +130,7 @@ fn owner_of<'a>(functions: &'a [Function<'a>], at: usize) -> Option<&'a Function
     owner
 }
 
-// Whether the function of this name is one of those with these numbers.
+// Whether the function with this name is one of those with these numbers.
 fn is_among(unit: &TypedUnit, numbers: &[usize], name: &[u8]) -> bool {
     for number in numbers {
         if *number < unit.functions() && unit.function_name(*number) == name {
@@ -140,7 +140,7 @@ fn is_among(unit: &TypedUnit, numbers: &[usize], name: &[u8]) -> bool {
     false
 }
 
-// Puts what may go wrong in the functions that need a guard behind others.
+// Adds what may go wrong in the functions that need a guard, after others.
 fn add_places(
     alloc: Global,
     lines: &mut Vec<Unsure>,
@@ -171,7 +171,7 @@ fn add_places(
     Ok(())
 }
 
-// Whether a line names a place in the function of this name.
+// Whether a line names a place in the function with this name.
 fn has_line(lines: &[Unsure], name: &[u8]) -> bool {
     for line in lines {
         if line.place.is_some() && line.function.as_slice() == name {
@@ -224,7 +224,7 @@ fn calls_of(alloc: Global, code: &Bytecode<'_>) -> Result<Vec<u64>, AllocError> 
     Ok(calls)
 }
 
-// A line for each function that calls itself, at once or through others.
+// A line for each function that calls itself, directly or through others.
 fn add_cycles(
     alloc: Global,
     lines: &mut Vec<Unsure>,
@@ -248,7 +248,7 @@ fn add_cycles(
     Ok(())
 }
 
-// What may go wrong in a program of which there are instructions.
+// What may go wrong in a program that has instructions.
 fn add_lines(
     alloc: Global,
     lines: &mut Vec<Unsure>,
@@ -264,7 +264,7 @@ fn add_lines(
     Ok(())
 }
 
-// What may go wrong in a program, with a line at least for each function that needs a guard.
+// What may go wrong in a program, with at least one line for each function that needs a guard.
 fn lines_of(
     alloc: Global,
     text: &[u8],
@@ -350,7 +350,7 @@ fn write_all_unsure<W: Write>(lines: &[Unsure], writer: &mut W) -> io::Result<()
     Ok(())
 }
 
-/// Writes that a program is safe, or what may go wrong, a line for each.
+/// Writes that a program is safe, or what may go wrong, with one line for each reason.
 pub fn write_judged<W: Write>(lines: &[Unsure], writer: &mut W) -> io::Result<()>
     ensures { OnOk result (Appends (W.contents writer.old) (W.contents writer.new) (judged_text lines.now)) }
 {

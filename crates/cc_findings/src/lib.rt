@@ -1,8 +1,8 @@
-//! What is found of a program without running it: what its image takes, and whether it can go wrong.
+//! What is found in a program without running it: what its image takes, and whether it can go wrong.
 //!
-//! `sizing` gives what an image takes the names and places of its functions, `recursion` says which calls are part of a cycle, `judging` whether
-//! a program can go wrong, and where it may. Each also writes its lines.
-//! Hands out `measured`, `judge`, `write_measure`, `write_judged`, their types, and the definitions that the contracts name (`specs/`).
+//! `sizing` adds the names and places of an image's functions to what it takes, `recursion` says which calls are part of a
+//! cycle, and `judging` whether a program can go wrong, and at which places. Each also writes its lines. It exports `measured`,
+//! `judge`, `write_measure`, `write_judged`, their types, and the definitions that the contracts name (`specs/`).
 #![tactic(auto)]
 
 mod judging;

@@ -1,10 +1,11 @@
-// Which calls of a program are part of a cycle of calls, as `safe` names functions; nobody has to believe it.
+// Which calls of a program are part of a cycle of calls; `safe` names their functions. No promise rests on it.
 //
 // Sets of functions are words, a bit for each: a unit has at most 64.
 
 use std::alloc::{AllocError, Global};
 
-/// A call by which a function calls itself, at once or through others: the number of the function that calls, and of the one that is called.
+/// A call by which a function calls itself, directly or through others: the numbers of the calling function and of the called
+/// one.
 #[derive(Clone, Copy)]
 pub(crate) struct Recursion {
     pub(crate) caller: usize,
@@ -19,7 +20,7 @@ fn row(rows: &[u64], function: usize) -> u64 {
     rows.get(function).copied().unwrap_or(0)
 }
 
-// The functions that calls of each function lead to.
+// For each function, the functions that its calls lead to.
 fn all_reached(alloc: Global, calls: &[u64]) -> Result<Vec<u64>, AllocError> {
     let mut reached = Vec::from_slice(alloc, calls)?;
     for middle in 0..calls.len() {
@@ -35,7 +36,8 @@ fn all_reached(alloc: Global, calls: &[u64]) -> Result<Vec<u64>, AllocError> {
     Ok(reached)
 }
 
-/// The calls that are part of a cycle, by who calls and then by who is called, where each function calls so many.
+/// The calls that are part of a cycle, ordered by the function that calls and then by the one that is called, if each function
+/// calls these.
 pub(crate) fn cyclic(alloc: Global, calls: &[u64]) -> Result<Vec<Recursion>, AllocError> {
     let reached = all_reached(alloc, calls)?;
     let mut found = Vec::new(alloc);

@@ -27,14 +27,15 @@ pub struct SizedFunction {
     pub size: FunctionSize,
 }
 
-/// A call by which a function calls itself, at once or through others: the name of the function that calls, and of the one that is called.
+/// A call by which a function calls itself, directly or through others: the names of the calling function and of the called
+/// one.
 #[derive(Drop)]
 pub struct CyclicCall {
     pub caller: Vec<u8>,
     pub called: Vec<u8>,
 }
 
-/// What an image takes: the whole, and each function with its name and its place, in the order of definitions.
+/// How much memory an image takes: the whole, and each function with its name and its place, in the order of definitions.
 #[derive(Drop)]
 pub struct Measure {
     pub functions: Vec<SizedFunction>,
@@ -43,7 +44,7 @@ pub struct Measure {
     pub cycles: Vec<CyclicCall>,
 }
 
-// The address behind so many words from an address on; none past the last address.
+// The address that lies `words` words after an address; none if it would lie past the last address.
 fn behind(address: u32, words: usize) -> Option<u32>
     ensures { IfSome result (λ next. next ≡ address + 4 * words) }
 {
@@ -51,7 +52,7 @@ fn behind(address: u32, words: usize) -> Option<u32>
     address.checked_add(words.checked_mul(4)?)
 }
 
-// The functions with their names and places. Of a compiled unit each has a name, and no address is too large.
+// The functions with their names and places. In a compiled unit each has a name, and no address is too large.
 fn functions(
     alloc: Global,
     unit: &TypedUnit,
@@ -135,7 +136,7 @@ fn digit(number: u32) -> u8
     }
 }
 
-// Writes a word as the listing does, by eight digits of base 16.
+// Writes a word as the listing does, with eight hexadecimal digits.
 fn write_hexadecimal<W: Write>(word: u32, writer: &mut W) -> io::Result<()>
     ensures { OnOk result (Appends (W.contents writer.old) (W.contents writer.new) (hexadecimal 8 word)) }
 {

@@ -13,7 +13,7 @@ row_is [] i d h = absurd (omega arith)
 row_is (row ∷ rows) zero d h = refl
 row_is (row ∷ rows) (suc i) d h = row_is rows i d (omega arith)
 
--- one row set
+-- setting one row
 pub row_set : (rows : List (SmallVec ℕ)) (at : ℕ) (new : SmallVec ℕ) (row : List ℕ) → new.items ≡ row → rows_of (set rows at new) ≡ set (rows_of rows) at row
 row_set rows at new row h = map-set' rows at new ∙ ap (set (rows_of rows) at) h
   where
@@ -22,7 +22,7 @@ row_set rows at new row h = map-set' rows at new ∙ ap (set (rows_of rows) at) 
     map-set' (r ∷ rs) zero v = refl
     map-set' (r ∷ rs) (suc i) v = ap (λ xs. r.items ∷ xs) (map-set' rs i v)
 
--- a row set to what it was
+-- setting a row to what it was changes nothing
 pub row_kept : (rows : List (SmallVec ℕ)) (at : ℕ) (new : SmallVec ℕ) → new.items ≡ successors_of (rows_of rows) at → rows_of (set rows at new) ≡ rows_of rows
 row_kept rows at new h = row_set rows at new (successors_of (rows_of rows) at) h ∙ set-get_or (rows_of rows) at []
 
@@ -30,7 +30,7 @@ row_kept rows at new h = row_set rows at new (successors_of (rows_of rows) at) h
 abbrev pub more_in : List (List ℕ) → (at node : ℕ) → List (List ℕ)
 more_in rows at node = set rows at (successors_of rows at ++ node ∷ [])
 
--- what is in a row is still there
+-- what was in a row is still there
 still_in : (rows : List (List ℕ)) (at node i x : ℕ) → at < length rows → Contains (successors_of rows i) x → Contains (successors_of (more_in rows at node) i) x
 still_in rows at node i x h c = go (cases_eq i at)
   where
@@ -47,7 +47,7 @@ still_in rows at node i x h c = go (cases_eq i at)
 put_in : (rows : List (List ℕ)) (at node : ℕ) → at < length rows → Contains (successors_of (more_in rows at node) at) node
 put_in rows at node h = subst (λ r. Contains r node) (sym (get_or-set_same rows at (successors_of rows at ++ node ∷ []) [] h)) (Contains-push (successors_of rows at) node)
 
--- nothing else is new
+-- nothing else in the rows is new
 only_more : (rows : List (List ℕ)) (at node i x : ℕ) → at < length rows → Contains (successors_of (more_in rows at node) i) x → Contains (successors_of rows i) x ⊎ ((i ≡ at) × (node ≡ x))
 only_more rows at node i x h c = go (cases_eq i at)
   where
@@ -60,7 +60,7 @@ only_more rows at node i x h c = go (cases_eq i at)
         elim (Contains-push_cases (successors_of rows at) node x (subst (λ r. Contains r x) same c)) [ inl old ↦ inl (subst (λ k. Contains (successors_of rows k) x) (sym e) old) | inr is ↦ inr (e, is) ]
     go (inr n) = inl (subst (λ r. Contains r x) (get_or-set_other rows at i new [] n) c)
 
--- rows of nodes
+-- the rows have only nodes after one more was added
 nodes_more : (n : ℕ) (rows : List (List ℕ)) (at node : ℕ) → at < length rows → node < n → All (λ row. All (λ x. x < n) row) rows → All (λ row. All (λ x. x < n) row) (more_in rows at node)
 nodes_more n rows at node h lt all =
     let P : List ℕ → Type 0 = λ row. All (λ x. x < n) row in
@@ -77,7 +77,7 @@ with_predecessor successors predecessors from to f t e =
       leads = λ p s h. still_in predecessors to from s p within (e.leads p s h);
     }
 
--- an edge whose predecessor is there already
+-- an edge is added whose predecessor is noted already
 pub with_edge : (successors predecessors : List (List ℕ)) (from to : ℕ) → from < length successors → to < length successors → AreEdges successors predecessors → AreEdges (more_in successors from to) (more_in predecessors to from)
 with_edge successors predecessors from to f t e =
     let half = with_predecessor successors predecessors from to f t e in

@@ -12,14 +12,14 @@ module _ {F : Type 0} (below : F → F → Type 0) (bottom : F) (lub : F → F �
   pub same_again : (x : F) → Equivalent below x x
   same_again x = (laws.reflexive x, laws.reflexive x)
 
-  -- one more node before the others
+  -- the join with one more node
   pub lub_more : (r x y s : F) → Equivalent below r (lub x s) → Equivalent below x y → Equivalent below r (lub s y)
   lub_more r x y s h e = (
     laws.transitive _ _ _ h.0 (laws.within x s (lub s y) (laws.transitive _ _ _ e.0 (laws.second s y)) (laws.first s y)),
     laws.within s y r (laws.transitive _ _ _ (laws.second x s) h.1) (laws.transitive _ _ _ e.1 (laws.transitive _ _ _ (laws.first x s) h.1)),
   )
 
-  -- a single node
+  -- the join of a single node
   pub lub_alone : (x : F) → Equivalent below x (lub x bottom)
   lub_alone x = (laws.first x bottom, laws.within x bottom x (laws.reflexive x) (laws.least x))
 
@@ -35,7 +35,7 @@ module _ {F : Type 0} (below : F → F → Type 0) (bottom : F) (lub : F → F �
       ap (λ x. lub x (joined bottom lub facts ss)) (h s (0, omega arith, refl))
       ∙ ap (lub (other s)) (joined_same facts other ss (λ x c. h x (suc c.0, (let l = c.1 in omega arith), c.2)))
 
-  -- facts that rose by something within a bound remain within it
+  -- facts that rose, by something that is below a bound, remain below it
   pub rose_within : (old new r c z : F) → Equivalent below new (lub old r) → Equivalent below r c → below old z → below c z → below new z
   rose_within old new r c z h e under under' = laws.transitive _ _ _ h.0 (laws.within old r z under (laws.transitive _ _ _ e.0 under'))
 
@@ -58,7 +58,7 @@ module _ {F : Type 0} (below : F → F → Type 0) (bottom : F) (lub : F → F �
         | inr n ↦ subst (λ x. below x (other l)) (sym (get_or-set_other facts at l new bottom n)) (under l)
       ]
 
-      -- what comes back to a node is below its facts
+      -- a node is settled if what comes back to it is below its facts
       abbrev pub Settled : List F → ℕ → Type 0
       Settled facts l = below (carried bottom lub carries graph (facts_at bottom facts) l) (facts_at bottom facts l)
 
@@ -66,7 +66,7 @@ module _ {F : Type 0} (below : F → F → Type 0) (bottom : F) (lub : F → F �
       abbrev pub IsDone : List Bool → List F → Type 0
       IsDone flags facts = (l : ℕ) → l < length graph → (waits flags l ≡ true) ⊎ Settled facts l
 
-      -- facts rose at a node that this one does not read
+      -- a node that does not read the facts that rose is still settled
       settled_still : (facts : List F) (at : ℕ) (new : F) (l : ℕ) → (Contains (successors_of graph l) at → ⊥) → l ≢ at → Settled facts l → Settled (set facts at new) l
       settled_still facts at new l unread n settled =
           let same : joined bottom lub (facts_at bottom facts) (successors_of graph l) ≡ joined bottom lub (facts_at bottom (set facts at new)) (successors_of graph l)
@@ -80,14 +80,14 @@ module _ {F : Type 0} (below : F → F → Type 0) (bottom : F) (lub : F → F �
           = joined_same (facts_at bottom facts) (facts_at bottom (set facts at new)) (successors_of graph at) (λ s c. sym (get_or-set_other facts at s new bottom (λ e. unread (subst (Contains (successors_of graph at)) e c)))) in
           subst (λ x. below (carries at x) (facts_at bottom (set facts at new) at)) same (subst (below (carried bottom lub carries graph (facts_at bottom facts) at)) (sym (get_or-set_same facts at new bottom within)) holds)
 
-      -- the node that was visited did not rise
+      -- after a visit to a node that did not rise
       pub done_settled : (flags : List Bool) (facts : List F) (node : ℕ) → Settled facts node → IsDone flags facts → IsDone (set flags node false) facts
       done_settled flags facts node settled done l within = elim (cases_eq l node) [
         | inl e ↦ inr (subst (Settled facts) (sym e) settled)
         | inr n ↦ elim (done l within) [ inl w ↦ inl (others_wait flags node l n ∙ w) | inr s ↦ inr s ]
       ]
 
-      -- the node rose, and all that read it wait
+      -- after a node rose, and all nodes that read it wait
       pub done_risen : (flags flags' : List Bool) (facts : List F) (node : ℕ) (new : F) → node < length facts → below (carried bottom lub carries graph (facts_at bottom facts) node) new
           → ((l : ℕ) → waits (set flags node false) l ≡ true → waits flags' l ≡ true) → ((l : ℕ) → Contains (successors_of graph l) node → waits flags' l ≡ true)
           → IsDone flags facts → IsDone flags' (set facts node new)
@@ -105,7 +105,7 @@ module _ {F : Type 0} (below : F → F → Type 0) (bottom : F) (lub : F → F �
                 ]
               ]
 
-      -- if no node waits the facts are a solution
+      -- if no node waits, the facts are a solution
       pub solved : (flags : List Bool) (facts : List F) → ((l : ℕ) → waits flags l ≡ false) → IsDone flags facts → Solves below bottom lub carries graph (facts_at bottom facts)
       solved flags facts none done l within = elim (done l within) [ inl w ↦ absurd (let n = none l in cc) | inr s ↦ s ]
 

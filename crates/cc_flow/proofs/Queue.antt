@@ -7,7 +7,7 @@ use Rattle.std.proofs.lemmas.List.{get_or-set_same, get_or-set_other, get_or_pas
 use Rattle.std.proofs.lemmas.List.Sorted.{sum_by_pushed, sum_by_popped}
 use Rattle.cc_flow.specs.internal.Waiting.{waits, times, IsQueued, how_many}
 
--- 1 for a node itself, 0 for another
+-- 1 for the node itself, 0 for another
 abbrev one_at : (node x : ℕ) → ℕ
 one_at node x = cond (x == node) 1 0
 
@@ -83,7 +83,7 @@ queued_less nodes nodes' flags node perm q k = go (cases_eq k node)
         let sum : times k nodes' ≡ times k nodes = omega arith in
         sum ∙ q k ∙ sym (ap (λ b. cond b 1 0) now)
 
--- an empty queue
+-- if the queue is empty, no node waits
 pub nothing_queued : (nodes : List ℕ) (flags : List Bool) → length nodes ≡ 0 → IsQueued nodes flags → (node : ℕ) → waits flags node ≡ false
 nothing_queued (x ∷ nodes) flags h q node = absurd (omega arith)
 nothing_queued [] flags h q node = go (waits flags node) refl

@@ -6,24 +6,24 @@ use Rattle.smallvec.specs.SmallVec.{SmallVec}
 abbrev pub rows_of : List (SmallVec ℕ) → List (List ℕ)
 rows_of rows = map (λ row. row.items) rows
 
--- the nodes that a node leads to, none for a node that does not exist
+-- the nodes that a node leads to; none for a node that does not exist
 abbrev pub successors_of : List (List ℕ) → (node : ℕ) → List ℕ
 successors_of graph node = get_or graph node []
 
--- successors are nodes
+-- all successors are nodes of the graph
 abbrev pub IsGraph : List (List ℕ) → Type 0
 IsGraph graph = All (λ row. All (λ s. s < length graph) row) graph
 
--- the facts at a node, the least for a node that does not exist
+-- the facts at a node; the least facts for a node that does not exist
 abbrev pub facts_at : {F : Type 0} → (bottom : F) → List F → (node : ℕ) → F
 facts_at bottom facts node = get_or facts node bottom
 
--- the join of what some nodes have
+-- the join of the facts at some nodes
 abbrev pub joined : {F : Type 0} → (bottom : F) → (lub : F → F → F) → (facts : ℕ → F) → List ℕ → F
 joined bottom lub facts [] = bottom
 joined bottom lub facts (s ∷ ss) = lub (facts s) (joined bottom lub facts ss)
 
--- what comes back to a node: what the node makes of the join of what its successors have
+-- what comes back to a node: what the node makes of the join of its successors' facts
 abbrev pub carried : {F : Type 0} → (bottom : F) → (lub : F → F → F) → (carries : ℕ → F → F) → List (List ℕ) → (facts : ℕ → F) → (node : ℕ) → F
 carried bottom lub carries graph facts node = carries node (joined bottom lub facts (successors_of graph node))
 

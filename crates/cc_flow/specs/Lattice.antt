@@ -1,7 +1,7 @@
--- Facts ordered by how much they say. The same facts may have several forms, so the order is a preorder and a join is known up to
--- equivalence.
+-- Facts ordered by how much they say. The same facts may have several forms, so the order is a preorder, and a join is known only
+-- up to equivalence.
 
--- each is below the other: they say the same
+-- two facts are equivalent if each is below the other: they say the same
 abbrev pub Equivalent : {F : Type 0} → (below : F → F → Type 0) → F → F → Type 0
 Equivalent below a b = below a b × below b a
 

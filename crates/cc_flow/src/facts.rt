@@ -7,8 +7,8 @@ use std::alloc::{AllocError, Global};
 
 /// What may be known at a node, ordered by how much it says.
 ///
-/// `below` is the order, `bottom` its least value, `lub` the join. `room` says how often a value can still rise; no value rises
-/// more than `height` times from the least.
+/// `below` is the order, `bottom` its least value, `lub` the join. `room` says how often a value can still rise; from the least
+/// value, no value rises more than `height` times.
 pub trait Facts: Drop {
     ghost below: { Self → Self → Type 0 };
 
@@ -24,7 +24,7 @@ pub trait Facts: Drop {
     fn least(alloc: Global) -> Result<Self, AllocError>
         ensures { IfOk result (λ facts. facts ≡ bottom) };
 
-    /// Joins other facts to these, and returns whether these rose. Without memory they remain as they were.
+    /// Joins other facts to these, and returns whether these rose. If memory runs out, they remain as they were.
     fn join(&mut self, other: &Self) -> Result<bool, AllocError>
         ensures joined { IfOk result (λ _. Equivalent below self.new (lub self.old other.now)) }
         ensures unchanged { IfOk result (λ rose. IsFalse rose → self.new ≡ self.old) }
@@ -38,7 +38,7 @@ pub trait Facts: Drop {
     ghost bounded: { room bottom ≤ height };
 }
 
-/// What each node makes of the facts after it. More facts only make more.
+/// What each node makes of the facts after it. This is monotone: more facts never make less.
 pub trait Transfer<F: Facts> {
     ghost carries: { Self → ℕ → F → F };
 

@@ -14,7 +14,7 @@ type Row = SmallVec<usize, 2>;
 #[derive(Drop)]
 pub struct Graph {
     successors: Vec<Row>,
-    // For each node at least the nodes that lead to it.
+    // For each node, the nodes that lead to it, and possibly others.
     predecessors: Vec<Row>,
 }
 
@@ -41,14 +41,15 @@ impl Graph {
         })
     }
 
-    /// How many nodes it has.
+    /// How many nodes the graph has.
     pub fn len(&self) -> usize
         ensures { result ≡ length self.now }
     {
         self.successors.len()
     }
 
-    /// Adds an edge from one node to another, last in the row of the first. Without memory the graph remains as it was.
+    /// Adds an edge from one node to another, at the end of the first node's row. If memory runs out, the graph remains as it
+    /// was.
     pub fn add_edge(&mut self, from: usize, to: usize) -> Result<(), AllocError>
         requires from { from < length self.old }
         requires to { to < length self.old }
@@ -79,7 +80,7 @@ impl Graph {
     }
 }
 
-/// This many empty rows.
+/// `nodes` empty rows.
 fn empty_rows(alloc: Global, nodes: usize) -> Result<Vec<Row>, AllocError>
     ensures { IfOk result (λ rows. rows_of rows.items ≡ replicate nodes []) }
 {
@@ -91,7 +92,7 @@ fn empty_rows(alloc: Global, nodes: usize) -> Result<Vec<Row>, AllocError>
     Ok(rows)
 }
 
-/// One row.
+/// The row at an index.
 fn row_at(rows: &[Row], at: usize) -> &[usize]
     requires { at < length rows.now }
     ensures { result.now ≡ successors_of (rows_of rows.now) at }

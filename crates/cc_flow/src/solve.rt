@@ -33,7 +33,7 @@ impl<F> Solution<F> {
         self.facts.as_slice()
     }
 
-    /// The same as a `Vec`. Takes no memory.
+    /// The same as a `Vec`. This takes no memory.
     pub fn into_vec(self) -> Vec<F>
         ensures { result.items ≡ self }
     {
@@ -64,7 +64,7 @@ pub fn solve_backward<F: Facts, T: Transfer<F>>(
     Ok(Solution { facts })
 }
 
-/// The least value for each of this many nodes.
+/// The least value for each of `nodes` nodes.
 fn least_facts<F: Facts>(alloc: Global, nodes: usize) -> Result<Vec<F>, AllocError>
     ensures long { IfOk result (λ facts. length facts.items ≡ nodes) }
     ensures least { IfOk result (λ facts. (node : ℕ) → facts_at F.bottom facts.items node ≡ F.bottom) }
@@ -77,7 +77,7 @@ fn least_facts<F: Facts>(alloc: Global, nodes: usize) -> Result<Vec<F>, AllocErr
     Ok(facts)
 }
 
-/// Makes each of these nodes wait; nodes that waited still do.
+/// Makes each of these nodes wait; nodes that waited before still wait.
 fn wake(waiting: &mut Worklist, nodes: &[usize]) -> Result<(), AllocError>
     requires { All (λ node. node < length waiting.old) nodes.now }
     ensures long { IfOk result (λ _. length waiting.new ≡ length waiting.old) }
@@ -90,7 +90,7 @@ fn wake(waiting: &mut Worklist, nodes: &[usize]) -> Result<(), AllocError>
     Ok(())
 }
 
-/// Joins what comes back to a node to its facts, and returns whether these rose.
+/// Joins what comes back to a node to the node's facts, and returns whether these rose.
 fn raise<F: Facts, T: Transfer<F>>(
     alloc: Global,
     graph: &Graph,
@@ -134,7 +134,7 @@ fn carry<F: Facts, T: Transfer<F>>(
     transfer.apply(alloc, node, &behind)
 }
 
-/// The join of what some nodes have.
+/// The join of the facts at some nodes.
 fn join_all<F: Facts>(alloc: Global, facts: &[F], nodes: &[usize]) -> Result<F, AllocError>
     requires { All (λ s. s < length facts.now) nodes.now }
     ensures { IfOk result (λ r. Equivalent F.below r (joined F.bottom F.lub (facts_at F.bottom facts.now) nodes.now)) }

@@ -7,7 +7,7 @@ use std::alloc::{AllocError, Global};
 use std::collections::BinaryHeap;
 use std::marker::Model;
 
-/// The nodes that wait, each once. The last of them in order is taken first. Contracts see a flag for each node.
+/// The nodes that wait, each once. The one with the largest number is taken first. Contracts see a flag for each node.
 #[derive(Drop)]
 pub struct Worklist {
     waits: Vec<bool>,
@@ -27,7 +27,7 @@ impl Model for Worklist {
 }
 
 impl Worklist {
-    /// Returns a list in which none of this many nodes waits.
+    /// Returns a list for `nodes` nodes, none of them waiting.
     fn of_none(alloc: Global, nodes: usize) -> Result<Worklist, AllocError>
         ensures { IfOk result (λ waiting. waiting ≡ replicate nodes false) }
     {
@@ -37,7 +37,7 @@ impl Worklist {
         })
     }
 
-    /// Returns a list in which each of this many nodes waits.
+    /// Returns a list for `nodes` nodes, all of them waiting.
     pub fn of_all(alloc: Global, nodes: usize) -> Result<Worklist, AllocError>
         ensures long { IfOk result (λ waiting. length waiting ≡ nodes) }
         ensures waits { IfOk result (λ waiting. (node : ℕ) → node < nodes → waits waiting node ≡ true) }
@@ -49,7 +49,7 @@ impl Worklist {
         Ok(waiting)
     }
 
-    /// Takes the last node that waits, which then no longer waits.
+    /// Takes the waiting node with the largest number, which then no longer waits.
     pub fn take(&mut self) -> Option<usize>
         ensures taken { IfSome result (λ node. (waits self.old node ≡ true) × (self.new ≡ slice_set self.old node false)) }
         ensures all_done { IfNone result ((node : ℕ) → waits self.old node ≡ false) }

@@ -1,4 +1,4 @@
--- What an expression's form shows of its value: a bound, or that it is a divisor. So an operation evidently has a value.
+-- What an expression's form shows about its value: a bound, or that it is a divisor. So the operation evidently has a value.
 use Rattle.std.proofs.Common.{◌≡◌, ℕ, zero, suc, ◌+◌, ◌-◌, ◌*◌, ◌/◌, ◌^◌, ◌%◌, ◌<◌, ◌≤◌, Bool, true, false, ◌==◌, nat_lt, List, [], ◌∷◌, ◌++◌, inl, inr, Option, Some, None, refl, sym, ap, ◌∙◌, subst, mod-lt, arith, pos}
 use Rattle.std.specs.Prelude.{if◌then◌else◌, not, ◌&&◌, ◌||◌, nat_le, int_lt, int_le, ◌-ℤ◌}
 use Rattle.std.specs.Option.{option_or}
@@ -29,7 +29,7 @@ within_less : (a : Option ℕ) (v w : ℕ) → w ≤ v → Within a v → Within
 within_less None v w le p = tt
 within_less (Some m) v w le p = let x : v ≤ m = p in omega arith
 
--- a sum and a product
+-- the sum and the product of two bounds are bounds
 word_within : (m w : ℕ) → w ≤ m → Within (if_word m) w
 word_within m w le = by (nat_lt m (2 ^ 32))
   where
@@ -47,7 +47,7 @@ product_within None k x y w le p q = tt
 product_within (Some m) None x y w le p q = tt
 product_within (Some m) (Some k) x y w le p q = let u : x * y ≤ m * k = mul-le-mul p q in word_within (m * k) w (omega arith)
 
--- a value that may not be there
+-- if the value is there, it is this one
 when_false : (b : Bool) (v w : ℕ) → (if b then None else Some v) ≡ Some w → v ≡ w
 when_false true v w e = absurd (let f : None ≡ Some w = e in cc)
 when_false false v w e = (let f : Some v ≡ Some w = e in cc)
@@ -170,7 +170,7 @@ module _ (l : Variables) (h : World) where
   HoldsOf None = Unit {0}
   HoldsOf (Some k) = l k.variable ≤ k.most
 
-  -- a condition is not 0, or is 0
+  -- a condition is not 0 (true), or is 0 (false)
   abbrev pub IsWay : Bool → ℕ → Type 0
   IsWay true w = (v : ℕ) × (w ≡ suc v)
   IsWay false w = w ≡ 0

@@ -1,4 +1,4 @@
--- Guards set at most two variables for each operation that may have no value.
+-- Guards set at most two variables for each operation that can lack a value.
 use Rattle.std.proofs.Common.{◌≡◌, ℕ, suc, ◌+◌, ◌*◌, ◌≤◌, Bool, true, false, List, [], ◌∷◌, refl, arith}
 use Rattle.std.specs.Prelude.{if◌then◌else◌}
 use Rattle.std.proofs.Math.Nat.{max-le}
@@ -29,7 +29,7 @@ if_next false g = omega arith
 never : {A : Type 0} → true ≡ false → A
 never e = absurd (let f : true ≡ false = e in cc)
 
--- an operator that is tested may have no value
+-- an operator that is tested can lack a value
 tested_partial : (ks : List Limit) (op : two.Binary) (b : Expression) → always ks op b ≡ false → partial op ≡ 1
 tested_partial ks Add b e = never e
 tested_partial ks Sub b e = never e

@@ -1,6 +1,6 @@
--- What is known of variables at the start of a statement and at its end. What is known of a variable that no part of a statement
--- sets is known after it too, on each way out. So code into which guards can be put satisfies `Flows`: at each place what should
--- be known is known.
+-- What is known about variables at the start of a statement and at its end. What is known about a variable that no part of a
+-- statement sets is also known after the statement, on each way out. So code into which guards can be put satisfies `Flows`: at
+-- each place, what should be known is known.
 use Rattle.std.proofs.Common.{◌≡◌, ℕ, zero, suc, ◌<◌, ◌≤◌, ◌==◌, max, Bool, true, false, List, [], ◌∷◌, ◌++◌, length, Option, Some, None, ◌⊎◌, inl, inr, refl, sym, ap, ◌∙◌, subst, arith}
 use Rattle.std.specs.Prelude.{if◌then◌else◌, not, ◌&&◌, ◌||◌, nat_lt, nat_le}
 use Rattle.std.proofs.Math.Nat.{le-max_left, le-max_right}
@@ -65,7 +65,7 @@ is_false : (a : Bool) → not a ≡ true → a ≡ false
 is_false true e = absurd (let f : false ≡ true = e in cc)
 is_false false e = refl
 
--- for a statement of two parts
+-- a bound that stays for a statement of two parts stays for each part
 stays_both : (n : ℕ) (p q : ℕ → Bool) (f : Limit) → stays n (λ x. p x || q x) f ≡ true → (stays n p f ≡ true) × (stays n q f ≡ true)
 stays_both n p q f is =
     let below = and_left (nat_lt f.variable n) (not (p f.variable || q f.variable)) is in
@@ -78,7 +78,7 @@ stays_below n p f is = let lt : nat_lt f.variable n ≡ true = and_left (nat_lt 
 stays_unset : (n : ℕ) (p : ℕ → Bool) (f : Limit) → stays n p f ≡ true → p f.variable ≡ false
 stays_unset n p f is = is_false (p f.variable) (and_right (nat_lt f.variable n) (not (p f.variable)) is)
 
--- the variable is below n
+-- a bound that stays is of a variable below n
 stays_skip : (n : ℕ) (p : ℕ → Bool) (f : Limit) → stays n p f ≡ true → stays n (sets Skip) f ≡ true
 stays_skip n p f is = both_true (nat_lt f.variable n) true (and_left (nat_lt f.variable n) (not (p f.variable)) is) refl
 
@@ -111,7 +111,7 @@ limits_of n (g ∷ gs) f = (f g (inl refl), limits_of n gs (λ k i. f k (inr i))
 pub kept_under : (n : ℕ) (p : ℕ → Bool) (ks : List Limit) → LimitsUnder n (kept n p ks)
 kept_under n p ks = limits_of n (kept n p ks) (λ f i. stays_below n p f (is_kept n p ks f i).1)
 
--- and they hold after such variables were changed
+-- if only variables that `p` names were changed, the bounds that are kept hold
 pub kept_holds : (n : ℕ) (p : ℕ → Bool) (ks : List Limit) (k l : Variables) → Holds ks k → ((x : ℕ) → p x ≡ false → l x ≡ k x) → Holds (kept n p ks) l
 kept_holds n p ks k l h same =
     holds_of (kept n p ks) l (λ f i. let q = is_kept n p ks f i in subst (λ w. w ≤ f.most) (sym (same f.variable (stays_unset n p f q.1))) (fact_of ks f k q.0 h))
@@ -134,7 +134,7 @@ under_both : (n : ℕ) (ks gs : List Limit) → LimitsUnder n ks → LimitsUnder
 under_both n [] gs p q = q
 under_both n (k ∷ ks) gs p q = (p.0, under_both n ks gs p.1 q)
 
--- the bounds that two ways share hold after each of them
+-- the bounds joined from two ways hold after each of them
 joined_left : (a b : List Limit) (l : Variables) → Holds a l → Holds (joined a b) l
 joined_left [] b l p = tt
 joined_left (k ∷ a) b l p = by (most_in b k.variable) (joined_left a b l p.1)
@@ -159,7 +159,7 @@ joined_under n (k ∷ a) b u = by (most_in b k.variable) (joined_under n a b u.1
     by None rest = rest
     by (Some m) rest = (u.0, rest)
 
--- after the ways of an `If` meet
+-- a bound that was known before an `If` and after both of its ways is known when the ways meet
 has_met : (p q : Bool) (n : ℕ) (u : Statement) (before one other : List Limit) (f : Limit) → Has before f → Has one f → Has other f → Has (met p q n u before one other) f
 has_met true true n u before one other f i j k = has_left before (joined (kept n (unset u) one) other) f i
 has_met true false n u before one other f i j k = j
@@ -182,7 +182,7 @@ met_under true false n u before one other x y z = y
 met_under false true n u before one other x y z = z
 met_under false false n u before one other x y z = x
 
--- what holds again after a turn
+-- a bound that is known again after a turn holds then
 at_most_is : (m : Option ℕ) (n w : ℕ) → at_most m n ≡ true → Within m w → w ≤ n
 at_most_is None n w e p = absurd (let f : false ≡ true = e in cc)
 at_most_is (Some m) n w e p = let x : w ≤ m = p in let y : m ≤ n = grind (arith, nat_tests) in omega arith
@@ -313,16 +313,16 @@ module _ (objects : List Size) where
     has_after (Exit k) ks f i is = i
     has_after (Return e) ks f i is = has_kept n (sets (Return e)) (guarded objects ks n e).known f (has_guarded e ks n f i) is
 
-    -- what is known after a loop's turn, and after a block that ends
+    -- what is known after a statement includes the bounds of variables that it does not set
     yields_after : (s : Statement) (ks : List Limit) → Yields (known_after objects n ks s) (kept n (sets s) ks)
     yields_after s ks = yields_of (known_after objects n ks s) (kept n (sets s) ks) (λ f i. let p = is_kept n (sets s) ks f i in has_after s ks f p.0 p.1)
 
-    -- after a block
+    -- the same holds after a block
     yields_block : (b : Bool) (s : Statement) (ks : List Limit) → Yields (known_after objects n ks s) (if b then kept n (sets s) ks else known_after objects n ks s)
     yields_block true s ks = yields_after s ks
     yields_block false s ks = λ l h. h
 
-    -- what is known at a loop's head is known before the loop, and after a turn
+    -- what is known at a loop's head is known before the loop, and again after a turn
     pub yields_head : (s : Statement) (ks : List Limit) → Yields ks (head objects n ks s)
     yields_head s ks l h =
         let before = kept n (unset s) ks in
@@ -372,20 +372,20 @@ module _ (objects : List Size) where
         met_other (falls s) (falls t) n (If e s t) (before_met e s t ks) (known_after objects n (known_within objects n true ks e) s) (known_after objects n (known_within objects n false ks e) t) is
         (yields_joined false e t (If e s t) ks (λ f k. (stays_both n (sets s) (sets t) f k).1))
 
-    -- ---- code with what is known at each place
+    -- ---- code, with what is known at each place
 
     module _ (quiet : Bool) where
-      -- no guards, if the code is to be quiet
+      -- there is no guard, if the code is to be quiet
       abbrev pub Silent : List Guard → Type 0
       Silent gs = quiet ≡ true → some_guard gs ≡ false
 
-      -- an exit leaves blocks that exist, and what should be known after the last of them is known
+      -- an exit leaves blocks that exist, and what should be known after the outermost of them is known
       abbrev pub ExitKnows : List (List Limit) → (k : ℕ) → List Limit → Type 0
       ExitKnows [] k ks = ⊥
       ExitKnows (gs ∷ E) zero ks = Yields ks gs
       ExitKnows (gs ∷ E) (suc k) ks = ExitKnows E k ks
 
-      -- a statement makes these bounds known, if control can reach its end
+      -- if control can reach the end of the statement, these bounds are known there
       abbrev pub Leads : Statement → List Limit → List Limit → Type 0
       Leads s ks gs = falls s ≡ true → Yields (known_after objects n ks s) gs
 
@@ -409,7 +409,7 @@ module _ (objects : List Size) where
       Flows E ks (Exit k) = ExitKnows E k ks
       Flows E ks (Return e) = Under n e × Silent (guarded objects ks n e).before
 
-      -- what remains to be done after a statement that leaves these bounds known
+      -- what remains to be done can start with these bounds
       abbrev pub Continues : List Limit → Noted → Type 0
       Continues gs Last = Unit {0}
       Continues gs (AndThen ks s ν) = Yields gs ks × LimitsUnder n ks × Flows (exits_of ν) ks s × (after : List Limit) × Leads s ks after × Continues after ν
@@ -424,8 +424,8 @@ module _ (objects : List Size) where
 
       -- ---- all code that fits has these properties
 
-      -- if an exit leaves just one block, what should be known after that block, of variables that the block does not set, is
-      -- known in it
+      -- if an exit leaves just one block, then what should be known after that block is known in it, for variables that the block
+      -- does not set
       abbrev AllStay : List (List Limit) → (ℕ → Bool) → List Limit → Statement → Type 0
       AllStay [] out ks s = Unit {0}
       AllStay (gs ∷ E) out ks s = (out 0 ≡ true → (f : Limit) → Has gs f → IsKept n (sets s) ks f) × AllStay E (λ k. out (suc k)) ks s

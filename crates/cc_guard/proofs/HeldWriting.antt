@@ -1,10 +1,10 @@
--- The code with words in variables, as it is written: as lists of statements.
+-- The code with words in variables, as lists of statements: this is how it is written.
 use Rattle.std.proofs.Common.{◌≡◌, ℕ, suc, List, [], ◌∷◌, ◌++◌, refl, ap}
 use Rattle.cc_cminor.specs.Cminor.{Constant, Statement, Set, Sequence}
 use Rattle.cc_cminor.specs.Code.{in_sequence}
 use Rattle.cc_guard.specs.Held.{held_in, put_first}
 
--- a list of statements
+-- a list of statements whose conditions read the words
 abbrev pub all_held : List ℕ → (m : ℕ) → List Statement → List Statement
 all_held ws m [] = []
 all_held ws m (s ∷ ss) = held_in ws m s ∷ all_held ws m ss

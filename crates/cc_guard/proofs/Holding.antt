@@ -1,11 +1,11 @@
 -- Code with words in variables does what the original code does, move by move, once the words are in their variables. The
--- variables below m have the same words in both, and those from m on hold the chosen words, which nothing sets again. So it keeps
--- up as the code does, its calls are calls, and its numbers are within their limits.
+-- variables below m have the same words in both, and those from m on hold the chosen words and are not set again. So it keeps up
+-- as the original code does, its calls are calls, and its numbers are within their limits.
 use Rattle.std.proofs.Common.{◌≡◌, ℕ, zero, suc, ◌+◌, ◌<◌, ◌≤◌, ◌==◌, cond, Bool, true, false, List, [], ◌∷◌, length, Option, Some, None, inl, inr, refl, sym, ap, ◌∙◌, subst, arith}
 use Rattle.std.specs.Prelude.{if◌then◌else◌}
 use Rattle.std.proofs.lemmas.Bool.Decides.{nat_tests, eqb_tells}
 use Rattle.cc_ast.specs.Tree.{External}
-use Rattle.cc_c_laws.specs.declared.mode.Mode.{Mode}
+use Rattle.cc_c_semantics.specs.declared.mode.Mode.{Mode}
 use Rattle.cc_words.specs.Operators.{apply_binary}
 use Rattle.cc_simulation.specs.World.{World, stored, next_word, after_read, after_write}
 use Rattle.cc_simulation.specs.Run.{Move, Goes, Calls, Returns, tried, run, work}
@@ -135,7 +135,7 @@ Lie (w ∷ ws) m l = (l m ≡ w) × Lie ws (suc m) l
 put_after : (l : Variables) (t w x : ℕ) → t < x → put l t w x ≡ l x
 put_after l t w x lt = let e : (t == x) ≡ false = grind (arith, nat_tests) in ap (λ b. cond b w (l x)) e
 
--- they stay there if a variable below theirs is set
+-- the words stay in their variables if a variable below m is set
 lie_put : (ws : List ℕ) (m : ℕ) (l : Variables) (x w : ℕ) → x < m → Lie ws m l → Lie ws m (put l x w)
 lie_put [] m l x w lt p = tt
 lie_put (v ∷ vs) m l x w lt p = (put_after l x w m lt ∙ p.0, lie_put vs (suc m) l x w (omega arith) p.1)
@@ -172,7 +172,7 @@ puts_lie : (ws : List ℕ) (m : ℕ) (l : Variables) → Lie ws m (puts ws m l)
 puts_lie [] m l = tt
 puts_lie (w ∷ ws) m l = (puts_below ws (suc m) (put l m w) m (omega arith) ∙ put_there l m w, puts_lie ws (suc m) (put l m w))
 
--- three moves for each word
+-- how many moves it takes to put the words into their variables: three for each
 abbrev long : List ℕ → ℕ
 long [] = 0
 long (w ∷ ws) = suc (suc (suc (long ws)))
@@ -348,7 +348,7 @@ first_calls : (ws : List ℕ) (m : ℕ) (unit : List External) (s : Statement) �
 first_calls [] m unit s h = h
 first_calls (w ∷ ws) m unit s h = (tt, first_calls ws (suc m) unit s h)
 
--- ---- it keeps up
+-- ---- the code keeps up
 
 abbrev nothing_related : Config → Config → Type 0
 nothing_related c d = ⊥
@@ -371,7 +371,7 @@ words_track meaning f rate s ws tracks opened below args h is_call n =
     let y = kept_after e nothing_related (λ a b z. absurd z) (λ a b z. absurd z) (long ws) rate n owed (cminor_start (with_words ws m s) args h) d (puts_way ws m (held_in ws m s) l h) (k.moves, k.steps, x) in
     (y.0, y.1, record { moves = y.0; steps = y.1; few = omega arith; few_steps = omega arith; keeps = y.2 })
 
--- what the type of a pair guarantees of its code
+-- what the type of a pair guarantees about its code
 pub record IsSound (mode : Mode) (unit : List External) (f : ℕ) (s : Statement) : Type 0 where
   pub calls : AreCalls unit s
   pub numbers : StatementFits s

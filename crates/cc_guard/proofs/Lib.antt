@@ -1,8 +1,8 @@
--- How guarded code is shown to keep up.
--- A recursion on guards shows what they do to the variables, without a run. So the guards of an expression let the run pass
--- exactly if the expression has a value, and then its value after them is that one. A run passes guards, or one of them stops it
--- and it goes on for ever. One or more moves of the guarded code match each move of the code, so each cut of the one is a cut of
--- the other, and no less has been done.
+-- How guarded code is shown to keep up. A recursion on guards shows what they do to the variables, without a run. So the guards
+-- of an expression let the run pass exactly if the expression has a value, and after them its value is that one. A run passes all
+-- guards, or one of them stops it and it goes on for ever. One or more moves of the guarded code match each move of the code, so
+-- each cut of a run of the code has a cut of the guarded run, in which no less has been done.
+--
 -- what guards do to the variables
 pub mod Passing
 -- operations that evidently have a value
@@ -19,7 +19,7 @@ pub mod Matching
 pub mod Moves
 -- code without guards is as it was, and never reaches an operation without a value
 pub mod Unguarded
--- guarded code keeps up: the whole
+-- the whole: guarded code keeps up
 pub mod Tracking
 -- numbers in guarded code are within their limits
 pub mod Numbered

@@ -1,17 +1,17 @@
 -- What the guards need from the code of a pair and from the meaning of a unit. The code's variables are below the number from
--- which the guards set theirs, each exit leaves blocks that exist, and the answer to a call leaves each object its size. And
+-- which the guards set theirs, each exit leaves blocks that exist, and the answer to a call leaves each object its size. Also,
 -- calls stay calls.
 use Rattle.std.proofs.Common.{◌≡◌, ℕ, suc, ◌≤◌, ◌<◌, List, [], ◌∷◌, ◌++◌, length, map, Option, Some, None, refl, sym, ap, ◌∙◌, Bool, true, false, if◌then◌else◌, subst, arith}
 use Rattle.std.proofs.lemmas.Bool.Decides.{nat_tests}
 use Rattle.cc_ast.specs.Tree.{External}
-use Rattle.cc_c_laws.specs.Meaning.{Global, initial_globals}
-use Rattle.cc_c_laws.specs.Function as by_name
-use Rattle.cc_c_laws.specs.Function.{call_function}
-use Rattle.cc_c_laws.specs.Calls.{NamedSize, sizes, KeepsObjects, CallsKeepObjects}
-use Rattle.cc_c_laws.specs.Checked.{stays}
-use Rattle.cc_c_laws.specs.declared.mode.Mode.{Mode}
-use Rattle.cc_c_laws.specs.declared.mode.Mode.TheVariants.{Checked}
-use Rattle.cc_c_laws.specs.Numbered.{names_of, objects_of, named, shared_in, objects_in, numbered, IsMeaning}
+use Rattle.cc_c_semantics.specs.Meaning.{Global, initial_globals}
+use Rattle.cc_c_semantics.specs.Function as by_name
+use Rattle.cc_c_semantics.specs.Function.{call_function}
+use Rattle.cc_c_semantics.specs.Calls.{NamedSize, sizes, KeepsObjects, CallsKeepObjects}
+use Rattle.cc_c_semantics.specs.Checked.{stays}
+use Rattle.cc_c_semantics.specs.declared.mode.Mode.{Mode}
+use Rattle.cc_c_semantics.specs.declared.mode.Mode.TheVariants.{Checked}
+use Rattle.cc_c_semantics.specs.Numbered.{names_of, objects_of, named, shared_in, objects_in, numbered, IsMeaning}
 use Rattle.cc_simulation.specs.World.{Object, Size, size_of, World, Answer, Effect, Gives, Unfinished, Failed}
 use Rattle.cc_simulation.specs.Meaning.{Meaning}
 use Rattle.cc_simulation.specs.Tracks.{Tracks}
@@ -167,7 +167,7 @@ module _ (unit : List External) (objects : List Size) (n : ℕ) where
 same_sizes : (gs hs : List Global) → sizes gs ≡ sizes hs → map size_of (objects_of gs) ≡ map size_of (objects_of hs)
 same_sizes gs hs e = unnamed_sizes gs ∙ ap (λ (zs : List NamedSize). map unnamed zs) e ∙ sym (unnamed_sizes hs)
 
--- objects with the names of a unit's, once the names are taken off again
+-- objects that were given the names of a unit's objects are the same once the names are taken off
 unnamed_again : (gs : List Global) (os : List Object) → map size_of os ≡ map size_of (objects_of gs) → objects_of (named (names_of gs) os) ≡ os
 unnamed_again [] [] e = refl
 unnamed_again [] (o ∷ os) e = absurd (let q : ◌≡◌ {A = List Size} (size_of o ∷ map size_of os) [] = e in cc)
@@ -199,13 +199,13 @@ module _ (keep : CallsKeepObjects) (mode : Mode) (unit : List External) (m : Mea
   guarded_keeps_up : (f : ℕ) (s : Statement) → ExitsFit 0 s → TracksOrBreaks m f 1 cminor_move cminor_output (cminor_start s) → Tracks m f 1 cminor_move cminor_output (cminor_start (guarded_function m.objects (above_statement 0 s) s))
   guarded_keeps_up f s exits tracks = guarded_tracks m keeps_sizes f 0 (above_statement 0 s) s (fits_above s 0 0 exits).1 tracks
 
--- code that goes wrong when its function does keeps up, once it is guarded, with the checked function
+-- if code goes wrong when its function does, then once it is guarded it keeps up with the checked function
 checked_keeps_up : CallsKeepObjects → (unit : List External) (f : ℕ) (s : Statement) → ExitsFit 0 s → FailsAlike unit f s → KeepsUp Checked unit f (guarded_function (objects_in unit) (above_statement 0 s) s)
 checked_keeps_up keep unit f s exits alike m is =
     subst (λ (objects : List Size). Tracks m f 1 cminor_move cminor_output (cminor_start (guarded_function objects (above_statement 0 s) s))) is.objects
     (guarded_keeps_up keep Checked unit m is f s exits (alike m is))
 
--- code without guards, unchanged, keeps up with the checked function
+-- code that gets no guards keeps up, unchanged, with the checked function
 pub unguarded_needs_none : CallsKeepObjects → (unit : List External) (f : ℕ) (s : Statement) → AreCalls unit s → CodeConstantsFit s → ExitsFit 0 s → FailsAlike unit f s → GoesWrong unit f s
     → has_guards (objects_in unit) (above_statement 0 s) s ≡ false → NeedsNoGuard unit f s
 unguarded_needs_none keep unit f s calls constants exits alike wrong none = record {

@@ -42,7 +42,7 @@ marks_one old v lt = record { long = length-set old v true; marks = at }
 pub marks_nothing : (old : List Bool) (v : ℕ) → length old ≤ v → Marks (sets_result (Some v)) old old
 marks_nothing old v le = record { long = refl; marks = λ x lt. let e : (v == x) ≡ false = grind (arith, nat_tests) in or_false (get_or old x false) ∙ ap (λ z. get_or old x false || z) (sym e) }
 
--- no mark is set, with one more such mark
+-- if no mark is set and one more unset mark is added, none is set
 pub none_more : (ms : List Bool) → ((x : ℕ) → get_or ms x false ≡ false) → (x : ℕ) → get_or (ms ++ false ∷ []) x false ≡ false
 none_more [] none zero = refl
 none_more [] none (suc x) = refl
@@ -52,7 +52,7 @@ none_more (m ∷ ms) none (suc x) = none_more ms (λ y. none (suc y)) x
 pub marked_of : (n : ℕ) (p : ℕ → Bool) (old new : List Bool) → length old ≡ n → ((x : ℕ) → get_or old x false ≡ false) → Marks p old new → IsMarked n p new
 marked_of n p old new long none m = record { long = m.long ∙ long; marked = λ x lt. m.marks x (let e = long in omega arith) ∙ ap (λ z. z || p x) (none x) }
 
--- one statement, and those after it
+-- marking one statement and then those after it marks the whole sequence
 pub marks_first : (s : Statement) (ss : List Statement) (old mid new : List Bool) → Marks (sets s) old mid → Marks (sets (in_sequence ss)) mid new → Marks (sets (in_sequence (s ∷ ss))) old new
 marks_first s [] old mid new a b =
     let m = marks_both (sets s) (λ x. false) old mid new a b in

@@ -1,6 +1,6 @@
--- How code with guards goes along with code without: each move of the code is one or more moves of the guarded code, with the
--- same call or the same return. If an operation has no value the guarded code reaches a configuration that moves to itself. And
--- what follows for runs.
+-- How code with guards goes along with code without them: each move of the code is one or more moves of the guarded code, with
+-- the same call or the same return. If an operation has no value, the guarded code reaches a configuration that moves to itself.
+-- The rest of the file shows what follows for runs.
 use Rattle.std.proofs.Common.{◌≡◌, ℕ, zero, suc, ◌+◌, ◌-◌, ◌*◌, ◌≤◌, List, [], ◌∷◌, Option, Some, None, inl, inr, refl, sym, ap, ◌∙◌, subst, arith}
 use Rattle.std.proofs.Math.Nat.{mul-le-mul_left, suc-mul}
 use Rattle.cc_simulation.specs.Behavior.{Going, Ended, Outcome, IsRight}
@@ -20,7 +20,7 @@ Way n c d = ways.Way cminor_move cminor_output n c d
 pub way_then : (n m : ℕ) (c d e : Config) → Way n c d → Way m d e → Way (n + m) c e
 way_then n m c d e p q = simulating.way_then cminor_move cminor_output n m c d e p q
 
--- moves lead to a configuration that moves to itself
+-- some moves lead to a configuration that moves to itself
 pub record Spins (o : List ℕ) (c : Config) : Type 0 where
   pub moves : ℕ
   pub to : Config
@@ -31,7 +31,7 @@ pub record Spins (o : List ℕ) (c : Config) : Type 0 where
 -- ---- guards run
 
 module _ (s : Statement) (κ : Continuation) (h : World) (b : ℕ) where
-  -- what remains after a guard
+  -- what remains to be done after a guard
   abbrev rest : List Guard → Continuation
   rest gs = Then (guards_then b gs s) κ
 
@@ -41,14 +41,14 @@ module _ (s : Statement) (κ : Continuation) (h : World) (b : ℕ) where
     pub way : Way moves (config (guards_then b gs s) κ l h) (config s κ after h)
     pub holds : P after
 
-  -- an `If` goes to its second statement, or to its first one
+  -- if its condition is 0 an `If` goes to its second statement, else to its first one
   to_second : (e : Expression) (c d : Statement) (l : Variables) (κ : Continuation) → value e l h ≡ Some 0 → cminor_move (config (If e c d) κ l h) ≡ Goes (config d κ l h)
   to_second e c d l κ v = ap (λ o. tried o (λ w. Goes (config (chosen w c d) κ l h))) v
 
   to_first : (e : Expression) (c d : Statement) (l : Variables) (κ : Continuation) (w : ℕ) → value e l h ≡ Some (suc w) → cminor_move (config (If e c d) κ l h) ≡ Goes (config c κ l h)
   to_first e c d l κ w v = ap (λ o. tried o (λ w. Goes (config (chosen w c d) κ l h))) v
 
-  -- no guard stops the run: it reaches the statement after them
+  -- if no guard stops the run, it reaches the statement after the guards
   pub through : (gs : List Guard) (l : Variables) (P : Variables → Type 0) → Comes h gs l P → Through gs P l
   through [] l P p = record { moves = 0; after = l; way = (refl, refl); holds = p }
   through (Put t e ∷ gs) l P (w, v, p) =
@@ -84,14 +84,14 @@ module _ (s : Statement) (κ : Continuation) (h : World) (b : ℕ) where
         holds = x.holds;
       }
 
-  -- the exit after a test that fails
+  -- after a test that fails, the exit leads to the endless loop
   exits_on : ((l : Variables) → Spins h.output (config (Exit b) κ l h)) → (gs : List Guard) (l : Variables) → Spins h.output (config (Exit b) (rest gs) l h)
   exits_on halts gs l = let x = halts l in record { moves = suc x.moves; to = x.to; way = (config (Exit b) κ l h, refl, x.way); stays = x.stays; output = x.output }
 
   one_more : (c d : Config) → cminor_move c ≡ Goes d → Spins h.output d → Spins h.output c
   one_more c d e x = record { moves = suc x.moves; to = x.to; way = (d, e, x.way); stays = x.stays; output = x.output }
 
-  -- a guard stops the run: it runs for ever, if a run from an exit does
+  -- if a guard stops the run, the run goes on for ever, provided that a run from an exit does
   pub spins : ((l : Variables) → Spins h.output (config (Exit b) κ l h)) → (gs : List Guard) (l : Variables) → Stops h gs l → Spins h.output (config (guards_then b gs s) κ l h)
   spins halts [] l p = absurd p
   spins halts (Put t e ∷ gs) l (w, v, p) =
@@ -129,7 +129,7 @@ module _ (effect : ℕ → Question → Effect) (Related : Config → Config →
     pub way : Way moves d to
     pub related : Related c to
 
-  -- related again after each answer that the call can give
+  -- the guarded code asks the same, and is related again after each answer that the call can give
   pub record Asks (q : Question) (resume : Answer → Config) (d : Config) : Type 0 where
     pub moves : ℕ
     pub to : Config
@@ -145,7 +145,7 @@ module _ (effect : ℕ → Question → Effect) (Related : Config → Config →
     pub returns : cminor_move to ≡ Returns r
     pub output : cminor_output to ≡ o
 
-  -- what the guarded code at d does for a move from a configuration
+  -- what the guarded code at d does to match a move of the code
   abbrev pub Matches : List ℕ → Move Config → Config → Type 0
   Matches o (Goes c) d = Advances c d
   Matches o (Calls q resume) d = Asks q resume d
@@ -158,7 +158,7 @@ module _ (effect : ℕ → Question → Effect) (Related : Config → Config →
   matches_after o (Returns r) n d e p x = record { moves = n + x.moves; to = x.to; way = way_then n x.moves d e x.to p x.way; returns = x.returns; output = x.output }
   matches_after o Fails n d e p x = record { moves = n + x.moves; to = x.to; way = way_then n x.moves d e x.to p x.way; stays = x.stays; output = x.output }
 
-  -- guards, then a statement: no guard stops the run exactly if the statement can make its move
+  -- guards, followed by a statement, match the statement: no guard stops the run exactly if the statement can make its move
   pub guards_match : {A : Type 0} (b : ℕ) (gs : List Guard) (t : Statement) (κ : Continuation) (l : Variables) (h : World) (o : Option A) (go : A → Move Config) (Q : Variables → A → Type 0) → ((m : Variables) → Spins h.output (config (Exit b) κ m h)) → Meets h gs l o Q
       → ((m : Variables) (a : A) → Q m a → o ≡ Some a → Matches h.output (go a) (config t κ m h)) → Matches h.output (tried o go) (config (guards_then b gs t) κ l h)
   guards_match b gs t κ l h None go Q halts p f = spins t κ h b halts gs l p
@@ -194,7 +194,7 @@ module _ (effect : ℕ → Question → Effect) (Related : Config → Config →
       let y : suc (n + works k j d) ≡ suc n + works k j d = omega arith in
       ap (λ m. works m j c) z ∙ ap (λ v. work_act effect v j (works (n + k))) q ∙ ap suc (way_work n k j u d r) ∙ y
 
-  -- a cut with this outcome, of a run that has done so much
+  -- a run of the guarded code that was cut short has this outcome, and has done at least this much
   pub record Cut (j : ℕ) (a : Outcome Answer) (done : ℕ) (d : Config) : Type 0 where
     pub k : ℕ
     pub same : runs k j d ≡ a
@@ -213,7 +213,7 @@ module _ (effect : ℕ → Question → Effect) (Related : Config → Config →
   stays_work zero j c e = refl
   stays_work (suc k) j c e = ap (λ m. work_act effect m j (works k)) e ∙ ap suc (stays_work k j c e)
 
-  -- cuts of any number of moves, all still running with this output
+  -- however far the run goes, there is a cut at which it is still running, with this output
   abbrev pub Hangs : ℕ → List ℕ → Config → Type 0
   Hangs j o d = (n : ℕ) → Cut j (record { stop = Going; output = o }) n d
 
@@ -230,7 +230,7 @@ module _ (effect : ℕ → Question → Effect) (Related : Config → Config →
     going : (o : List ℕ) (d : Config) (j : ℕ) → cminor_output d ≡ o → Cut j (record { stop = Going; output = o }) 0 d
     going o d j e = record { k = 0; same = ap (λ p. record { stop = Going; output = p }) e; paid = omega arith }
 
-    -- the cut at a call, from one after its answer
+    -- if there is a cut after a call's answer, there is one at the call
     asked : (k j : ℕ) (d : Config) (q : Question) (resume : Answer → Config) (x : Asks q resume d) (e : Effect) → effect j q ≡ e
         → ((i : ℕ) (c d : Config) → Related c d → IsRight (runs k i c).stop → Cut i (runs k i c) (works k i c) d)
         → IsRight (resumed e resume (runs k)).stop → Cut j (resumed e resume (runs k)) (suc (work_resumed e resume j (works k))) d
@@ -319,13 +319,13 @@ module _ (effect : ℕ → Question → Effect) (Related : Config → Config →
         (x.k, j, (x.same ∙ p.0, omega arith))
     kept_on rate n k j (Failed o) c d rel p = (0, 0, tt)
 
-    -- at any rate but 0
+    -- at every rate above 0, the guarded code keeps up with a run of the code, if that run breaks
     pub broken_on : (rate n : ℕ) (e : Effect) (c d : Config) → Related c d → BreaksAt cminor_move cminor_output effect e c → IsKept (suc rate) n e d
     broken_on rate n (Gives a left) c d rel p = absurd p
     broken_on rate n (Unfinished o) c d rel p = let y = hung p.moves p.steps o c d rel p.breaks n in (y.k, p.steps, (y.same, enough rate n (works y.k p.steps d) y.paid))
     broken_on rate n (Failed o) c d rel p = absurd p
 
-    -- after the first moves of a run
+    -- what is kept after the first moves of a run is kept from its start
     pub kept_after : (m rate n : ℕ) (e : Effect) (c d : Config) → Way m c d → IsKept rate n e d → IsKept rate n e c
     kept_after m rate n (Gives a left) c d p (k, j, q) =
         (m + k, j, (way_run m k j c d p ∙ q.0, more_paid rate n left (works k j d) (works (m + k) j c) (let e = way_work m k j c d p in omega arith) q.1))

@@ -1,5 +1,5 @@
--- The guarded code matches each move of the code: one case for each statement. What is known at the start of a statement is known
--- of the variables then.
+-- The guarded code matches each move of the code: one case for each statement. What is known at the start of a statement holds of
+-- the variables at that point.
 use Rattle.std.proofs.Common.{◌≡◌, ℕ, zero, suc, ◌<◌, ◌≤◌, ◌==◌, cond, Bool, true, false, List, [], ◌∷◌, ◌++◌, map, option_map, Option, Some, None, refl, sym, ap, ◌∙◌, subst, arith}
 use Rattle.std.specs.Prelude.{if◌then◌else◌, ◌||◌}
 use Rattle.cc_words.specs.declared.operators.Width.{Width}
@@ -28,8 +28,8 @@ module _ (objects : List Size) (n : ℕ) (quiet : Bool) where
   abbrev known : List Limit → Statement → List Limit
   known ks s = known_after objects n ks s
 
-  -- a statement with what is known before it and what remains to be done after it: the variables of the guarded code have the
-  -- same words below n, and what is known holds of them
+  -- the run is at a statement, with what is known before it and what remains to be done after it: the variables below n have the
+  -- same words in the guarded code, and what is known holds of them
   pub record At (s : Statement) (ks : List Limit) (ν : Noted) (l m : Variables) (h : World) : Type 0 where
     pub agree : Agree n m l
     pub under : LimitsUnder n ks
@@ -40,7 +40,7 @@ module _ (objects : List Size) (n : ℕ) (quiet : Bool) where
     pub continues : Continues objects n quiet after ν
     pub sizes : map size_of h.globals ≡ objects
 
-  -- the same place in the guarded code
+  -- two configurations are related: the guarded code is at the same place as the code
   pub record Related (c d : Config) : Type 0 where
     pub facts : List Limit
     pub noted : Noted
@@ -110,7 +110,7 @@ module _ (objects : List Size) (n : ℕ) (quiet : Bool) where
     agree_result None w m l p = p
     agree_result (Some x) w m l p = agree_both x w m l p
 
-    -- an exit from all blocks reaches the loop at the function's end
+    -- an exit from all blocks leads to the loop at the function's end
     halts : (ν : Noted) (l : Variables) (h : World) → Spins h.output (config (Exit (blocks_of ν)) (next ν) l h)
     halts Last l h = record {
       moves = 4;
@@ -125,7 +125,7 @@ module _ (objects : List Size) (n : ℕ) (quiet : Bool) where
 
     -- ---- statements that end
 
-    -- what comes next, given what is known
+    -- what remains to be done goes on from what is known now
     done : (ks gs : List Limit) (ν : Noted) (l m : Variables) (h : World) → Agree n m l → LimitsUnder n ks → Holds ks m → Yields ks gs → Continues objects n quiet gs ν → map size_of h.globals ≡ objects → At Skip ks ν l m h
     done ks gs ν l m h agree u k y c sizes = record { agree = agree; under = u; holds = k; flows = tt; after = gs; leads = λ e. y; continues = c; sizes = sizes }
 
@@ -168,7 +168,8 @@ module _ (objects : List Size) (n : ℕ) (quiet : Bool) where
 
     -- ---- statements with one expression
 
-    -- after the guards of an expression, whose value the original code computes from its own variables
+    -- the guards of an expression, followed by a statement, match what the code does with the expression's value, which it
+    -- computes from its own variables
     with_value : (t : Statement) (e : Expression) (ks : List Limit) (ν : Noted) (l m : Variables) (h : World) (go : ℕ → Move Config) → Under n e → LimitsUnder n ks → Holds ks m → Agree n m l → map size_of h.globals ≡ objects
         → ((k : Variables) (w : ℕ) → Agree n k l → value e k h ≡ Some w → value (guarded objects ks n e).value k h ≡ Some w → Holds (guarded objects ks n e).known k → Matched h.output (go w) (config t (next ν) k h))
         → Matched h.output (tried (value e l h) go) (config (guards_then (blocks_of ν) (guarded objects ks n e).before t) (next ν) m h)
@@ -183,7 +184,7 @@ module _ (objects : List Size) (n : ℕ) (quiet : Bool) where
     then_tried None f go = refl
     then_tried (Some a) f go = refl
 
-    -- the world after a store, if the store can be made
+    -- the world after a store, if the store has a value
     abbrev pub store : Width → ℕ → Expression → Expression → Variables → World → Option World
     store w o i e l h = then_value (value i l h) (λ j. then_value (value e l h) (λ v. stored h w o j v))
 
@@ -199,7 +200,7 @@ module _ (objects : List Size) (n : ℕ) (quiet : Bool) where
         ap (λ r. then_value r (λ j. then_value (value e m h) (λ x. stored h w o j x))) (same_value i k m l h u p)
         ∙ ap (λ r. then_value (value i l h) (λ j. then_value r (λ x. stored h w o j x))) (same_value e k m l h v p)
 
-    -- after the guards of a store, the store of the guarded code gives that world
+    -- after the guards of a store, the guarded code's store gives this same world
     abbrev pub Stored : Width → ℕ → Expression → Expression → List Limit → Variables → World → Variables → World → Type 0
     Stored w o i e ks m h k g = Agree n k m × (store w o i e k h ≡ Some g) × Holds ks k
 
@@ -251,7 +252,7 @@ module _ (objects : List Size) (n : ℕ) (quiet : Bool) where
         by_index None s = absurd (let z : None ≡ Some g = s in cc)
         by_index (Some j) s = by_value j (value e m h) s
 
-    -- a store after such guards
+    -- a store that follows such guards matches the code's store
     store_matched : (w : Width) (o : ℕ) (i e i' e' : Expression) (gs : List Guard) (ks hs : List Limit) (ν : Noted) (l m : Variables) (h : World) → Under n i → Under n e → Agree n m l → map size_of h.globals ≡ objects
         → Meets h gs m (store w o i e m h) (λ k g. Stored w o i' e' ks m h k g) → ((k : Variables) (g : World) → Agree n k l → Holds ks k → map size_of g.globals ≡ objects → At Skip hs ν l k g)
         → Matched h.output (moves (Store w o i e) (plain_next ν) l h) (config (guards_then (blocks_of ν) gs (Store w o i' e')) (next ν) m h)

@@ -1,4 +1,4 @@
--- The numbers in guarded code are below their limits, if its guards set no more variables than code may have.
+-- The numbers in guarded code are below their limits, if the guards set no more variables than code may have.
 use Rattle.std.proofs.Common.{ℕ, suc, ◌<◌, ◌≤◌, Bool, true, false, List, [], ◌∷◌, ◌++◌, arith, ◌≡◌, subst}
 use Rattle.std.specs.Prelude.{if◌then◌else◌, max}
 use Rattle.std.proofs.Math.Nat.{le-max_left, le-max_right}
@@ -236,6 +236,6 @@ module _ (objects : List Size) where
         by true = ((code_fits 0 s [] u le, tt), tt)
         by false = code_fits 0 s [] u le
 
-    -- the code with the loop at its end, if there is a guard
+    -- if there is a guard, the numbers of the code with the loop at its end are below their limits
     pub loop_fits : (s : Statement) → StatementFits s → variables_in objects n s ≤ most_variables → has_guards objects n s ≡ true → StatementFits (with_loop (guarded_code objects n 0 s))
     loop_fits s u le is = subst (λ b. StatementFits (if b then with_loop (guarded_code objects n 0 s) else guarded_code objects n 0 s)) is (function_fits s u le)

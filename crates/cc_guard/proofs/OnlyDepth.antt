@@ -1,23 +1,23 @@
--- Code that keeps up with the checked function unchanged, and goes wrong if the function does, belongs to a function that goes
--- wrong only in depth. For if the function went wrong otherwise, the checked function would run for ever, so a run of the code
--- would go wrong at no bound. But the code goes wrong in the plain meaning, and the two meanings agree on every function that it
--- calls. So by induction on the number of open calls the plain and the checked meaning of such a unit are the same.
+-- If code, unchanged, keeps up with the checked function, and goes wrong if the function does, then the function goes wrong only
+-- in depth. For if the function went wrong otherwise, the checked function would run for ever, so a run of the code would go
+-- wrong at no bound. But the code goes wrong in the plain meaning, and the two meanings agree on every function that it calls.
+-- So, by induction on the number of open calls, the plain and the checked meaning of such a unit are the same.
 use Rattle.std.proofs.Common.{◌≡◌, ℕ, zero, suc, ◌+◌, ◌-◌, ◌<◌, Bool, true, false, List, [], length, unwrap_or, refl, sym, ap, ◌∙◌, subst, inl, inr, arith}
 use Rattle.std.specs.Prelude.{if◌then◌else◌}
 use Rattle.std.proofs.lemmas.Bool.{cases_lt}
 use Rattle.cc_ast.specs.Tree.{External}
-use Rattle.cc_c_laws.specs.Outcome as outcome
-use Rattle.cc_c_laws.specs.Outcome.{Wrong}
-use Rattle.cc_c_laws.specs.Meaning.{functions}
-use Rattle.cc_c_laws.specs.Function as by_name
-use Rattle.cc_c_laws.specs.Function.{body_of_function}
-use Rattle.cc_c_laws.specs.Calls.{WithMoreSteps, BodiesGoOn, main_of, first_shared, HasMain, TypedUnitsHaveMain}
-use Rattle.cc_c_laws.specs.Checked.{stays, checked_stop, behavior}
-use Rattle.cc_c_laws.specs.declared.cause.Cause.{Cause}
-use Rattle.cc_c_laws.specs.declared.cause.Cause.TheVariants.{Division, Shift, Index, Depth}
-use Rattle.cc_c_laws.specs.declared.mode.Mode.{Mode}
-use Rattle.cc_c_laws.specs.declared.mode.Mode.TheVariants.{Plain, Checked}
-use Rattle.cc_c_laws.specs.Numbered.{world_of, shared_in, numbered, call_in, IsMeaning, TypedUnitsHaveMeanings, stop_without_cause, without_cause, outcome_by_number, ProgramsAreNumbered}
+use Rattle.cc_c_semantics.specs.Outcome as outcome
+use Rattle.cc_c_semantics.specs.Outcome.{Wrong}
+use Rattle.cc_c_semantics.specs.Meaning.{functions}
+use Rattle.cc_c_semantics.specs.Function as by_name
+use Rattle.cc_c_semantics.specs.Function.{body_of_function}
+use Rattle.cc_c_semantics.specs.Calls.{WithMoreSteps, BodiesGoOn, main_of, first_shared, HasMain, TypedUnitsHaveMain}
+use Rattle.cc_c_semantics.specs.Checked.{stays, checked_stop, behavior}
+use Rattle.cc_c_semantics.specs.declared.cause.Cause.{Cause}
+use Rattle.cc_c_semantics.specs.declared.cause.Cause.TheVariants.{Division, Shift, Index, Depth}
+use Rattle.cc_c_semantics.specs.declared.mode.Mode.{Mode}
+use Rattle.cc_c_semantics.specs.declared.mode.Mode.TheVariants.{Plain, Checked}
+use Rattle.cc_c_semantics.specs.Numbered.{world_of, shared_in, numbered, call_in, IsMeaning, TypedUnitsHaveMeanings, stop_without_cause, without_cause, outcome_by_number, ProgramsAreNumbered}
 use Rattle.cc_simulation.specs.Behavior as runs
 use Rattle.cc_simulation.specs.Behavior.{IsRight, Follows}
 use Rattle.cc_simulation.specs.World.{World, Question, Answer, Effect, Gives, Unfinished, Failed, IsWorld}
@@ -43,7 +43,7 @@ module _ (unit : List External) (each : NoneNeedsGuard unit) (go_on : BodiesGoOn
     world = subst (λ zs. IsWorld zs h) (sym is.objects) asked.world;
   }
 
-  -- the two are the same while this many calls are open
+  -- the two meanings are the same while this many calls are open
   abbrev Same : (opened : ℕ) → Type 0
   Same opened = (n f : ℕ) (ws : List ℕ) (h : World) → IsAsked unit f ws h → (p.call n opened f ws h ≡ c.call n opened f ws h) × Fits (c.call n opened f ws h)
 
@@ -78,7 +78,7 @@ module _ (unit : List External) (each : NoneNeedsGuard unit) (go_on : BodiesGoOn
     same_run zero j x is = refl
     same_run (suc k) j x is = same_act k j (cminor_output x) (cminor_move x) (moves_on unit x is) (same_run k)
 
-    -- ---- the run ends with a word
+    -- ---- a run that ends gives a word
 
     given_resumed : (k : ℕ) (e : Effect) (resume : Answer → Config) → Fits e → ((a : Answer) → IsGiven unit a → IsOfWords unit (resume a)) → ((j : ℕ) (x : Config) (b : Answer) → IsOfWords unit x → (runs_in checkedly k j x).stop ≡ runs.Ended b → IsGiven unit b)
         → (b : Answer) → (resumed e resume (runs_in checkedly k)).stop ≡ runs.Ended b → IsGiven unit b
@@ -118,14 +118,14 @@ module _ (unit : List External) (each : NoneNeedsGuard unit) (go_on : BodiesGoOn
       checked_is : (n : ℕ) → c.body n opened f ws h ≡ numbered Checked (body n)
       checked_is n = ap (λ (b : ℕ → ℕ → ℕ → List ℕ → World → Effect). b n opened f ws h) checked.body
 
-      -- an answer
+      -- an answer of the body is a word and a world of words
       answer_given : (n left : ℕ) (a : Answer) → c.body n opened f ws h ≡ Gives a left → IsGiven unit a
       answer_given n left a e =
           let t = needs.keeps_up c checked opened below ws h (is_call Checked c checked f ws h asked) n in
           let k = subst (λ (x : Effect). Keeps 1 n x (work cminor_move checkedly t.2.moves t.2.steps (cminor_start code ws h)) (runs_in checkedly t.2.moves t.2.steps (cminor_start code ws h))) e t.2.keeps in
           given t.2.moves t.2.steps (cminor_start code ws h) a start (ap (λ (o : runs.Outcome Answer). o.stop) k.0)
 
-      -- if it went wrong, but not in depth, it would do so at all bounds, and the checked function at none
+      -- if the function went wrong, but not in depth, it would do so at all bounds, and the checked function at none
       stays_right : (cause : Cause) → stays Checked cause ≡ true → (x : by_name.Effect by_name.Answer) → ((d : Cause) (o : List ℕ) → x ≡ by_name.Failed d o → d ≡ cause) → IsRight (answered (numbered Checked x)).stop
       stays_right cause s (by_name.Answers a left) f = tt
       stays_right cause s (by_name.Unfinished o) f = tt
@@ -206,7 +206,7 @@ module _ (unit : List External) (each : NoneNeedsGuard unit) (go_on : BodiesGoOn
 
 -- ---- programs
 
--- the stop without its cause determines it, but for depth
+-- if the cause is not depth, a run that goes wrong differs from one that runs for ever, even if the cause is left out
 differs : (cause : Cause) → stays Checked cause ≡ true → stop_without_cause (Wrong cause) ≡ stop_without_cause (checked_stop (Wrong cause)) → ⊥
 differs cause s e =
     let f : runs.Wrong ≡ stop_without_cause (if stays Checked cause then outcome.Going else Wrong cause) = e in

@@ -1,11 +1,12 @@
--- What guards do to the variables: the run passes all of them, or one stops it. By recursion on the guards, without a run.
+-- What guards do to the variables: the run passes all of them, or one of them stops it. The proof goes by recursion on the
+-- guards, without a run.
 use Rattle.std.proofs.Common.{◌≡◌, ℕ, suc, List, [], ◌∷◌, ◌++◌, Option, Some, None, ◌⊎◌, inl, inr, refl}
 use Rattle.cc_simulation.specs.World.{World}
 use Rattle.cc_cminor.specs.Cminor.{Expression, Variables, value, put, then_value}
 use Rattle.cc_guard.specs.Guard.{Guard, Put, Stop, StopBoth}
 
 module _ (h : World) where
-  -- one of two words is 0
+  -- the first or the second of two words is 0
   abbrev pub Passes : (first second : Expression) → Variables → Type 0
   Passes d e l = (value d l h ≡ Some 0) ⊎ ((v : ℕ) × (value d l h ≡ Some (suc v)) × (value e l h ≡ Some 0))
 
@@ -59,19 +60,19 @@ module _ (h : World) where
   then_meets gs is l a None Q R p f = stops_then gs is l (comes_as gs l (λ m. Q m a) (λ m. Stops is m) p f)
   then_meets gs is l a (Some b) Q R p f = comes_then gs is l (λ m. R m b) (comes_as gs l (λ m. Q m a) (λ m. Comes is m (λ n. R n b)) p f)
 
-  -- the guards of one value, and after them the guards of what is computed from it
+  -- the guards of a value are followed by the guards of what is computed from it
   pub meets_then : {A B : Type 0} (gs is : List Guard) (l : Variables) (o : Option A) (go : A → Option B) (Q : Variables → A → Type 0) (R : Variables → B → Type 0) → Meets gs l o Q
       → ((m : Variables) (a : A) → Q m a → Meets is m (go a) R) → Meets (gs ++ is) l (then_value o go) R
   meets_then gs is l None go Q R p f = stops_first gs is l p
   meets_then gs is l (Some a) go Q R p f = then_meets gs is l a (go a) Q R p (λ m q. f m a q)
 
-  -- the same, with the fact that it is the value
+  -- the same, and the second guards may use that this is the value
   pub meets_with : {A B : Type 0} (gs is : List Guard) (l : Variables) (o : Option A) (go : A → Option B) (Q : Variables → A → Type 0) (R : Variables → B → Type 0) → Meets gs l o Q
       → ((m : Variables) (a : A) → o ≡ Some a → Q m a → Meets is m (go a) R) → Meets (gs ++ is) l (then_value o go) R
   meets_with gs is l None go Q R p f = stops_first gs is l p
   meets_with gs is l (Some a) go Q R p f = then_meets gs is l a (go a) Q R p (λ m q. f m a refl q)
 
-  -- what is computed from a value without guards
+  -- what is computed from a value needs no guards of its own
   pub meets_made : {A B : Type 0} (gs : List Guard) (l : Variables) (o : Option A) (f : A → B) (Q : Variables → A → Type 0) (R : Variables → B → Type 0) → Meets gs l o Q
       → ((m : Variables) (a : A) → Q m a → R m (f a)) → Meets gs l (then_value o (λ a. Some (f a))) R
   meets_made gs l None f Q R p g = p
@@ -79,7 +80,7 @@ module _ (h : World) where
 
   -- ---- a test
 
-  -- an expression is 0 exactly if there is a value
+  -- the expression is 0 exactly if there is a value
   abbrev pub Tells : {A : Type 0} → Expression → Variables → Option A → Type 0
   Tells e l None = (w : ℕ) × (value e l h ≡ Some (suc w))
   Tells e l (Some a) = value e l h ≡ Some 0

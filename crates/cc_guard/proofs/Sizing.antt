@@ -1,13 +1,13 @@
--- The sizes that the code reads from a unit's declarations are those of its objects.
+-- The sizes that the code reads from a unit's declarations are the sizes of the unit's objects.
 use Rattle.std.proofs.Common.{◌≡◌, ℕ, ◌+◌, List, [], ◌∷◌, ◌++◌, length, map, refl, sym, ap, ◌∙◌}
 use Rattle.cc_ast.specs.Tree.{Object, External}
 use Rattle.cc_types.specs.Types.{object_elements, object_width}
 use Rattle.cc_types.specs.Limits.{objects}
 use Rattle.cc_types.specs.Typed.{IsTyped}
 use Rattle.cc_resolve.specs.Layout.{laid_from}
-use Rattle.cc_c_laws.specs.Meaning.{Global, initial_globals}
-use Rattle.cc_c_laws.specs.Calls.{NamedSize, sizes, laid_sizes, ObjectsAreSized}
-use Rattle.cc_c_laws.specs.Numbered.{objects_in, objects_of}
+use Rattle.cc_c_semantics.specs.Meaning.{Global, initial_globals}
+use Rattle.cc_c_semantics.specs.Calls.{NamedSize, sizes, laid_sizes, ObjectsAreSized}
+use Rattle.cc_c_semantics.specs.Numbered.{objects_in, objects_of}
 use Rattle.cc_simulation.specs.World.{Size, size_of}
 use Rattle.cc_guard.specs.declared.sizes.ObjectSize.{ObjectSize}
 use Rattle.cc_guard.specs.internal.Written.{sizes_of, declared_sizes}

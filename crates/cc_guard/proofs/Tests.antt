@@ -1,5 +1,5 @@
--- The tests are right: an operator's test on two variables shows whether it has a value, and an index's test shows whether it is
--- in its object.
+-- The tests are right: an operator's test on two words shows whether the operator has a value, and an index's test shows whether
+-- the index is in its object.
 use Rattle.std.proofs.Common.{◌≡◌, ℕ, zero, suc, ◌-◌, ◌^◌, ◌<◌, Bool, true, false, List, [], ◌∷◌, length, map, get_or, ◌==◌, nat_lt, nat_le, Option, Some, None, option_map, slice_get, refl, sym, ap, ◌∙◌, subst, ◌⊎◌, inl, inr, arith}
 use Rattle.std.specs.Prelude.{if◌then◌else◌, not, ◌&&◌, ◌||◌, set}
 use Rattle.std.proofs.lemmas.Bool.Decides.{nat_tests}
@@ -24,7 +24,7 @@ not_less : (n y : ℕ) → nat_le n y ≡ not (nat_lt y n)
 not_less n y = grind (arith, nat_tests)
 
 module _ (h : World) where
-  -- a test that is 1 exactly if there is no value
+  -- a test that is 1 exactly if there is no value shows whether there is one
   by_bool : {A : Type 0} (e : Expression) (l : Variables) (b : Bool) (a : A) → value e l h ≡ Some (truth_value b) → Tells h e l (if b then None else Some a)
   by_bool e l true a v = (0, v)
   by_bool e l false a v = v
@@ -33,7 +33,7 @@ module _ (h : World) where
   by_not e l true a v = v
   by_not e l false a v = (0, v)
 
-  -- such a test, before other guards
+  -- such a test may be followed by other guards
   stop_first : {A : Type 0} (e : Expression) (gs : List Guard) (l : Variables) (b : Bool) (o : Option A) (R : Variables → A → Type 0) → value e l h ≡ Some (truth_value b) → (b ≡ true → o ≡ None) → (b ≡ false → Meets h gs l o R) → Meets h (Stop e ∷ gs) l o R
   stop_first {A} e gs l true o R v none more = subst (λ (r : Option A). Meets h (Stop e ∷ gs) l r R) (sym (none refl)) (inl (0, v))
   stop_first e gs l false None R v none more = inr (v, more refl)
@@ -66,7 +66,7 @@ module _ (h : World) where
   unsigned_asked : (b : Expression) (l : Variables) (y w : ℕ) (R : Variables → ℕ → Type 0) → value b l h ≡ Some y → ((v : ℕ) → (if y == 0 then None else Some w) ≡ Some v → R l v) → Meets h (asked_divisor b) l (if y == 0 then None else Some w) R
   unsigned_asked b l y w R v f = tested h (Unary IsZero b) l (if y == 0 then None else Some w) R (by_bool (Unary IsZero b) l (y == 0) w (is_nothing b l y v)) f
 
-  -- a word that is tested to be below a number
+  -- a test that a word is below n shows whether it is
   below_asked : (b : Expression) (l : Variables) (y n : ℕ) → value b l h ≡ Some y → value (Binary LeU (Constant n) b) l h ≡ Some (truth_value (not (nat_lt y n)))
   below_asked b l y n v = ap (λ o. then_value o (λ y. Some (truth_value (nat_le n y)))) v ∙ ap (λ c. Some (truth_value c)) (not_less n y)
 
@@ -74,7 +74,7 @@ module _ (h : World) where
   shift_asked b l y w R v f =
       tested h (Binary LeU (Constant 32) b) l (if nat_lt y 32 then Some w else None) R (by_not (Binary LeU (Constant 32) b) l (nat_lt y 32) w (below_asked b l y 32 v)) f
 
-  -- an operator's guards stop the run exactly if it has no value
+  -- the guards of an operator stop the run exactly if the operator has no value
   pub asked_meets : (op : two.Binary) (a b : Expression) (l : Variables) (x y : ℕ) (R : Variables → ℕ → Type 0) → value a l h ≡ Some x → value b l h ≡ Some y → ((w : ℕ) → apply_binary op x y ≡ Some w → R l w) → Meets h (asked op a b) l (apply_binary op x y) R
   asked_meets Add a b l x y R u v f = f _ refl
   asked_meets Sub a b l x y R u v f = f _ refl
@@ -126,7 +126,7 @@ module _ (h : World) where
   of_width e l true ws i v = in_list e l ws i v
   of_width e l false ws i v = let none : nat_lt i 0 ≡ false = grind (arith, nat_tests) in (0, v ∙ ap (λ b. Some (truth_value (not b))) none)
 
-  -- an index below the number of its object's elements
+  -- the test that an index is below the number of its object's elements shows whether there is an element
   pub lies : (objects : List Size) → map size_of h.globals ≡ objects → (w : Width) (o j : ℕ) (e : Expression) (l : Variables) → value e l h ≡ Some j
       → Tells h (Binary LeU (Constant (elements_in objects w o)) e) l (element h w o j)
   lies objects sizes w o j e l v =
@@ -144,7 +144,7 @@ module _ (h : World) where
   is_there true ws j lt = found_in ws j lt
   is_there false ws j lt = absurd (omega arith)
 
-  -- so there is an element
+  -- so an index below that number has an element
   pub found : (objects : List Size) → map size_of h.globals ≡ objects → (w : Width) (o j : ℕ) → j < elements_in objects w o → (v : ℕ) × (element h w o j ≡ Some v)
   found objects sizes w o j lt =
       is_there (same_width (object_of h o).width w) (object_words h o) j (subst (λ (z : Size). j < elements_of z w) (size_found objects h sizes o) lt)

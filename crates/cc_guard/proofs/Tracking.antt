@@ -1,5 +1,5 @@
--- The whole: code that keeps up with a meaning, or reaches an operation without a value, keeps up with the meaning once it is
--- guarded.
+-- The whole: if code keeps up with a meaning, or reaches an operation without a value, then once it is guarded it keeps up with
+-- the meaning.
 use Rattle.std.proofs.Common.{◌≡◌, ℕ, suc, Bool, true, false, List, [], map, inl, inr, refl, sym, subst, arith}
 use Rattle.std.specs.Prelude.{if◌then◌else◌}
 use Rattle.cc_simulation.specs.World.{World, size_of, Question, Answer, Effect, Gives}
@@ -20,7 +20,7 @@ module _ (meaning : Meaning) (keeps : KeepsSizes meaning) (f rate n : ℕ) (s : 
   kept : (opened j left : ℕ) (q : Question) (a : Answer) → call_effect meaning (suc opened) j q ≡ Gives a left → map size_of q.world.globals ≡ meaning.objects → map size_of a.world.globals ≡ meaning.objects
   kept opened j left q a e sizes = keeps j (suc opened) q.function q.arguments q.world a left e sizes
 
-  -- the guarded code in its blocks
+  -- the start of the guarded code, in its two blocks
   abbrev start_of : List ℕ → World → Config
   start_of ws h = config (guarded_code meaning.objects n 0 s) (Then (Exit 1) (Leaving (Then forever (Leaving Ends)))) (first_variables ws) h
 

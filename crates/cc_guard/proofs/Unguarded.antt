@@ -149,7 +149,7 @@ module _ (objects : List Size) where
       CanMove (Returns r) = Unit {0}
       CanMove Fails = ⊥
 
-      -- without guards there is a value
+      -- if there are no guards, there is a value, so the code can move
       given : {A : Type 0} (gs : List Guard) (m : Variables) (h : World) (o : Option A) (Q : Variables → A → Type 0) (go : A → Move Config) → some_guard gs ≡ false → Meets h gs m o Q → ((a : A) → CanMove (go a)) → CanMove (tried o go)
       given [] m h None Q go none p f = absurd p
       given [] m h (Some a) Q go none p f = f a
@@ -198,7 +198,7 @@ module _ (objects : List Size) where
       can (Exit k) ks ν l m h p = exits_can k ν ks l h p.flows
       can (Return e) ks ν l m h p = with_value e ks l m h (λ w. Returns (record { value = w; world = h })) (p.flows.1 refl) p.flows.0 p.under p.holds p.agree p.sizes (λ w. tt)
 
-      -- code that is related to quiet code can move
+      -- code that is related to quiet guarded code can move
       can_move : (c d : Config) → Related objects n true c d → CanMove (cminor_move c)
       can_move c d r = subst (λ (κ : Continuation). CanMove (moves c.statement κ c.variables c.world)) (sym r.next_is) (can c.statement r.facts r.noted c.variables d.variables c.world r.at)
 

@@ -1,5 +1,5 @@
--- A guarded expression: its guards let the run pass exactly if the expression has a value, and then its value after them is that
--- one.
+-- What a guarded expression does: its guards let the run pass exactly if the expression has a value, and after them its value is
+-- that one.
 use Rattle.std.proofs.Common.{◌≡◌, ℕ, suc, ◌-◌, ◌<◌, ◌≤◌, Bool, true, false, ◌==◌, cond, List, [], ◌∷◌, ◌++◌, map, Option, Some, None, refl, sym, ap, ◌∙◌, subst, append-nil, arith}
 use Rattle.std.specs.Prelude.{if◌then◌else◌}
 use Rattle.std.proofs.lemmas.Bool.Decides.{nat_tests}
@@ -27,7 +27,7 @@ put_there l t w = let e : (t == t) ≡ true = grind (arith, nat_tests) in cond_b
 pub put_elsewhere : (l : Variables) (t w x : ℕ) → x < t → put l t w x ≡ l x
 put_elsewhere l t w x lt = let e : (t == x) ≡ false = grind (arith, nat_tests) in cond_by (t == x) false w (l x) e
 
--- the same words in the variables below n
+-- the variables below n have the same words
 abbrev pub Agree : ℕ → Variables → Variables → Type 0
 Agree n m l = (x : ℕ) → x < n → m x ≡ l x
 
@@ -37,7 +37,7 @@ agree_on n k i m l le p q = λ x lt. p x (omega arith) ∙ q x lt
 agree_put : (n t w : ℕ) (m l : Variables) → n ≤ t → Agree n m l → Agree n (put m t w) l
 agree_put n t w m l le p = λ x lt. put_elsewhere m t w x (omega arith) ∙ p x lt
 
--- an expression has the same value with both
+-- an expression that reads only variables below n has the same value with both
 pub same_value : (e : Expression) (n : ℕ) (m l : Variables) (h : World) → Under n e → Agree n m l → value e m h ≡ value e l h
 same_value (Constant w) n m l h u p = refl
 same_value (Local x) n m l h u p = ap Some (p x u)
@@ -64,7 +64,7 @@ pub all_under_more : (n k : ℕ) (es : List Expression) → n ≤ k → AllUnder
 all_under_more n k [] le u = tt
 all_under_more n k (e ∷ es) le u = (under_more n k e le u.0, all_under_more n k es le u.1)
 
--- what is known stays known if the variables in it keep their words
+-- bounds of variables below n; they stay known if those variables keep their words
 abbrev pub LimitsUnder : ℕ → List Limit → Type 0
 LimitsUnder n [] = Unit {0}
 LimitsUnder n (k ∷ ks) = (k.variable < n) × LimitsUnder n ks
@@ -108,7 +108,7 @@ module _ (objects : List Size) where
   sound_test : (op : two.Binary) (n : ℕ) (a b : Guarded) → IsSound n a → IsSound a.next b → IsSound n (with_test op a b)
   sound_test op n a b s r = let p = s.grows in let q = r.grows in record { grows = omega arith; under = (under_more a.next b.next a.value q s.under, r.under); limits = r.limits }
 
-  -- the guards of an expression after those of another
+  -- an expression with its guards, after the guards of another
   abbrev after : Guarded → Expression → Guarded
   after g e = guarded objects g.known g.next e
 
@@ -148,14 +148,14 @@ module _ (objects : List Size) where
   sound (Load w o i) ks n u v = let s = sound_indexed ks w o n i (guarded objects ks n i) (sound i ks n u v) in record { grows = s.grows; under = s.under; limits = s.limits }
 
   module _ (h : World) (sizes : map size_of h.globals ≡ objects) where
-    -- after the guards: the variables below n are as before, the value is there, and what is known holds
+    -- after the guards, the variables below n are as before, the expression has its value, and what is known holds
     abbrev pub HasValue : ℕ → Expression → List Limit → Variables → Variables → ℕ → Type 0
     HasValue n e ks l m w = Agree n m l × (value e m h ≡ Some w) × Holds ks m
 
     abbrev pub IsGuarded : ℕ → Guarded → Variables → Option ℕ → Type 0
     IsGuarded n g l o = Meets h g.before l o (λ m w. HasValue n g.value g.known l m w)
 
-    -- a value is put into a variable
+    -- a value can be put into a variable
     put_waits : (n : ℕ) (g : Guarded) (l : Variables) (o : Option ℕ) → IsSound n g → IsGuarded n g l o
         → Meets h (g.before ++ Put g.next g.value ∷ []) l o (λ m w. HasValue n (Local g.next) g.known l m w)
     put_waits n g l o s p =
@@ -183,7 +183,7 @@ module _ (objects : List Size) where
 
     -- ---- two operands
 
-    -- after the guards of both
+    -- the guards of both operands come first
     pub both_guarded : {B : Type 0} (n : ℕ) (a b : Guarded) (is : List Guard) (l : Variables) (oa ob : Option ℕ) (go : ℕ → ℕ → Option B) (R : Variables → B → Type 0) → IsSound n a → IsSound a.next b → IsGuarded n a l oa
         → ((m : Variables) → Agree n m l → Holds a.known m → IsGuarded a.next b m ob)
         → ((k : Variables) (x y : ℕ) → Agree n k l → oa ≡ Some x → ob ≡ Some y → value a.value k h ≡ Some x → value b.value k h ≡ Some y → Holds a.known k → Holds b.known k → Meets h is k (go x y) R)
@@ -200,7 +200,7 @@ module _ (objects : List Size) where
     made op a b k x y w va vb e =
         ap (λ o. then_value o (λ u. then_value (value b k h) (λ v. apply_binary op u v))) va ∙ ap (λ o. then_value o (λ v. apply_binary op x v)) vb ∙ e
 
-    -- without a guard of its own, if there is a value
+    -- no guard of its own is needed if there is a value
     pub here : {B : Type 0} (k : Variables) (o : Option B) (w : B) (R : Variables → B → Type 0) → o ≡ Some w → R k w → Meets h [] k o R
     here {B} k o w R e r = subst (λ (x : Option B). Meets h [] k x R) (sym e) r
 
@@ -228,7 +228,7 @@ module _ (objects : List Size) where
 
     -- ---- an index
 
-    -- an index that is in its object
+    -- the index as a value, if it lies in its object
     abbrev pub lying : Width → ℕ → Option ℕ → Option ℕ
     lying w o r = then_value r (λ j. then_value (element h w o j) (λ old. Some j))
 
@@ -298,7 +298,7 @@ module _ (objects : List Size) where
 
     -- ---- every expression
 
-    -- the guards of an expression
+    -- the guards of an expression are right
     pub guards : (e : Expression) (ks : List Limit) (n : ℕ) (l : Variables) → Under n e → LimitsUnder n ks → Holds ks l → IsGuarded n (guarded objects ks n e) l (value e l h)
     guards (Constant w) ks n l u v kl = (λ x lt. refl, refl, kl)
     guards (Local x) ks n l u v kl = (λ y lt. refl, refl, kl)

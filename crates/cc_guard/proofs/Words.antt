@@ -1,5 +1,5 @@
--- Code whose constants are words makes words from words: what variables and objects hold, what it passes to a call, and what it
--- returns. So each call that it makes is one that the source can make.
+-- Code whose constants are words makes words from words: variables and objects hold words, and it passes words to calls and
+-- returns words. So each call that it makes is one that the source can make.
 use Rattle.std.proofs.Common.{◌≡◌, ℕ, zero, suc, ◌^◌, ◌<◌, Bool, true, false, ◌==◌, List, [], ◌∷◌, length, get_or, Option, Some, None, option_map, unwrap_or, slice_get, refl, sym, ap, ◌∙◌, subst, arith}
 use Rattle.std.specs.Prelude.{if◌then◌else◌, set}
 use Rattle.std.proofs.lemmas.List.{length-map}
@@ -15,9 +15,9 @@ use Rattle.cc_words.specs.Operators.{apply_unary, apply_binary}
 use Rattle.cc_words.specs.internal.Word.{IsWord}
 use Rattle.cc_words.proofs.Laws.{IsWord-add, IsWord-sub, IsWord-mul, IsWord-neg, IsWord-div_s, IsWord-div_u, IsWord-rem_s, IsWord-rem_u, IsWord-shl, IsWord-shr_s, IsWord-shr_u, IsWord-and, IsWord-or, IsWord-xor, IsWord-eq, IsWord-ne, IsWord-lt_s, IsWord-lt_u, IsWord-le_s, IsWord-le_u, IsWord-is_zero, IsWord-complement}
 use Rattle.cc_ast.specs.Tree.{External}
-use Rattle.cc_c_laws.specs.Meaning.{Function, functions}
-use Rattle.cc_c_laws.specs.Resolved.{arities}
-use Rattle.cc_c_laws.specs.Numbered.{objects_in, arity_in}
+use Rattle.cc_c_semantics.specs.Meaning.{Function, functions}
+use Rattle.cc_c_semantics.specs.Resolved.{arities}
+use Rattle.cc_c_semantics.specs.Numbered.{objects_in, arity_in}
 use Rattle.cc_simulation.specs.Behavior.{AreWords}
 use Rattle.cc_simulation.specs.World.{Object, Size, World, Answer, IsWorld, object_of, object_words, object_with, element, with_element, stored, first_or_zero, rest_of, next_word, after_read, after_write}
 use Rattle.cc_simulation.specs.Run.{Move, Goes, Calls, Returns, Fails, tried}
@@ -208,7 +208,7 @@ module _ (unit : List External) where
   NextFits (Again s κ) = AreCalls unit s × CodeConstantsFit s × NextFits κ
   NextFits (Leaving κ) = NextFits κ
 
-  -- words everywhere, and what remains to be done calls only functions of the unit
+  -- the configuration holds only words, and what remains to be done calls only functions of the unit
   pub record IsOfWords (c : Config) : Type 0 where
     pub calls : AreCalls unit c.statement
     pub constants : CodeConstantsFit c.statement
@@ -216,7 +216,7 @@ module _ (unit : List External) where
     pub holds : HoldWords c.variables
     pub world : IsWorld objects c.world
 
-  -- a call or a function answers with a word and a world of words
+  -- a call or a function gives a word and a world of words
   abbrev pub IsGiven : Answer → Type 0
   IsGiven a = (a.value < 2 ^ 32) × IsWorld objects a.world
 

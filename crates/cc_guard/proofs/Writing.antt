@@ -1,4 +1,4 @@
--- The guards that the code writes are those of the definition: guards follow those written before.
+-- The guards that the code writes are those of the definition: new guards follow the ones written before.
 use Rattle.std.proofs.Common.{◌≡◌, ℕ, ◌≤◌, Bool, true, false, List, [], ◌∷◌, ◌++◌, refl, sym, ap, ◌∙◌, subst, append-nil, append_assoc, arith, rules, Result, Ok, Err, OnOk}
 use Rattle.std.specs.Prelude.{◌||◌, max}
 use Rattle.std.proofs.Math.Bool.{or_assoc}
@@ -33,11 +33,11 @@ adds_then b gs is n m ks ls old mid new p q = record {
   known = q.known;
 }
 
--- an expression's value, without the guards before it
+-- an expression's guarded form without the guards before it
 abbrev pub bare : Guarded → Guarded
 bare g = record { before = []; value = g.value; next = g.next; known = g.known }
 
--- f is h after these guards
+-- f is h with these guards put before its own
 pub record IsAfter (gs : List Guard) (h f : Guarded) : Type 0 where
   pub before : f.before ≡ gs ++ h.before
   pub value : f.value ≡ h.value
@@ -53,7 +53,7 @@ adds_after b g h f old mid new x p q =
       known = r.known ∙ sym x.known;
     }
 
--- a value here, after guards were written
+-- the value that was written, once the guards are written, is the guarded value without its guards
 pub here_is : (b : ℕ) (g : Guarded) (old mid : Guards) (e : Expression) → AddsAll b g old mid → e ≡ g.value → here mid e ≡ bare g
 here_is b g old mid e p v = λ i. record { before = []; value = v i; next = p.next i; known = p.known i }
 
@@ -75,7 +75,7 @@ if_after false g = record { before = sym (append-nil g.before); value = refl; ne
 
 -- ---- a statement
 
--- guards that were written for a statement
+-- these guards were written for a statement, and no others
 pub record Wrote (b : ℕ) (gs : List Guard) (upto : ℕ) (new : Guards) : Type 0 where
   pub before : statements_of new.before.items ≡ codes b gs
   pub next : new.next ≡ upto
@@ -83,7 +83,7 @@ pub record Wrote (b : ℕ) (gs : List Guard) (upto : ℕ) (new : Guards) : Type 
 pub wrote : (b n m : ℕ) (gs : List Guard) (ks : List Limit) (old new : Guards) → old.before.items ≡ [] → Adds b gs m ks old new → Wrote b gs m new
 wrote b n m gs ks old new e p = record { before = p.before ∙ ap (λ (ss : List code.Statement). statements_of ss ++ codes b gs) e; next = p.next }
 
--- the guards of an expression, given what is known; variable n is the first that they may set
+-- the guards of an expression, given what is known, are written first; variable n is the first that they may set
 pub wrote_first : (b n : ℕ) (ks : List Limit) (F : List Limit → ℕ → Guarded) (old new : Guards) → old.before.items ≡ [] → old.next ≡ n → old.known.items ≡ ks → AddsAll b (F old.known.items old.next) old new → Wrote b (F ks n).before (F ks n).next new
 wrote_first b n ks F old new e f k p =
     let same : F old.known.items old.next ≡ F ks n = λ i. F (k i) (f i) in
@@ -107,7 +107,7 @@ some_codes b (g ∷ gs) (s ∷ ss) e = refl
 pub sees_wrote : (b m : ℕ) (gs : List Guard) (new : Guards) (old seen : Seen) → Wrote b gs m new → Sees (some_of new.before.items) new.next old seen → Sees (some_guard gs) m old seen
 sees_wrote b m gs new old seen w s = record { guards = s.guards ∙ ap (λ x. old.guards || x) (some_codes b gs new.before.items w.before); variables = s.variables ∙ ap (λ x. max old.variables x) w.next }
 
--- a statement with one expression, or with a list
+-- the guards of a statement with one expression, or with a list of them, were written
 pub first_wrote : (objects : List Size) (b n : ℕ) (ks : List Limit) (e : Expression) (old new : Guards) → old.before.items ≡ [] → old.next ≡ n → old.known.items ≡ ks → AddsAll b (guarded objects old.known.items old.next e) old new
     → Wrote b (guarded objects ks n e).before (guarded objects ks n e).next new
 first_wrote objects b n ks e old new p q r a = wrote_first b n ks (λ hs k. guarded objects hs k e) old new p q r a
@@ -129,7 +129,7 @@ all_wrote objects b n ks es old new p q r a =
 pub all_known : (objects : List Size) (n : ℕ) (ks : List Limit) (es : List Expression) (old new : Guards) → old.next ≡ n → old.known.items ≡ ks → new.known.items ≡ (guarded_all objects old.known.items old.next es).known → new.known.items ≡ (guarded_all objects ks n es).known
 all_known objects n ks es old new q r v = v ∙ (λ i. (guarded_all objects (r i) (q i) es).known)
 
--- a store
+-- the guards of a store were written
 module _ (objects : List Size) (b n : ℕ) (ks : List Limit) (w : Width) (o : ℕ) (i e : Expression) (old mid new : Guards) (p : old.before.items ≡ []) (q : old.next ≡ n) (r : old.known.items ≡ ks)
     (a : AddsAll b (indexed objects old.known.items w o i (guarded objects old.known.items old.next i)) old mid) (c : AddsAll b (guarded objects mid.known.items mid.next e) mid new) where
   same_index : indexed objects old.known.items w o i (guarded objects old.known.items old.next i) ≡ first_index objects ks n w o i
@@ -168,7 +168,7 @@ if_is x a b = search (rules, code.the_lemmas)
 pub same_sequence : (s : code.Statement) (all : _) (l : List code.Statement) → s ≡ code.Sequence all → l ≡ all.items → in_sequence (statements_of l) ≡ statement_of s
 same_sequence s all l is same = sym (ap statement_of is ∙ sequence_is all ∙ ap (λ k. in_sequence (statements_of k)) (sym same))
 
--- whether control can reach the end of the last of these statements, if there is one
+-- whether control can reach the end of the last of these statements; b if there are no statements
 abbrev pub last_falls : Bool → List Statement → Bool
 last_falls b [] = b
 last_falls b (s ∷ ss) = last_falls (falls s) ss
@@ -234,7 +234,7 @@ module _ (objects : List Size) (n b : ℕ) where
   variables_first ks s [] = sym (max-zero (variables_after objects n ks s))
   variables_first ks s (t ∷ ss) = refl
 
-  -- what was seen, and what will be seen of the rest
+  -- what was seen of the first statement and what will be seen of the rest is what is seen of all
   pub sees_first : (ks : List Limit) (s : Statement) (ss : List Statement) (old mid : Seen) → SeesStatement objects n ks s old mid
       → ((seen : Seen) → SeesStatement objects n (known_after objects n ks s) (in_sequence ss) mid seen → SeesStatement objects n ks (in_sequence (s ∷ ss)) old seen)
   sees_first ks s ss old mid p seen q =

@@ -1,4 +1,4 @@
--- What the pass makes: the same code with a test before each operation that may have no value. If a test fails the run leaves all
+-- What the pass makes: the same code with a test before each operation that can lack a value. If a test fails, the run leaves all
 -- blocks and reaches a loop at the end of the function, which goes on for ever and does nothing.
 use Rattle.std.specs.Prelude.{ℕ, zero, suc, ◌+◌, ◌-◌, ◌*◌, ◌/◌, ◌^◌, ◌==◌, nat_lt, nat_le, min, max, Bool, true, false, not, ◌&&◌, ◌||◌, List, [], ◌∷◌, ◌++◌, Option, Some, None, if◌then◌else◌}
 use Rattle.std.specs.Option.{option_or}
@@ -25,19 +25,19 @@ pub data Guard : Type 0 where
 abbrev pub forever : Statement
 forever = Loop Skip
 
--- a guard as code, in so many blocks of the function
+-- a guard as code, if this many blocks of the function are around it
 abbrev pub guard_code : (blocks : ℕ) → Guard → Statement
 guard_code b (Put t e) = Set t e
 guard_code b (Stop e) = If e (Exit b) Skip
 guard_code b (StopBoth d e) = If d (If e (Exit b) Skip) Skip
 
--- guards, then a statement
+-- the guards, followed by a statement
 abbrev pub guards_then : (blocks : ℕ) → List Guard → Statement → Statement
 guards_then b [] s = s
 guards_then b (g ∷ gs) s = Sequence (guard_code b g) (guards_then b gs s)
 
--- An expression with the guards that come before its value. The guards set only variables from some number on and below `next`.
--- `known` holds what is known of variables after them.
+-- An expression with the guards that come before it. The guards set only variables from some number on and below `next`. `known`
+-- are the bounds that are known after them.
 pub record Guarded : Type 0 where
   pub before : List Guard
   pub value : Expression
@@ -46,13 +46,13 @@ pub record Guarded : Type 0 where
 
 -- ---- when an operation has a value
 
--- the lesser of two bounds, if there are two
+-- the lesser of two bounds, or the only one
 abbrev pub least : Option ℕ → Option ℕ → Option ℕ
 least None b = b
 least (Some m) None = Some m
 least (Some m) (Some k) = Some (min m k)
 
--- a sum and a product, if they are words
+-- a bound that is a word; the sum and the product of two bounds, if they are words
 abbrev pub if_word : ℕ → Option ℕ
 if_word m = if nat_lt m (2 ^ 32) then Some m else None
 
@@ -66,12 +66,12 @@ most_product None b = None
 most_product (Some m) None = None
 most_product (Some m) (Some k) = if_word (m * k)
 
--- the bound of a remainder by a constant
+-- the bound of a remainder, if its divisor is a constant other than 0
 abbrev pub below_divisor : Expression → Option ℕ
 below_divisor (Constant (suc w)) = Some w
 below_divisor e = None
 
--- the greatest word that a variable can have: the last bound in the list for it
+-- the greatest word that a variable can have: its last bound in the list
 abbrev pub most_if : Bool → (most : ℕ) → Option ℕ
 most_if b m = if b then Some m else None
 
@@ -104,20 +104,20 @@ abbrev pub is_below : Option ℕ → ℕ → Bool
 is_below None n = false
 is_below (Some m) n = nat_lt m n
 
--- ---- what a condition shows of a variable
+-- ---- what a condition shows about a variable
 
--- the word before another, if there is one
+-- the word before this one, if there is one
 abbrev pub less_one : Option ℕ → Option ℕ
 less_one None = None
 less_one (Some zero) = None
 less_one (Some (suc m)) = Some m
 
--- a variable holds at most this word
+-- the bound that is known if the expression's value is at most this word; there is one only if the expression is a variable
 abbrev pub told_of : Expression → Option ℕ → Option Limit
 told_of (Local x) (Some m) = Some (record { variable = x; most = m })
 told_of e m = None
 
--- the first of two values is below the second, or is not; the first is at most the second, or is not
+-- the bound that becomes known if the first of two values is below the second (`way`), or is not; then the same for "at most"
 abbrev pub told_less : (way : Bool) → (a b : Expression) → (most_a most_b : Option ℕ) → Option Limit
 told_less true a b m k = told_of a (less_one k)
 told_less false a b m k = told_of b m
@@ -130,7 +130,7 @@ told_most false a b m k = told_of b (less_one m)
 abbrev pub if_small : Option ℕ → Option ℕ → Option Limit → Option Limit
 if_small m k told = if is_below m (2 ^ 31) && is_below k (2 ^ 31) then told else None
 
--- the bound that is known if a condition is not 0, or if it is 0
+-- the bound that becomes known if a condition is not 0 (`way`), or if it is 0
 abbrev pub told : List Limit → (way : Bool) → Expression → Option Limit
 told ks way (Binary LtS a b) = if_small (most ks a) (most ks b) (told_less way a b (most ks a) (most ks b))
 told ks way (Binary LtU a b) = told_less way a b (most ks a) (most ks b)
@@ -144,7 +144,7 @@ with_told ks (Some k) = ks ++ k ∷ []
 
 -- ---- operations that evidently have a value
 
--- the expression is a constant other than 0, and other than -1 too
+-- the expression is a constant other than 0; the second definition also rules out -1
 abbrev pub is_divisor : Expression → Bool
 is_divisor (Constant w) = not (w == 0)
 is_divisor e = false
@@ -178,7 +178,7 @@ always ks LeU b = true
 
 -- ---- the guards of an operator: the run stops exactly if the operator has no value
 
--- a signed quotient: the divisor is not 0, and it is not -2147483648 by -1
+-- the guards of a signed quotient: the divisor is not 0, and the quotient is not that of -2147483648 and -1
 abbrev pub asked_signed : (a b : Expression) → List Guard
 asked_signed a b = Stop (Unary IsZero b) ∷ StopBoth (Binary Eq b (Constant (2 ^ 32 - 1))) (Binary Eq a (Constant (2 ^ 31))) ∷ []
 
@@ -216,7 +216,7 @@ reads_left DivS = true
 reads_left RemS = true
 reads_left op = false
 
--- how many elements of a width an object of a size has
+-- how many elements of this width an object of this size has
 abbrev pub elements_of : Size → Width → ℕ
 elements_of z w = if same_width z.width w then z.elements else 0
 
@@ -229,7 +229,7 @@ elements_in objects w o = elements_of (size_in objects o) w
 abbrev pub plain : List Limit → ℕ → Expression → Guarded
 plain ks n e = record { before = []; value = e; next = n; known = ks }
 
--- a value that is read twice waits in a variable, unless it is a constant or a variable already
+-- a value that is read twice is put into a variable, unless it is a constant or a variable already
 abbrev pub waits_as : Expression → Guarded → Guarded
 waits_as (Constant w) g = g
 waits_as (Local x) g = g
@@ -255,7 +255,7 @@ with_test op a b = record { before = a.before ++ (b.before ++ asked op a.value b
 abbrev pub with_load : Width → (object : ℕ) → Guarded → Guarded
 with_load w o i = record { before = i.before; value = Load w o i.value; next = i.next; known = i.known }
 
--- a value is below a number: if the value is a variable's, the bound is known from then on
+-- if a value is below n and is a variable's, that bound is known from then on
 abbrev pub learned : Expression → ℕ → List Limit → List Limit
 learned (Local x) n ks = ks ++ record { variable = x; most = n - 1 } ∷ []
 learned e n ks = ks
@@ -267,7 +267,7 @@ bounded n g = record { before = g.before ++ Stop (Binary LeU (Constant n) g.valu
 abbrev pub indexed : List Size → List Limit → Width → (object : ℕ) → Expression → Guarded → Guarded
 indexed objects ks w o i g = if is_below (most ks i) (elements_in objects w o) then g else bounded (elements_in objects w o) (waiting g)
 
--- inner parts first, left to right; the guards set variables from n on
+-- an expression with its guards: inner parts first, left to right; the guards set variables from n on
 abbrev pub guarded : List Size → List Limit → (n : ℕ) → Expression → Guarded
 guarded objects ks n (Constant w) = plain ks n (Constant w)
 guarded objects ks n (Local x) = plain ks n (Local x)
@@ -277,7 +277,7 @@ guarded objects ks n (Binary op a b) =
     else with_test op (waiting_if (reads_left op) (guarded objects ks n a)) (waiting (guarded objects (waiting_if (reads_left op) (guarded objects ks n a)).known (waiting_if (reads_left op) (guarded objects ks n a)).next b))
 guarded objects ks n (Load w o i) = with_load w o (indexed objects ks w o i (guarded objects ks n i))
 
--- a list of expressions
+-- expressions with their guards, one after the other
 pub record GuardedAll : Type 0 where
   pub before : List Guard
   pub values : List Expression
@@ -291,7 +291,7 @@ abbrev pub guarded_all : List Size → List Limit → (n : ℕ) → List Express
 guarded_all objects ks n [] = record { before = []; values = []; next = n; known = ks }
 guarded_all objects ks n (e ∷ es) = with_first (guarded objects ks n e) (guarded_all objects (guarded objects ks n e).known (guarded objects ks n e).next es)
 
--- the index of a store, and then its word, after the guards of the index
+-- the index of a store, with its guards; then the word that is stored, after the guards of the index
 abbrev pub first_index : List Size → List Limit → (n : ℕ) → Width → (object : ℕ) → Expression → Guarded
 first_index objects ks n w o i = indexed objects ks w o i (guarded objects ks n i)
 
@@ -300,7 +300,7 @@ stored_word objects i e = guarded objects i.known i.next e
 
 -- ---- what is known after a statement
 
--- the statement, or a part of it, sets the variable
+-- the statement, or a part of it, sets this variable
 abbrev pub sets_result : Option ℕ → (variable : ℕ) → Bool
 sets_result None x = false
 sets_result (Some y) x = y == x
@@ -330,12 +330,12 @@ abbrev pub kept : (n : ℕ) → (changed : ℕ → Bool) → List Limit → List
 kept n changed [] = []
 kept n changed (k ∷ ks) = kept_if (stays n changed k) k (kept n changed ks)
 
--- a variable was set to a word of at most `most`, if that is known
+-- what is known once a variable is set to a word of at most `most`, if there is such a bound
 abbrev pub set_to : (variable : ℕ) → Option ℕ → List Limit → List Limit
 set_to x None ks = ks
 set_to x (Some m) ks = ks ++ record { variable = x; most = m } ∷ []
 
--- the bounds that hold on both of two ways: for a variable with a bound on both, the greater one
+-- the bounds that hold on both of two ways: for each variable with a bound on both, the greater of the two
 abbrev pub either : Limit → Option ℕ → List Limit → List Limit
 either k None ks = ks
 either k (Some m) ks = record { variable = k.variable; most = max k.most m } ∷ ks
@@ -348,7 +348,7 @@ joined (k ∷ ks) other = either k (most_in other k.variable) (joined ks other)
 abbrev pub unset : Statement → (variable : ℕ) → Bool
 unset s x = not (sets s x)
 
--- control may reach the end of a statement, by its form
+-- control may reach the end of a statement, judging by its form
 abbrev pub falls : Statement → Bool
 falls Skip = true
 falls (Set x e) = true
@@ -363,7 +363,7 @@ falls (Block s) = true
 falls (Exit k) = false
 falls (Return e) = false
 
--- an exit in the statement leaves just the block number k around it: 0 is the innermost one
+-- an exit in the statement leaves exactly block number k around the statement; 0 is the innermost one
 abbrev pub leaves : (outer : ℕ) → Statement → Bool
 leaves k Skip = false
 leaves k (Set x e) = false
@@ -378,19 +378,20 @@ leaves k (Block s) = leaves (suc k) s
 leaves k (Exit j) = j == k
 leaves k (Return e) = false
 
--- after an `If`: `one` and `other` are known at the ends of its ways that control can reach; `before` was known before, of
--- variables that no part sets
+-- what is known after an `If`: `one` and `other` are known at the ends of its ways, as far as control can reach them; `before`
+-- are the bounds known before it, for variables that no part of it sets
 abbrev pub met : (first second : Bool) → (n : ℕ) → Statement → (before one other : List Limit) → List Limit
 met true true n s before one other = before ++ joined (kept n (unset s) one) other
 met true false n s before one other = one
 met false true n s before one other = other
 met false false n s before one other = before
 
--- what is known at the start of a way of an `If`
+-- what is known at the start of one way of an `If`
 abbrev pub known_within : List Size → (n : ℕ) → (way : Bool) → List Limit → Expression → List Limit
 known_within objects n way ks e = kept n (sets Skip) (with_told (guarded objects ks n e).known (told (guarded objects ks n e).known way e))
 
--- loops are not entered, since control never reaches the end of a loop, and a block only if no exit leaves just that block
+-- what is known after a statement; loops are not entered, since control never reaches the end of a loop, and a block is entered
+-- only if no exit leaves just that block
 abbrev pub known_after : List Size → (n : ℕ) → List Limit → Statement → List Limit
 known_after objects n ks Skip = ks
 known_after objects n ks (Set x e) = set_to x (most (guarded objects ks n e).known e) (kept n (sets (Set x e)) (guarded objects ks n e).known)
@@ -408,7 +409,7 @@ known_after objects n ks (Return e) = kept n (sets (Return e)) (guarded objects 
 
 -- ---- what is known at a loop's head
 
--- a turn leaves a bound no greater than the one at the head: of one variable, of all, and the bounds for which it does
+-- after a turn a bound is no greater than at the head: for one variable; for all of them; and the bounds for which this is so
 abbrev pub at_most : Option ℕ → ℕ → Bool
 at_most None n = false
 at_most (Some m) n = nat_le m n
@@ -421,7 +422,7 @@ abbrev pub still : (after head : List Limit) → List Limit
 still after [] = []
 still after (k ∷ ks) = kept_if (at_most (most_in after k.variable) k.most) k (still after ks)
 
--- a bound that grew in a turn is tried far above, but far enough below 2^31 that sums of it are below that too
+-- for a bound that grew in a turn a far greater one is tried, but one so far below 2^31 that sums with it are below 2^31 too
 abbrev pub widened_if : (again : Bool) → Limit → Limit
 widened_if again k = if again then k else record { variable = k.variable; most = max k.most (2 ^ 30) }
 
@@ -433,14 +434,15 @@ widened after (k ∷ ks) = widened_if (at_most (most_in after k.variable) k.most
 abbrev pub turn : List Size → (n : ℕ) → List Limit → Statement → (more : List Limit) → List Limit
 turn objects n ks s more = known_after objects n (kept n (sets s) ks ++ more) s
 
--- what is known before the loop and again after a turn that starts with the widened bounds
+-- the bounds that are known both before the loop and after a turn that starts with the widened bounds
 abbrev pub narrowed : List Size → (n : ℕ) → List Limit → Statement → (before : List Limit) → List Limit
 narrowed objects n ks s before = joined before (turn objects n ks s (widened (turn objects n ks s before) before))
 
 abbrev pub found : List Size → (n : ℕ) → List Limit → Statement → List Limit
 found objects n ks s = still (turn objects n ks s (narrowed objects n ks s (kept n (unset s) ks))) (narrowed objects n ks s (kept n (unset s) ks))
 
--- the bounds found are verified: if a turn does not leave all of them known, nothing is known of the variables that the loop sets
+-- the bounds found are verified: if a turn does not leave all of them known, nothing is known about the variables that the loop
+-- sets
 abbrev pub if_again : (after head : List Limit) → List Limit
 if_again after head = if all_again after head then head else []
 
@@ -452,7 +454,7 @@ head objects n ks s = kept n (sets s) ks ++ if_again (turn objects n ks s (found
 abbrev pub with_store : (blocks : ℕ) → Width → (object : ℕ) → Guarded → Guarded → Statement
 with_store b w o i e = guards_then b (i.before ++ e.before) (Store w o i.value e.value)
 
--- a statement with its guards, in so many blocks, given what is known before it; the guards of each statement set variables from
+-- a statement with its guards, in b blocks, given what is known before it; the guards of each statement in it set variables from
 -- n on
 abbrev pub code_after : List Size → (n : ℕ) → List Limit → (blocks : ℕ) → Statement → Statement
 code_after objects n ks b Skip = Skip
@@ -470,11 +472,11 @@ code_after objects n ks b (Block s) = Block (code_after objects n ks (suc b) s)
 code_after objects n ks b (Exit k) = Exit k
 code_after objects n ks b (Return e) = guards_then b (guarded objects ks n e).before (Return (guarded objects ks n e).value)
 
--- at the start of a function nothing is known
+-- a function's own code with its guards: at its start nothing is known
 abbrev pub guarded_code : List Size → (n blocks : ℕ) → Statement → Statement
 guarded_code objects n b s = code_after objects n [] b s
 
--- whether there is a guard
+-- whether there is a guard: in a list, and in a statement
 abbrev pub some_guard : List Guard → Bool
 some_guard [] = false
 some_guard (g ∷ gs) = true
@@ -516,11 +518,11 @@ variables_after objects n ks (Return e) = (guarded objects ks n e).next
 abbrev pub variables_in : List Size → (n : ℕ) → Statement → ℕ
 variables_in objects n s = variables_after objects n [] s
 
--- the code of a function with guards, followed by the loop; if the run reaches the end of the function's own code, it reaches the
--- end of this code too
+-- the code of a function with its guards, followed by the loop; a run that reaches the end of the function's own code also
+-- reaches the end of this code
 abbrev pub with_loop : Statement → Statement
 with_loop s = Block (Sequence (Block (Sequence s (Exit 1))) forever)
 
--- a function's code: the loop is there only if a guard is
+-- the code of a function with its guards: the loop is there only if there is a guard
 abbrev pub guarded_function : List Size → (n : ℕ) → Statement → Statement
 guarded_function objects n s = if has_guards objects n s then with_loop (guarded_code objects n 0 s) else guarded_code objects n 0 s

@@ -1,11 +1,11 @@
--- Code in which some of the constants that conditions compare with are held in variables: each is put there once, before the
--- code. A branch on two variables is one instruction, and a branch on a variable and a constant is two.
+-- Code in which some of the constants that conditions compare with are held in variables: each constant is put there once, before
+-- the code. A branch that compares two variables is one instruction; a branch that compares a variable with a constant is two.
 use Rattle.std.specs.Prelude.{◌≡◌, ◌⊎◌, ℕ, suc, ◌+◌, ◌≤◌, ◌==◌, List, [], ◌∷◌, length, if◌then◌else◌}
 use Rattle.cc_cminor.specs.Cminor.{Expression, Constant, Local, Binary, Statement, Skip, Set, Store, Call, Read, Write, Sequence, If, Loop, Block, Exit, Return}
 use Rattle.cc_cminor.specs.Numbers.{most_variables}
 use Rattle.cc_cminor.specs.Variables.{above_statement}
 
--- a constant, or the variable that holds its word: the words are in the variables from m on
+-- a constant, or the variable that holds its word; the variables from m on hold the words
 abbrev pub held_word : (words : List ℕ) → (m w : ℕ) → Expression
 held_word [] m w = Constant w
 held_word (v ∷ vs) m w = if v == w then Local m else held_word vs (suc m) w
@@ -18,7 +18,7 @@ abbrev pub held_test : (words : List ℕ) → (m : ℕ) → Expression → Expre
 held_test ws m (Binary op a b) = Binary op (held_operand ws m a) (held_operand ws m b)
 held_test ws m e = e
 
--- the same in all conditions of a statement
+-- a statement whose conditions all read the words in those variables
 abbrev pub held_in : (words : List ℕ) → (m : ℕ) → Statement → Statement
 held_in ws m Skip = Skip
 held_in ws m (Set x e) = Set x e
@@ -33,7 +33,7 @@ held_in ws m (Block s) = Block (held_in ws m s)
 held_in ws m (Exit k) = Exit k
 held_in ws m (Return e) = Return e
 
--- each word is put into its variable, then comes a statement
+-- each word is put into its variable, and then the statement runs
 abbrev pub put_first : (words : List ℕ) → (m : ℕ) → Statement → Statement
 put_first [] m s = s
 put_first (w ∷ ws) m s = Sequence (Set m (Constant w)) (put_first ws (suc m) s)
@@ -41,17 +41,18 @@ put_first (w ∷ ws) m s = Sequence (Set m (Constant w)) (put_first ws (suc m) s
 abbrev pub with_words : (words : List ℕ) → (m : ℕ) → Statement → Statement
 with_words ws m s = put_first ws m (held_in ws m s)
 
--- at most so many words are held
+-- at most this many words are held
 abbrev pub most_held : ℕ
 most_held = 8
 
--- the record leaves open which words they are: the code chooses those that loops compare with most often
+-- code that holds some words in variables; the record leaves open which words: the pass chooses those that conditions in loops
+-- compare with most often
 pub record Holding (s t : Statement) : Type 0 where
   pub words : List ℕ
   pub few : length words ≤ most_held
   pub fit : above_statement 0 s + length words ≤ most_variables
   pub is : t ≡ with_words words (above_statement 0 s) s
 
--- code as it was, or with words in variables above all of its own
+-- the code is as it was, or holds words in variables above all of its own
 abbrev pub IsHeld : (s t : Statement) → Type 0
 IsHeld s t = (t ≡ s) ⊎ Holding s t

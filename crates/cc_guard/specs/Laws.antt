@@ -1,11 +1,11 @@
--- What holds of all guarded code.
+-- What holds for all guarded code.
 use Rattle.std.specs.Prelude.{◌≡◌, ℕ, ◌+◌, ◌*◌, ◌≤◌, false, List}
 use Rattle.cc_simulation.specs.World.{Size}
 use Rattle.cc_cminor.specs.Cminor.{Statement}
 use Rattle.cc_cminor.specs.Size.{code_partials}
 use Rattle.cc_guard.specs.Guard.{has_guards, guarded_function, variables_in}
 
--- guards set at most two variables for each operation that may have no value
+-- guards set at most two variables for each operation that can lack a value
 abbrev pub GuardsSetFew : Type 0
 GuardsSetFew = (objects : List Size) (n : ℕ) (s : Statement) → variables_in objects n s ≤ n + 2 * code_partials s
 

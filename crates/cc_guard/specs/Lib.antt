@@ -2,12 +2,10 @@
 pub mod Guard
 -- the code with words in variables
 pub mod Held
--- what holds of all guarded code
+-- what holds for all guarded code
 pub mod Laws
 -- units in which no function needs a guard
 pub mod Safe
--- the numbers of the faults
-pub mod Fault
 -- definitions that only private contracts and proofs use
 pub mod internal
 -- worked examples

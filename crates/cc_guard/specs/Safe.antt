@@ -3,13 +3,13 @@ use Rattle.std.specs.Prelude.{◌≡◌, ℕ, ◌^◌, ◌<◌, List, [], ◌∷
 use Rattle.cc_ast.specs.Tree.{External, Source}
 use Rattle.cc_types.specs.Typed.{IsTyped}
 use Rattle.cc_simulation.specs.World.{IsWorld}
-use Rattle.cc_c_laws.specs.Outcome.{Wrong}
-use Rattle.cc_c_laws.specs.Meaning.{functions, source_behavior}
-use Rattle.cc_c_laws.specs.Calls.{first_shared}
-use Rattle.cc_c_laws.specs.Numbered.{world_of, objects_in}
-use Rattle.cc_c_laws.specs.declared.cause.Cause.{Cause}
-use Rattle.cc_c_laws.specs.declared.cause.Cause.TheVariants.{Depth}
-use Rattle.cc_c_laws.specs.declared.mode.Mode.TheVariants.{Checked}
+use Rattle.cc_c_semantics.specs.Outcome.{Wrong}
+use Rattle.cc_c_semantics.specs.Meaning.{functions, source_behavior}
+use Rattle.cc_c_semantics.specs.Calls.{first_shared}
+use Rattle.cc_c_semantics.specs.Numbered.{world_of, objects_in}
+use Rattle.cc_c_semantics.specs.declared.cause.Cause.{Cause}
+use Rattle.cc_c_semantics.specs.declared.cause.Cause.TheVariants.{Depth}
+use Rattle.cc_c_semantics.specs.declared.mode.Mode.TheVariants.{Checked}
 use Rattle.cc_cminor.specs.Cminor.{Expression, Constant, Local, Unary, Binary, Load, Statement, Skip, Set, Store, Call, Read, Write, Sequence, If, Loop, Block, Exit, Return}
 use Rattle.cc_cminor.specs.Pair.{AreCalls, KeepsUp, GoesWrong}
 
@@ -42,8 +42,8 @@ CodeConstantsFit (Return e) = ConstantsFit e
 
 -- ---- code that needs no guard
 
--- The code of a function that needs no guard. Unchanged, it keeps up with the checked function, which runs for ever instead of
--- going wrong, and it goes wrong if the function does.
+-- The code of a function that needs no guard. Unchanged, it keeps up with the checked function, which runs for ever if the
+-- function goes wrong; and the code goes wrong if the function does.
 pub record NeedsNoGuard (unit : List External) (f : ℕ) (s : Statement) : Type 0 where
   pub calls : AreCalls unit s
   pub constants : CodeConstantsFit s
@@ -54,9 +54,9 @@ pub record NeedsNoGuard (unit : List External) (f : ℕ) (s : Statement) : Type 
 abbrev pub NoneNeedsGuard : List External → Type 0
 NoneNeedsGuard unit = (f : ℕ) → f < length (functions unit) → (s : Statement) × NeedsNoGuard unit f s
 
--- A typed unit whose functions all have such code never goes wrong by a division, a shift or an index, on any input and at any
--- bound: only because calls are nested too deep. The world that the functions share before the run is a world of words, since the
--- initial values and the input are words.
+-- A typed unit whose functions all have such code never goes wrong in a division, a shift or an index, on any input and at any
+-- bound: it goes wrong only because calls are nested too deep. The world that the functions share before the run is a world of
+-- words, since the initial values and the input are words.
 abbrev pub OnlyDepthIsLeft : Type 0
 OnlyDepthIsLeft = (source : Source) → IsTyped source.externals → NoneNeedsGuard source.externals → (input : List ℕ) → IsWorld (objects_in source.externals) (world_of (first_shared source.externals input))
     → (n : ℕ) (cause : Cause) → (source_behavior source input n).stop ≡ Wrong cause → cause ≡ Depth

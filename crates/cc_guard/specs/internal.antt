@@ -3,7 +3,7 @@
 pub mod Fits
 -- what remains to be done after a statement
 pub mod Next
--- guarded code keeps up
+-- the law that guarded code keeps up
 pub mod Laws
 -- marks for variables
 pub mod Marks

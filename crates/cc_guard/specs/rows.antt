@@ -1,2 +1,2 @@
--- guards, evident cases, values that wait
+-- worked guards: tests, evident cases, and values that are put into variables
 pub mod Guard

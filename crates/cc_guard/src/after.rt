@@ -1,9 +1,9 @@
-// Bounds that are known for variables after a statement. Nothing is written: the guards of its expressions are made again, only
-// for the bounds that they leave known.
+// Bounds that are known for variables after a statement. Nothing is written: the guards of the statement's expressions are made
+// again, only to find the bounds that they leave known.
 //
 // Loops are not entered, since control never reaches the end of a loop. After a block from which an exit leaves just that block,
-// nothing is known of the variables that it sets. The bounds known at a loop's head are found by four turns; the last one
-// verifies them. So a statement is walked four more times for the innermost loop that it is in, and not again for the loops
+// nothing is known about the variables that the block sets. The bounds known at a loop's head are found by four turns; the last
+// one verifies them. So a statement is walked four more times for the innermost loop that it is in, but not again for the loops
 // around that one.
 
 ghost use Rattle.std.specs.Prelude.{◌≡◌, IfOk};
@@ -102,7 +102,7 @@ fn after_set(
     Ok(limits)
 }
 
-/// The bounds known at the start of one way of an `If`, after the guards of its condition.
+/// The bounds known at the start of one way of an `If`, once the guards of its condition have run.
 pub fn within(
     alloc: Global,
     first: usize,

@@ -5,36 +5,9 @@ ghost use Rattle.cc_cminor.specs.Cminor as cminor;
 ghost use Rattle.cc_cminor.specs.Code.{expression_of, statement_of, in_sequence};
 ghost use Rattle.cc_cminor.specs.internal.Statements.{statements_of};
 
-use cc_cminor::{Expression, Statement};
+use cc_cminor::{Expression, Statement, boxed_expression, boxed_statement, constant, local};
 use cc_words::{Binary, Unary, Width};
 use std::alloc::{AllocError, Global};
-
-pub fn boxed_expression(
-    alloc: Global,
-    expression: Expression,
-) -> Result<Box<Expression>, AllocError>
-    ensures { IfOk result (λ e. e.value ≡ expression) }
-{
-    Ok(Box::new(alloc, expression)?)
-}
-
-pub fn boxed_statement(alloc: Global, statement: Statement) -> Result<Box<Statement>, AllocError>
-    ensures { IfOk result (λ s. s.value ≡ statement) }
-{
-    Ok(Box::new(alloc, statement)?)
-}
-
-pub fn constant(alloc: Global, word: u32) -> Result<Box<Expression>, AllocError>
-    ensures { IfOk result (λ e. expression_of e.value ≡ cminor.Constant word) }
-{
-    boxed_expression(alloc, Expression::Constant(word))
-}
-
-pub fn local(alloc: Global, variable: usize) -> Result<Box<Expression>, AllocError>
-    ensures { IfOk result (λ e. expression_of e.value ≡ cminor.Local variable) }
-{
-    boxed_expression(alloc, Expression::Local(variable))
-}
 
 pub fn unary(
     alloc: Global,
@@ -91,7 +64,7 @@ pub fn copied(alloc: Global, e: &Expression) -> Result<Box<Expression>, AllocErr
     }
 }
 
-/// Statements that run one after another.
+/// A statement that runs these statements one after another.
 pub fn sequence(alloc: Global, all: Vec<Statement>) -> Result<Box<Statement>, AllocError>
     ensures { IfOk result (λ s. statement_of s.value ≡ in_sequence (statements_of all.items)) }
 {

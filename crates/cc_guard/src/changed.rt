@@ -1,6 +1,6 @@
-// What is known of variables after a statement that sets some of them, and how control leaves a statement.
+// What is known about variables after a statement that sets some of them, and how control leaves a statement.
 //
-// One walk finds which variables a statement sets and marks them, since there are many bounds, and loops within loops.
+// One walk marks all the variables that a statement sets, since there are many bounds, and loops within loops.
 
 ghost use Rattle.std.specs.Prelude.{◌≡◌, ◌&&◌, ℕ, nat_lt, Bool, false, not, Some, length, get_or, IfOk, OnOk};
 ghost use Rattle.cc_cminor.specs.Code.{statement_of, in_sequence};
@@ -72,7 +72,7 @@ fn mark_all(marks: &mut Vec<bool>, all: &[Statement])
     }
 }
 
-// Marks that are not set yet.
+// As many marks as `first` says, none of them set.
 fn unmarked(alloc: Global, first: usize) -> Result<Vec<bool>, AllocError>
     ensures long { IfOk result (λ marks. length marks.items ≡ first) }
     ensures none { IfOk result (λ marks. (x : ℕ) → get_or marks.items x false ≡ false) }
@@ -127,7 +127,7 @@ pub fn kept(
     Ok(limits)
 }
 
-/// The known bounds of variables below `first` but `to`, if that is one.
+/// The known bounds of variables below `first`, without that of the variable `to`, if there is one.
 pub fn kept_but(
     alloc: Global,
     first: usize,
@@ -145,7 +145,7 @@ pub fn kept_but(
     Ok(limits)
 }
 
-/// Adds the bound of a variable that was set to a word of at most `most`, if a bound is known.
+/// Adds the bound of a variable that was set to a word of at most `most`, if such a bound is known.
 pub fn set_to(known: &mut Vec<Limit>, variable: usize, most: Option<u32>) -> Result<(), AllocError>
     ensures { OnOk result (known.new.items ≡ set_to variable most known.old.items) }
 {
@@ -184,7 +184,7 @@ pub fn add_told(known: &mut Vec<Limit>, told: Option<Limit>) -> Result<(), Alloc
     Ok(())
 }
 
-/// Whether control may reach the end of a statement, by its form.
+/// Whether control may reach the end of a statement, judging by its form.
 #[cycle(falling)]
 pub fn falls(s: &Statement) -> bool
     ensures { result ≡ falls (statement_of s.now) }
@@ -214,8 +214,7 @@ fn last_falls(all: &[Statement]) -> bool
     last
 }
 
-/// Whether an exit in a statement leaves just the block with this number: 0 is the innermost block around the statement, 1 the
-/// next one.
+/// Whether an exit in a statement leaves exactly the block with this number: 0 is the innermost block around the statement.
 #[cycle(leaving)]
 pub fn leaves(outer: usize, s: &Statement) -> Result<bool, AllocError>
     ensures { IfOk result (λ left. left ≡ leaves outer (statement_of s.now)) }

@@ -1,4 +1,4 @@
-// The constants of code are words. This is known of each constant once it is read, so these walks read all of them; they change
+// The constants of code are words. This is known about a constant once it is read, so these walks read all of them; they change
 // nothing.
 //
 // The recursion is as deep as the tree, like that of `statements`.

@@ -1,4 +1,4 @@
-// Expressions with their guards: inner parts first, left to right.
+// Expressions with their guards: inner parts come first, and left ones before right ones.
 //
 // The recursion is as deep as the expression, which has at most 512 tokens of the source.
 
@@ -8,11 +8,11 @@ ghost use Rattle.cc_cminor.specs.Code.{expression_of, expressions_of};
 ghost use Rattle.cc_guard.specs.Guard.{asked, reads_left, waiting, waiting_if, indexed, guarded, guarded_all};
 ghost use Rattle.cc_guard.specs.internal.Written.{Adds, AddsAll, here, sizes_of};
 
-use crate::boxes::{binary, constant, load, local, unary};
+use crate::boxes::{binary, load, unary};
 use crate::guards::{Guards, add_asked, bounded, waiting};
 use crate::known::{always, is_below, most};
 use crate::sizes::{ObjectSize, elements_in};
-use cc_cminor::Expression;
+use cc_cminor::{Expression, constant, local};
 use cc_words::{Binary, Width};
 use std::alloc::{AllocError, Global};
 
@@ -39,7 +39,8 @@ fn waiting_if(
     }
 }
 
-// An operator that may have no value, on a left operand that waits in a variable and a right one.
+// An operator that can lack a value, after its own guards. Its right operand is first put into a variable, unless it is a
+// constant or a variable.
 fn tested(
     alloc: Global,
     blocks: usize,
@@ -56,7 +57,7 @@ fn tested(
     binary(alloc, operator, a, b)
 }
 
-/// An index of an object, with a guard that it is in the object unless that is evident.
+/// An index of an object, with a guard that the index lies in the object, unless that is evident.
 #[cycle(expressions)]
 pub fn index(
     alloc: Global,

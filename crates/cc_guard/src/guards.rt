@@ -9,9 +9,9 @@ ghost use Rattle.cc_guard.specs.Guard as guard;
 ghost use Rattle.cc_guard.specs.Guard.{Stop, StopBoth, guard_code, asked_signed, asked, learned, waiting, bounded, forever, with_loop};
 ghost use Rattle.cc_guard.specs.internal.Written.{Adds, AddsAll, here, Sees, some_of};
 
-use crate::boxes::{binary, boxed_statement, constant, copied, local, sequence, unary};
+use crate::boxes::{binary, copied, sequence, unary};
 use crate::known::Limit;
-use cc_cminor::{Expression, Statement};
+use cc_cminor::{Expression, Statement, both, boxed_statement, constant, local};
 use cc_words::{Binary, Unary};
 use std::alloc::{AllocError, Global};
 
@@ -33,7 +33,7 @@ pub struct Seen {
 
 // ---- one guard
 
-// Adds one guard.
+// Adds a guard.
 fn add(guards: &mut Guards, code: Box<Statement>) -> Result<(), AllocError>
     ensures before { OnOk result (statements_of guards.new.before.items ≡ statements_of guards.old.before.items ++ (statement_of code.value ∷ [])) }
     ensures next { OnOk result (guards.new.next ≡ guards.old.next) }
@@ -115,7 +115,7 @@ fn add_put(
 
 // ---- values and operands
 
-/// A value that is read twice: it is put into a variable, unless it is a constant or a variable already.
+/// The value to use if a value is read twice: a constant or a variable as it is, else the variable into which it is put.
 pub fn waiting(
     alloc: Global,
     blocks: usize,
@@ -145,7 +145,7 @@ fn add_asked_divisor(
     add_stop(alloc, blocks, guards, test)
 }
 
-// The test whether an expression has this word.
+// The expression that tests whether `e` has this word.
 fn is_word(alloc: Global, e: &Expression, word: u32) -> Result<Box<Expression>, AllocError>
     ensures { IfOk result (λ test. expression_of test.value ≡ cminor.Binary two.Eq (expression_of e.now) (cminor.Constant word)) }
 {
@@ -204,7 +204,7 @@ pub fn add_asked(
     }
 }
 
-// A value is below a number: if the value is a variable's, the bound is known from then on.
+// Records that a value is below a number: if the value is a variable's, this bound is known from then on.
 fn learn(guards: &mut Guards, value: &Expression, number: u32) -> Result<(), AllocError>
     ensures known { OnOk result (guards.new.known.items ≡ learned (expression_of value.now) number guards.old.known.items) }
     ensures before { OnOk result (guards.new.before.items ≡ guards.old.before.items) }
@@ -219,7 +219,7 @@ fn learn(guards: &mut Guards, value: &Expression, number: u32) -> Result<(), All
     Ok(())
 }
 
-/// A value with a guard that it is below a number.
+/// Adds a guard that the value is below `number`. If the value is a variable's, this bound is known from then on.
 pub fn bounded(
     alloc: Global,
     blocks: usize,
@@ -235,7 +235,7 @@ pub fn bounded(
 
 // ---- the statement
 
-/// No guards yet: `first` is the first variable that a guard may set, and `known` are the bounds known before.
+/// No guards yet. `first` is the first variable that a guard may set, and `known` are the bounds known beforehand.
 pub fn begun(alloc: Global, first: usize, known: &[Limit]) -> Result<Guards, AllocError>
     ensures before { IfOk result (λ guards. guards.before.items ≡ []) }
     ensures next { IfOk result (λ guards. guards.next ≡ first) }
@@ -249,7 +249,7 @@ pub fn begun(alloc: Global, first: usize, known: &[Limit]) -> Result<Guards, All
     })
 }
 
-/// Records the guards of a statement in what was seen of the function.
+/// Adds what the guards of a statement show to what was seen of the function.
 pub fn note(guards: &Guards, seen: &mut Seen)
     ensures { Sees (some_of guards.now.before.items) guards.now.next seen.old seen.new }
 {
@@ -287,18 +287,4 @@ pub fn with_loop(alloc: Global, code: Box<Statement>) -> Result<Box<Statement>, 
     let forever = boxed_statement(alloc, Statement::Loop(skip))?;
     let outer = both(alloc, inner, forever)?;
     boxed_statement(alloc, Statement::Block(outer))
-}
-
-// Two statements that run one after another.
-fn both(
-    alloc: Global,
-    first: Box<Statement>,
-    second: Box<Statement>,
-) -> Result<Box<Statement>, AllocError>
-    ensures { IfOk result (λ s. statement_of s.value ≡ cminor.Sequence (statement_of first.value) (statement_of second.value)) }
-{
-    let mut all = Vec::new(alloc);
-    all.push(Box::into_inner(first))?;
-    all.push(Box::into_inner(second))?;
-    sequence(alloc, all)
 }

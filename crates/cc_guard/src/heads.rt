@@ -1,4 +1,4 @@
-// The bounds that both of two ways agree on, and which of the bounds known at a loop's head a turn of the loop leaves known.
+// The bounds that two ways agree on, and which of the bounds known at a loop's head are still known after a turn of the loop.
 
 ghost use Rattle.std.specs.Prelude.{◌≡◌, ◌++◌, IfOk};
 ghost use Rattle.cc_cminor.specs.Code.{statement_of};
@@ -18,7 +18,7 @@ pub fn together(alloc: Global, known: &[Limit], more: &[Limit]) -> Result<Vec<Li
     Ok(limits)
 }
 
-/// The bounds that hold on both of two ways: for each variable with a bound on both, the greater one.
+/// The bounds that hold on both of two ways: for each variable with a bound on both, the greater of the two.
 pub fn joined(alloc: Global, one: &[Limit], other: &[Limit]) -> Result<Vec<Limit>, AllocError>
     ensures { IfOk result (λ limits. limits.items ≡ joined one.now other.now) }
 {
@@ -34,7 +34,7 @@ pub fn joined(alloc: Global, one: &[Limit], other: &[Limit]) -> Result<Vec<Limit
     Ok(limits)
 }
 
-/// The bounds known after an `If` if control can reach the end of both ways.
+/// The bounds known after an `If` if control can reach the ends of both its ways.
 pub fn met_both(
     alloc: Global,
     first: usize,
@@ -60,7 +60,7 @@ fn at_most(most: Option<u32>, word: u32) -> bool
     }
 }
 
-/// Whether all the bounds known at the head are known again after a turn.
+/// Whether after a turn all the bounds known at the head are known again.
 pub fn all_again(after: &[Limit], head: &[Limit]) -> bool
     ensures { result ≡ all_again after.now head.now }
 {
@@ -84,8 +84,8 @@ pub fn still(alloc: Global, after: &[Limit], head: &[Limit]) -> Result<Vec<Limit
     Ok(limits)
 }
 
-/// The bounds to try at a loop's head after a turn that started with the bounds known before the loop: a bound that grew is tried
-/// far above.
+/// The bounds to try at a loop's head, given those after a turn that started with the bounds known before the loop. For a bound
+/// that grew, a far greater one is tried.
 pub fn widened(alloc: Global, after: &[Limit], before: &[Limit]) -> Result<Vec<Limit>, AllocError>
     ensures { IfOk result (λ limits. limits.items ≡ widened after.now before.now) }
 {

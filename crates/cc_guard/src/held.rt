@@ -1,8 +1,8 @@
-// Constants that conditions compare with, held in variables: each of the chosen words is put into a variable once, before the
-// code, and conditions read it there.
+// Constants that conditions compare with, held in variables: each chosen word is put into a variable once, before the code, and
+// conditions read it there.
 //
-// A branch on two registers is one instruction, and a branch on a register and a constant is two. So the test in a loop costs
-// half as much.
+// A branch that compares two registers is one instruction; a branch that compares a register with a constant is two. So the test
+// in a loop costs half as much.
 
 ghost use Rattle.std.specs.Prelude.{◌≡◌, IfOk};
 ghost use Rattle.cc_cminor.specs.Code.{expression_of, expressions_of, statement_of, in_sequence};
@@ -10,9 +10,9 @@ ghost use Rattle.cc_cminor.specs.internal.Statements.{statements_of};
 ghost use Rattle.cc_cminor.specs.Numbers.{StatementFits};
 ghost use Rattle.cc_guard.specs.Held.{held_word, held_operand, held_test, held_in, with_words, IsHeld};
 
-use crate::boxes::{binary, boxed_statement, constant, copied, local, sequence};
+use crate::boxes::{binary, copied, sequence};
 use crate::wanted::wanted_words;
-use cc_cminor::{Expression, Statement, variables_above};
+use cc_cminor::{Expression, Statement, boxed_statement, constant, local, variables_above};
 use std::alloc::{AllocError, Global};
 
 /// The greatest number of variables that code may have.
@@ -170,7 +170,7 @@ fn held_all(
     sequence(alloc, made)
 }
 
-// Puts each word into its variable, then runs the statement that reads them there.
+// Puts each word into its variable, then runs the statement, whose conditions read the words there.
 fn with_words(
     alloc: Global,
     words: &[u32],
@@ -194,8 +194,8 @@ fn with_words(
     sequence(alloc, all)
 }
 
-/// Code whose conditions read some of their constants from variables, if that makes the code faster and the number of variables
-/// allows it. Otherwise the code as it was.
+/// Code whose conditions read some of their constants from variables, if that makes the code faster and the limit on variables
+/// allows it. Otherwise the code stays as it was.
 pub fn held(alloc: Global, code: Box<Statement>) -> Result<Box<Statement>, AllocError>
     requires { StatementFits (statement_of code.value) }
     ensures { IfOk result (λ made. IsHeld (statement_of code.value) (statement_of made.value)) }

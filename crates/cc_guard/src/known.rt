@@ -1,4 +1,4 @@
-// Bounds on an expression's value that its form and the known bounds of variables show.
+// Bounds on an expression's value, as its form and the known bounds of variables show them.
 
 ghost use Rattle.std.specs.Prelude.{◌≡◌};
 ghost use Rattle.cc_cminor.specs.Code.{expression_of};
@@ -14,7 +14,7 @@ pub struct Limit {
     pub most: u32,
 }
 
-// The lesser of two bounds. With one bound it is that one.
+// The lesser of two bounds. If there is only one bound, it is that one.
 fn least(a: Option<u32>, b: Option<u32>) -> Option<u32>
     ensures { result ≡ least a b }
 {
@@ -66,7 +66,7 @@ pub fn most_in(known: &[Limit], variable: usize) -> Option<u32>
     found
 }
 
-// The bound of a remainder by a constant other than 0.
+// The bound of a remainder, if its divisor is a constant other than 0.
 fn below_divisor(divisor: &Expression) -> Option<u32>
     ensures { result ≡ below_divisor (expression_of divisor.now) }
 {
@@ -165,7 +165,7 @@ fn told_of(e: &Expression, most: Option<u32>) -> Option<Limit>
     }
 }
 
-// The bound that is known if the first of two values is below the second, or is not.
+// The bound that becomes known if the first of two values is below the second (`way`), or is not.
 fn told_less(
     way: bool,
     a: &Expression,
@@ -182,7 +182,7 @@ fn told_less(
     }
 }
 
-// The bound that is known if the first value is at most the second, or is not.
+// The bound that becomes known if the first of two values is at most the second (`way`), or is not.
 fn told_most(
     way: bool,
     a: &Expression,
@@ -199,7 +199,7 @@ fn told_most(
     }
 }
 
-// Signed words compare as unsigned ones do if both are below 2^31.
+// The given bound, if both values are below 2^31: signed words then compare as unsigned ones do.
 fn if_small(most_a: Option<u32>, most_b: Option<u32>, told: Option<Limit>) -> Option<Limit>
     ensures { result ≡ if_small most_a most_b told }
 {
@@ -210,7 +210,7 @@ fn if_small(most_a: Option<u32>, most_b: Option<u32>, told: Option<Limit>) -> Op
     }
 }
 
-/// The bound that a condition gives for a variable if it is not 0 (`way`), or if it is 0.
+/// The bound that a condition shows for a variable if it is not 0 (`way`), or if it is 0.
 pub fn told(known: &[Limit], way: bool, e: &Expression) -> Option<Limit>
     ensures { result ≡ told known.now way (expression_of e.now) }
 {

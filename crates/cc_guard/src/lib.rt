@@ -1,10 +1,9 @@
-//! From Cminor to Cminor: a test comes before each operation that may have no value, and if it fails the code runs for ever. So
-//! an image of this code is right for every source, except that calls may be nested too deep.
+//! From Cminor to Cminor: a test comes before each operation that can lack a value, and if the test fails the code runs for ever.
+//! So an image of this code is right for every source, except that calls may be nested too deep.
 //!
-//! `pass` has `guard`. `statements` and, below it, `expressions` write the code. Below them are `guards` (what comes before one
+//! `pass` has `guard`. `statements` and, below it, `expressions` write the code. Below them are `guards` (what comes before a
 //! statement), `known` (what is evident), `sizes` (of the unit's objects) and `boxes`. `specs/Guard.antt` defines what the pass
-//! makes. Then `held` puts the constants that `wanted` chooses, among those that conditions compare with, into variables
-//! (`specs/Held.antt`).
+//! makes. Then `held` puts constants that conditions compare with into variables; `wanted` chooses which (`specs/Held.antt`).
 #![tactic(auto)]
 
 mod after;
@@ -12,7 +11,6 @@ mod boxes;
 mod changed;
 mod constants;
 mod expressions;
-mod fault;
 mod guards;
 mod heads;
 mod held;
@@ -23,6 +21,6 @@ mod sizes;
 mod statements;
 mod wanted;
 
-pub use fault::GuardFault;
+pub use cc_cminor::CodeFault as GuardFault;
 pub use laws::{guards_set_few, only_depth_is_left, unguarded_code_stays};
 pub use pass::{guard, needs_no_guard};

@@ -1,31 +1,30 @@
-// The pass: Cminor in which a test comes before each operation that may have no value.
+// The pass: it makes Cminor in which a test comes before each operation that can lack a value.
 
 ghost use Rattle.std.specs.Prelude.{◌≡◌, ◌<◌, ◌≤◌, true, false, not, IfOk, OnOk, IfErr};
-ghost use Rattle.cc_c_laws.specs.Numbered.{objects_in};
-ghost use Rattle.cc_c_laws.specs.declared.mode.Mode.TheVariants.{Checked};
+ghost use Rattle.cc_c_semantics.specs.Numbered.{objects_in};
+ghost use Rattle.cc_c_semantics.specs.declared.mode.Mode.TheVariants.{Checked};
 ghost use Rattle.cc_cminor.specs.Code.{statement_of};
 ghost use Rattle.cc_cminor.specs.Exits.{ExitsFit};
 ghost use Rattle.cc_cminor.specs.Numbers.{most_variables};
 ghost use Rattle.cc_cminor.specs.Pair.{tree_of, code_of, FailsAlike, GoesWrong};
 ghost use Rattle.cc_cminor.specs.Variables.{above_statement};
+ghost use Rattle.cc_cminor.specs.declared.fault.CodeFault.TheVariants.{FunctionTooLarge};
 ghost use Rattle.cc_guard.specs.Guard.{guarded_code, has_guards, guarded_function, variables_in};
 ghost use Rattle.cc_guard.specs.Held.{IsHeld};
 ghost use Rattle.cc_guard.specs.Safe.{NeedsNoGuard};
-ghost use Rattle.cc_guard.specs.declared.fault.GuardFault.TheVariants.{FunctionTooLarge};
 ghost use Rattle.cc_guard.specs.internal.Written.{Sees};
 
 use crate::constants::constants_fit;
-use crate::fault::GuardFault;
 use crate::guards::{Seen, with_loop};
 use crate::held::{MOST_VARIABLES, held};
 use crate::sizes::object_sizes;
 use crate::statements::{Done, statement};
-use cc_c_laws::{Mode, calls_keep_objects};
-use cc_cminor::{CminorPair, Statement, variables_above};
+use cc_c_semantics::{Mode, calls_keep_objects};
+use cc_cminor::{CminorPair, CodeFault as GuardFault, Statement, variables_above};
 use cc_types::TypedUnit;
 use std::alloc::{AllocError, Global};
 
-// The code of a function's own body with its guards, and what was seen of them.
+// The code of a function's own body with its guards; what is seen of the guards is added to `seen`.
 fn guarded_body(
     alloc: Global,
     pair: &CminorPair,
@@ -44,7 +43,7 @@ fn guarded_body(
     Ok(code)
 }
 
-// What is seen at the start: no guard, and no variable set by one.
+// What was seen before the start: no guard, and no variable that a guard sets.
 const NOTHING: Seen = Seen {
     guards: false,
     variables: 0,
@@ -72,11 +71,11 @@ fn guarded(alloc: Global, pair: &CminorPair) -> Result<Box<Statement>, GuardFaul
     }
 }
 
-/// Whether a function needs no guard: the pass puts none before any of its operations. Then its code, unchanged, keeps up with
+/// Whether a function needs no guard: the pass puts none before any of its operations. If so, its code, unchanged, keeps up with
 /// the checked function (`needs`). A unit in which no function needs a guard goes wrong only because calls are nested too deep:
 /// `only_depth_is_left`.
 ///
-/// `AllocError` if memory runs out.
+/// Fails with `AllocError` if memory runs out.
 pub fn needs_no_guard(alloc: Global, pair: &CminorPair) -> Result<bool, AllocError>
     requires exits { ExitsFit 0 (code_of pair.now) }
     requires fails_alike { FailsAlike (tree_of pair.now) pair.now.function (code_of pair.now) }
@@ -92,13 +91,13 @@ pub fn needs_no_guard(alloc: Global, pair: &CminorPair) -> Result<bool, AllocErr
     Ok(!seen.guards)
 }
 
-/// Returns the Cminor of a function with a test before each operation that may have no value, except an operation that evidently
+/// Returns the Cminor of a function with a test before each operation that can lack a value, except an operation that evidently
 /// has one. If a test fails the run goes on for ever: it writes nothing more and never ends. So the code keeps up with the
 /// checked function, as the type of the pair guarantees. Constants that conditions in loops compare with may be held in variables
 /// (`code`). A function without guards keeps its code unchanged (`unguarded`).
 ///
 /// Fails with `FunctionTooLarge` (22) if the guards would set more variables than code may have, and with `OutOfMemory` (40) if
-/// memory runs out. On an error the pair that was passed is dropped.
+/// memory runs out. On an error, `pair` is dropped.
 pub fn guard(alloc: Global, pair: CminorPair) -> Result<CminorPair, GuardFault>
     requires exits { ExitsFit 0 (code_of pair) }
     requires fails_alike { FailsAlike (tree_of pair) pair.function (code_of pair) }

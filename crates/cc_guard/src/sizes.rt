@@ -1,4 +1,4 @@
-// Sizes of a unit's objects.
+// The sizes of a unit's objects.
 
 ghost use Rattle.std.specs.Prelude.{◌≡◌, ◌++◌, ◌∷◌, List, IfOk, OnOk};
 ghost use Rattle.cc_ast.specs.Erase.{object_tree, object_trees, external_tree, external_trees};
@@ -7,18 +7,18 @@ ghost use Rattle.cc_types.specs.Limits.{objects};
 ghost use Rattle.cc_types.specs.Typed.{IsTyped};
 ghost use Rattle.cc_types.specs.Types.{object_elements, object_width};
 ghost use Rattle.cc_words.specs.declared.operators.Width.{Width};
-ghost use Rattle.cc_c_laws.specs.Numbered.{objects_in};
+ghost use Rattle.cc_c_semantics.specs.Numbered.{objects_in};
 ghost use Rattle.cc_guard.specs.Guard.{elements_in};
 ghost use Rattle.cc_guard.specs.internal.Written.{sizes_of, declared_sizes, is_byte};
 
 use cc_ast::{External, Object};
-use cc_c_laws::names_have_numbers;
+use cc_c_semantics::names_have_numbers;
 use cc_resolve::object_width;
 use cc_types::object_elements;
 use cc_words::Width;
 use std::alloc::{AllocError, Global};
 
-/// The width of an object's elements, and how many there are.
+/// The size of an object: the width of its elements, and how many there are.
 #[derive(Clone, Copy)]
 pub struct ObjectSize {
     pub width: Width,
@@ -80,7 +80,7 @@ fn is_byte(width: Width) -> bool
     }
 }
 
-/// How many elements of a width an object has: 0 if its elements have the other width.
+/// How many elements of this width an object has: 0 if its elements have the other width.
 pub fn elements_in(sizes: &[ObjectSize], width: Width, object: usize) -> u32
     ensures { result ≡ elements_in (sizes_of sizes.now) width object }
 {

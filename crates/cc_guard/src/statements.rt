@@ -1,4 +1,4 @@
-// Statements, each with its guards in front of it, given the bounds known for variables there.
+// Statements, each with its guards before it, given the bounds known for variables at that point.
 //
 // The recursion is as deep as the tree: at most eight levels of Cminor for each of the source's 64.
 
@@ -10,13 +10,13 @@ ghost use Rattle.cc_guard.specs.Guard.{known_after, code_after};
 ghost use Rattle.cc_guard.specs.internal.Written.{SeesStatement, sizes_of};
 
 use crate::after::{after, head, meet, within};
-use crate::boxes::{boxed_statement, sequence};
+use crate::boxes::sequence;
 use crate::changed::{kept, leaves};
 use crate::expressions::{expression, expressions, index};
 use crate::guards::{Seen, begun, finished, note};
 use crate::known::Limit;
 use crate::sizes::ObjectSize;
-use cc_cminor::{Expression, Statement};
+use cc_cminor::{Expression, Statement, boxed_statement};
 use cc_words::Width;
 use std::alloc::{AllocError, Global};
 
@@ -124,7 +124,8 @@ pub struct Done {
     pub known: Vec<Limit>,
 }
 
-// Finds the bounds known after a statement by a separate walk, so this is only for statements that have no statements in them.
+// Returns this code as done. The bounds known after it are found by a separate walk, so this is only for statements without
+// statements in them.
 fn alone(
     alloc: Global,
     sizes: &[ObjectSize],
@@ -140,8 +141,8 @@ fn alone(
     Ok(Done { code, known })
 }
 
-/// A statement with its guards. `blocks` blocks are around it, its guards set variables from `first` on, and `known` are the
-/// bounds known before it.
+/// A statement with its guards. The statement is in `blocks` blocks, its guards set variables from `first` on, and `known` are
+/// the bounds known before it.
 #[cycle(statements)]
 pub fn statement(
     alloc: Global,

@@ -1,5 +1,5 @@
-// Which constants conditions compare with most often: each loop around a condition counts as eight turns. The choice needs no
-// proof.
+// The constants that conditions compare with most often. A condition counts eight times as much for each loop around it. Nothing
+// about the choice has to be proved.
 
 ghost use Rattle.std.specs.Prelude.{◌≤◌, length, IfOk};
 ghost use Rattle.cc_guard.specs.Held.{most_held};
@@ -8,13 +8,13 @@ use cc_cminor::{Expression, Statement};
 use cc_words::Binary;
 use std::alloc::{AllocError, Global};
 
-/// At most so many words are held in variables.
+/// At most this many words are held in variables.
 const MOST_HELD: usize = 8;
 
-// At most so many words are counted: in a function with more, the first ones.
+// At most this many words are counted: the first ones, if a function has more.
 const MOST_WEIGHED: usize = 64;
 
-// The least weight of a word that is chosen: that of one comparison in a loop.
+// The least weight with which a word is chosen: that of one comparison in a loop.
 const LEAST: u32 = 8;
 
 // A word, and how often conditions compare with it.
@@ -31,8 +31,8 @@ fn word_of(e: &Expression) -> Option<u32> {
     }
 }
 
-// Whether a branch on the operator takes one more instruction with this word than with a variable. 0 is in a register of the
-// machine, and some comparisons with 1 and -1 are made as comparisons with 0.
+// Whether a branch on the operator takes one more instruction with this word than with a variable. The machine has 0 in a
+// register, and some comparisons with 1 and -1 are made as comparisons with 0.
 fn gains(operator: Binary, word: u32) -> bool {
     match operator {
         Binary::Eq | Binary::Ne | Binary::Xor => word != 0,

@@ -31,7 +31,7 @@ planned text v is = ∣ record { verdict = v; is = is; plan_is = refl } ∣₁
 nothing_prop : IsProp ⊥
 nothing_prop = hlevel
 
--- an equation of such results holds if it is known that there is one
+-- two such results are equal if it is known that an equation between them exists
 known : (a b : Result ℕ ℕ) → ∥ a ≡ b ∥₁ → a ≡ b
 known (Ok m) (Ok n) e = ap Ok (∥∥₁_elim e (ℕ_set m n) (λ (h : ◌≡◌ {A = Result ℕ ℕ} (Ok m) (Ok n)). cc))
 known (Err m) (Err n) e = ap Err (∥∥₁_elim e (ℕ_set m n) (λ (h : ◌≡◌ {A = Result ℕ ℕ} (Err m) (Err n)). cc))
@@ -81,7 +81,7 @@ type_refused text (typing.Undefined p) (inr h) = not_typed text (typing.Undefine
 type_refused text (typing.TooMany p) (inl e) = absurd (cc)
 type_refused text (typing.TooMany p) (inr h) = not_typed text (typing.TooMany p) h
 
--- 40 claims nothing
+-- a text that is refused has this plan; 40 claims nothing
 pub refused : (text : List ℕ) (fault : TextFault) → IsTextRefusal text fault → RefusesPlan (refused_by (text_fault_number fault)) (IsPlan text)
 refused text (link.Syntax fault) h = text_refused text fault h
 refused text (link.Typing fault) h = type_refused text fault h
@@ -96,7 +96,7 @@ none_past zero (x ∷ names) e = absurd (let l = ap length e in let f : 1 ≡ 0 
 none_past (suc n) [] e = omega arith
 none_past (suc n) (x ∷ names) e = let h = none_past n names e in omega arith
 
--- within the limits there are at most 64 functions
+-- a unit within the limits has at most 64 functions
 pub few_functions : (s : Source) → IsWithinLimits s.externals → length (defined_names s) ≤ 64
 few_functions s limits =
     let rest = (both_empty (externals_excesses s.externals) (past 64 (function_names s.externals) ++ word_excesses 0 (objects s.externals)) limits).1 in

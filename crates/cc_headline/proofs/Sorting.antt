@@ -1,5 +1,5 @@
--- A compiled unit's pieces, put in the order of definitions, are all pieces of its source, and they link to the same unit as in the order
--- in which they came.
+-- A compiled unit's pieces, put in the order of definitions, are all the pieces of its source, and they link to the same unit as
+-- in the order in which they came.
 use Rattle.std.proofs.Common.{◌≡◌, ℕ, zero, suc, ◌+◌, ◌<◌, ◌≤◌, ◌⊎◌, inl, inr, Bool, true, false, if◌then◌else◌, List, [], ◌∷◌, length, Option, Some, None, Result, Ok, Err, refl, sym, ap, ◌∙◌, subst, arith}
 use Rattle.std.specs.Prelude.{◌==◌, is_some, slice_get}
 use Rattle.std.specs.Coded.{Coded-set}
@@ -12,9 +12,9 @@ use Rattle.cc_ast.specs.Tree.{Source}
 use Rattle.cc_ast.specs.Source.{source}
 use Rattle.cc_ast.specs.Limits.{TreesAreOne}
 use Rattle.cc_ast.specs.Parse.{SpellsText}
-use Rattle.cc_c_laws.specs.declared.mode.Mode.{Mode}
-use Rattle.cc_c_laws.specs.Meaning.{functions}
-use Rattle.cc_c_laws.specs.Calls.{TypedUnitsHaveMain}
+use Rattle.cc_c_semantics.specs.declared.mode.Mode.{Mode}
+use Rattle.cc_c_semantics.specs.Meaning.{functions}
+use Rattle.cc_c_semantics.specs.Calls.{TypedUnitsHaveMain}
 use Rattle.cc_unit.specs.declared.unit.StoredUnit.{StoredUnit}
 use Rattle.cc_unit.specs.contracts.unit.StoredUnit as stored
 use Rattle.cc_emit.specs.Piece.{Piece}
@@ -66,7 +66,7 @@ split ps from count e = by (piece_of ps from) refl e
     by None is h = absurd (subst IsNone (sym h) tt)
     by (Some p) is h = (p, is, h)
 
--- ---- all of them, in order
+-- ---- all pieces, in order
 
 record IsSorted (mode : Mode) (text : List ℕ) (ps : List Piece) (from count : ℕ) : Type 0 where
   pieces : List Piece
@@ -156,7 +156,7 @@ texts : (mode : Mode) (text : List ℕ) (from : ℕ) (ps : List Piece) → AreFr
 texts mode text from [] own = tt
 texts mode text from (p ∷ ps) own = (own.0, texts mode text (suc from) ps own.2)
 
--- ---- the whole
+-- ---- the whole unit
 
 module _ (tokens : TokensAreOne) (trees : TreesAreOne) (mains : TypedUnitsHaveMain) (follow : LinkedUnitsFollow) (agree : AgreeInAgree) where
   pub made_built : (unit : StoredUnit) → length unit.source ≤ 65536 → IsMade unit → IsBuilt build.compiling build.Keeps unit

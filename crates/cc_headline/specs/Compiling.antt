@@ -21,13 +21,14 @@ abbrev pub numbered : Result StoredUnit LinkFault → Result StoredUnit ℕ
 numbered (Ok unit) = Ok unit
 numbered (Err fault) = Err (link_fault_number fault)
 
--- the unit that pieces give: what they are linked to for the first one's unit and mode, if that unit is of the source; else the refusal 28;
--- and the refusal 26 if there is no piece
+-- the unit that pieces give: they are linked for the unit and in the mode of the first one, if that unit is of the source;
+-- otherwise they are refused with 28, and with 26 if there is no piece
 abbrev pub unit_of : List ℕ → List Piece → Result StoredUnit ℕ
 unit_of text [] = Err 26
 unit_of text (piece ∷ pieces) = if same_bytes (text_of piece) text then numbered (linked_in piece.mode (source piece.unit) (piece ∷ pieces)) else Err 28
 
--- a source has a piece for each function that it defines, by its number in the order of definitions; and pieces are linked
+-- a source has a piece for each function that it defines, which is known by the function's number in the order of definitions;
+-- and pieces are linked
 abbrev pub compiling : Rules Piece
 compiling = record { plan = IsPlan; source_of = text_of; part_of = λ piece. piece.function; unit = unit_of }
 

@@ -1,4 +1,4 @@
--- the number of pieces of a source, or the number that refuses it
+-- the number of pieces of a source, or the number with which it is refused
 pub mod Plan
 -- the rules of the build that compiles, and what a piece keeps
 pub mod Compiling

@@ -1,4 +1,4 @@
--- The number of pieces of a source, or the number that refuses it, as `parse` and then `check` answer.
+-- The number of pieces of a source, or the number with which it is refused, as `parse` and then `check` answer.
 use Rattle.std.specs.Prelude.{ℕ, ◌≡◌, List, length, Result, Ok, Err}
 use Rattle.cc_tokens.specs.Fault as syntax
 use Rattle.cc_types.specs.Fault as typing
@@ -11,7 +11,7 @@ pieces_of (NoTree fault) = Err (syntax.fault_number fault)
 pieces_of (NotTyped fault) = Err (typing.fault_number fault)
 pieces_of (Program tree) = Ok (length (function_names tree))
 
--- this follows from the text's verdict
+-- the plan follows from the text's verdict
 pub record IsPlanBy (text : List ℕ) (plan : Result ℕ ℕ) : Type 0 where
   pub verdict : Verdict
   pub is : IsVerdict text verdict

@@ -12,7 +12,8 @@ use Rattle.cc_emit.specs.Piece.{Piece}
 use Rattle.cc_link.specs.Made.{IsCompiled}
 use Rattle.cc_headline.specs.Compiling.{compiling, is_right}
 
--- it holds after every list of events, from a fresh disk or from an opened one, for the library with which the run began and the core
+-- `Holds` is true after every list of events, from a fresh disk or from an opened one, for the library with which the run began
+-- and for the core after it
 abbrev pub AfterEveryRun : (Units → Core → Type 0) → Type 0
 AfterEveryRun Holds =
     (first new : Contents Piece) (events : List (Event Piece)) → IsBeginning first → Run compiling IsCompiled first events new → Holds first.core.library new.core
@@ -21,7 +22,7 @@ AfterEveryRun Holds =
 abbrev pub EachUnitAgrees : Core → Type 0
 EachUnitAgrees s = (image : List ℕ) (library : Units) → IsImage s.store.cells image → Recovers image library → EachUnit is_right library
 
--- they do if the units that were found at the opening do
+-- all units agree if those that were found at the opening do
 abbrev pub AgreesWhereFound : Units → Core → Type 0
 AgreesWhereFound found s = EachUnit is_right found → EachUnitAgrees s
 

@@ -42,7 +42,7 @@ impl Build for CcBuild {
     }
 
     fn names(&self, piece: &Piece, source: &[u8], part: u32) -> bool {
-        // What a piece keeps is what its type and its unit's type keep, and what linking promises.
+        // The facts that a piece keeps are those that its type and its unit's type keep, and what linking promises.
         linked_units_follow();
         let _kept = piece.items();
         let _kept = piece.unit().externals();
@@ -72,8 +72,8 @@ impl Build for CcBuild {
     ghost law = { whole_units_agree };
 }
 
-/// The number of pieces of a source, or the number that refuses it, is determined: a text has exactly one plan, as it has exactly one
-/// verdict.
+/// The number of pieces of a source, or the number with which it is refused, is determined: a text has exactly one plan, as it
+/// has exactly one verdict.
 pub fn texts_have_one_plan()
     ensures some { (text : List ℕ) → (plan : Result ℕ ℕ) × IsPlan text plan }
     ensures one { (text : List ℕ) (a b : Result ℕ ℕ) → IsPlan text a → IsPlan text b → a ≡ b }

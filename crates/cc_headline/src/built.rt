@@ -2,7 +2,7 @@
 
 ghost use Rattle.cc_headline.specs.Built.{MadeUnitsAreBuilt};
 
-use cc_c_laws::programs_call_main;
+use cc_c_semantics::programs_call_main;
 use cc_link::linked_units_follow;
 use cc_syntax::trees_are_determined;
 use cc_tokens::tokens_are_determined;

@@ -21,14 +21,15 @@ use std::alloc::Global;
 /// fresh disk or from one that was opened with a library on it. Each command that goes into the order has a spelling, as the types of names
 /// and units keep.
 pub fn headline<B: Build>()
-    // Whatever a crash leaves of the disk recovers: to the library of a prefix of the commands in the order of their commits, which has
-    // every acknowledged command and lacks at most the last one. This holds for any build, so also for the one that compiles, whatever
-    // pieces workers hand in, and whatever units were found at the opening. To read it, nothing about C is needed.
+    // Whatever a crash leaves of the disk recovers to the library of a prefix of the commands, in the order of their commits. The
+    // prefix has every acknowledged command and lacks at most the last one. This holds for any build, so also for the one that
+    // compiles, whatever pieces workers hand in, and whatever units were found at the opening. Reading it takes no knowledge of
+    // C.
     ensures survives { (first new : Contents B.Piece) (events : List (Event B.Piece))
         → IsBeginning first → Run B.rules IsAnyPiece first events new → EachImageSurvives new.core }
-    // With the build that compiles, if the units found at the opening agree with their sources: each recovered unit, when it runs, does
-    // what its stored C source says. Nothing is owed on an input on which that source goes wrong: `a[3] = 5` on `int a[3]` may write what
-    // lies next to `a`.
+    // With the build that compiles, if the units found at the opening agree with their sources, each recovered unit, when it
+    // runs, does what its stored C source says. Nothing is promised for an input on which that source goes wrong: `a[3] = 5` on
+    // `int a[3]` may write what lies next to `a`.
     ensures agrees { AfterEveryRun AgreesWhereFound }
     // Whatever was found at the opening: each recovered unit is one of those, or agrees with its source.
     ensures units { AfterEveryRun IsFoundOrAgrees }
@@ -46,9 +47,9 @@ pub fn run(
     events: Vec<Event<Piece>>,
 ) -> Result<State<CcBuild>, CoreFault>
     ensures run { IfOk result (λ new. Run compiling Keeps state events.items new) }
-    // Whatever a crash leaves of the disk recovers, to a library that has every acknowledged command.
+    // Whatever a crash leaves of the disk recovers to a library that has every acknowledged command.
     ensures survives { IfOk result (λ new. EachImageSurvives new.core) }
-    // Each unit of it agrees with its stored source.
+    // Each unit of that library agrees with its stored source.
     ensures agrees { IfOk result (λ new. EachUnitAgrees new.core) }
     ensures refused { IfErr result (λ fault. fault ≡ CoreFault.OutOfMemory) }
 {

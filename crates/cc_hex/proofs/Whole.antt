@@ -39,7 +39,7 @@ block_first base a words text cells few low begins others =
     let count : length bytes ≡ 4 * length words = long words in
     rows_first ((length bytes + 15) / 16) base a bytes text cells (words_bytes words) (omega arith) (omega arith) (omega arith) (inl begins) others
 
--- what a text says from the first base address on is what it says
+-- what a text says from the base address 0 on is what `read` gives
 told : (text : List ℕ) (cells : List AddressedByte) → Tells 0 text cells → read text ≡ Some cells
 unfolding read
 told text cells h =

@@ -5,7 +5,7 @@ use Rattle.std.proofs.lemmas.List.Concat.{flat_map-append}
 use Rattle.std.proofs.lemmas.List.Sums.{sum_by_from}
 use Rattle.cc_hex.specs.Layout.{two_digits, checksum, unsummed, record_line}
 
--- if the last write succeeded, the text is the whole
+-- if the last write succeeded, the text is complete
 pub ended : {T E : Type 0} (r : Result T E) (old tail new all : List ℕ) → new ≡ (if is_ok r then old ++ tail else old) → old ++ tail ≡ all → OnOk r (new ≡ all)
 ended (Ok x) old tail new all e f = e ∙ f
 ended (Err x) old tail new all e f = tt

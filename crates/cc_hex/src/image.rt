@@ -17,7 +17,7 @@ const ROW: usize = 16;
 /// values from 0x00200000 on, zeros included; the lowest byte of each word comes first. A record has 16 bytes of data, digits are
 /// in upper case, and each line ends in a line feed. An extended linear address record precedes each block of 65,536 addresses.
 pub fn write(alloc: Global, image: &Image) -> Result<Vec<u8>, AllocError>
-    // Read by the format's definition, the text has the image's byte once at each address, and nothing at any other address.
+    // Read as the format defines it, the text has the image's byte once at each address, and nothing at any other address.
     ensures holds { IfOk result (λ text. Holds text.items image.now) }
     // The bytes are in order of address.
     ensures says { IfOk result (λ text. Says text.items image.now) }
@@ -76,7 +76,7 @@ fn push_row(text: &mut Vec<u8>, address: u32, bytes: &[u8]) -> Result<(), AllocE
     push_record(text, RecordType::Data, (address % 65536) as u16, bytes)
 }
 
-/// Writes the upper half of an address, if a new one begins there.
+/// Writes the upper half of an address, if a new upper half begins there.
 fn push_base(text: &mut Vec<u8>, address: u32) -> Result<(), AllocError>
     ensures { OnOk result (text.new.items ≡ text.old.items ++ base_line address) }
 {

@@ -6,16 +6,15 @@ use Rattle.std.specs.Cmp.Lexicographic.{slice_cmp, nat_list_cmp_total}
 use Rattle.std.specs.FinMap.{get, insert, remove, contains_key, get-insert, get-remove}
 use Rattle.cc_unit.specs.declared.unit.StoredUnit.{StoredUnit}
 use Rattle.cc_link.specs.Agree.{Agree}
-use Rattle.cc_library.specs.declared.command.LibraryCommand as made
+use Rattle.cc_library.specs.Change as made
 use Rattle.cc_library.specs.Apply.{Units, apply, after, after_all, kept, exists, absent}
-use Rattle.cc_history.specs.declared.command.Command.{Command}
-use Rattle.cc_history.specs.declared.command.Command.TheVariants.{Add, Replace, Withdraw}
+use Rattle.cc_library.specs.declared.command.Change.TheVariants.{Add, Replace, Withdraw}
 use Rattle.cc_history.specs.declared.command.Asked.{Asked}
 use Rattle.cc_history.specs.declared.command.Asked.TheVariants.{Change, Fetch, Names}
 use Rattle.cc_history.specs.declared.reply.Reply.{Reply}
 use Rattle.cc_history.specs.declared.reply.Reply.TheVariants as reply
 use Rattle.cc_history.specs.declared.entry.Entry.{Entry}
-use Rattle.cc_history.specs.Calls.{HasAgreed, HasAgreedUnit, change_of, changes_of, done_by}
+use Rattle.cc_history.specs.Calls.{Command, HasAgreed, HasAgreedUnit, changes_of, done_by}
 use Rattle.cc_history.specs.History.{EachAgrees, HaveAgreed, changes, units_after}
 use Rattle.cc_history.proofs.Histories.{after_all-append}
 
@@ -48,7 +47,7 @@ or_else : (base one : Units) (there : Bool) (number : ℕ) → EachAgrees base o
 or_else base one true number made = made
 or_else base one false number made = same base
 
-changed : (base : Units) (command : Command) → HasAgreed command → EachAgrees base (after base (change_of command))
+changed : (base : Units) (command : Command) → HasAgreed command → EachAgrees base (after base command)
 changed base (Add name unit) agrees = either base (insert base name unit) (contains_key base name) exists (inserted base name unit agrees)
 changed base (Replace name unit) agrees = or_else base (insert base name unit) (contains_key base name) absent (inserted base name unit agrees)
 changed base (Withdraw name) agrees = or_else base (remove base name) (contains_key base name) absent (removed base name)

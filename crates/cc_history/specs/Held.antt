@@ -1,8 +1,8 @@
 -- The bytes for which a history is counted.
 use Rattle.std.specs.Prelude.{ℕ, ◌+◌, ◌*◌, ◌-◌, ◌^◌, min, List, length, sum_by, Option, Some, None}
 use Rattle.cc_unit.specs.declared.unit.StoredUnit.{StoredUnit}
-use Rattle.cc_history.specs.declared.command.Command.{Command}
-use Rattle.cc_history.specs.declared.command.Command.TheVariants.{Add, Replace, Withdraw}
+use Rattle.cc_history.specs.Calls.{Command}
+use Rattle.cc_library.specs.declared.command.Change.TheVariants.{Add, Replace, Withdraw}
 use Rattle.cc_history.specs.declared.command.Asked.{Asked}
 use Rattle.cc_history.specs.declared.command.Asked.TheVariants.{Change, Fetch, Names}
 use Rattle.cc_history.specs.declared.reply.Reply.{Reply}
@@ -47,6 +47,6 @@ entry_bytes entry = 256 + asked_bytes entry.asked + reply_bytes entry.reply
 abbrev pub receipts_bytes : List Receipt → ℕ
 receipts_bytes receipts = sum_by (λ receipt. entry_bytes receipt.entry) receipts
 
--- this many, or the most that a number of 64 bits can be
+-- this many, or the largest number of 64 bits if there are more
 abbrev pub at_most_told : ℕ → ℕ
 at_most_told bytes = min bytes (2 ^ 64 - 1)

@@ -14,7 +14,7 @@ use cc_link::{Certificate, StoredUnit};
 // An entry counts this many bytes, without its unit or its names.
 const ENTRY_BYTES: u64 = 256;
 
-// A name counts this many bytes, as it takes in memory.
+// A name counts this many bytes, which is what it takes in memory.
 const NAME_BYTES: u64 = 48;
 
 fn certificate_held(certificate: &Option<Certificate>) -> u64

@@ -1,5 +1,5 @@
--- What bytes that were read ahead say of the bytes of a disk. How: they are a prefix of the disk's bytes from their offset on, and
--- a part of a prefix is one too.
+-- What bytes that were read ahead show about the bytes of a disk. How: they are a prefix of the disk's bytes from their offset
+-- on, and each part of them is a prefix of what is at its own offset.
 use Rattle.std.proofs.Common.{◌≡◌, ◌⊎◌, ℕ, ◌+◌, ◌-◌, ◌≤◌, List, [], ◌∷◌, ◌++◌, length, get_or, take, drop, ⊎_elim, Err, refl, sym, ◌∙◌, ap, subst, arith, append_assoc, length-append}
 use Rattle.std.proofs.Math.Seq.{take-add}
 use Rattle.std.proofs.lemmas.List.{drop-drop, drop-take, drop_all, length-drop, length-take-le, take-take, take_all, take_at}
@@ -7,7 +7,7 @@ use Rattle.cc_journal.specs.internal.Reading.{FindsRecord, IsBytesFault, IsReadi
 use Rattle.cc_journal.specs.declared.fault.JournalFault.{JournalFault}
 use Rattle.cc_journal.specs.declared.fault.JournalFault.TheVariants.{Full, DiskFault, Closed, Damaged, NotALibrary, OutOfMemory}
 
--- these are the first of those
+-- `prefix` has the first bytes of `all`
 abbrev IsPrefix : (prefix all : List ℕ) → Type 0
 IsPrefix prefix all = prefix ≡ take (length prefix) all
 
@@ -34,17 +34,17 @@ prefix_behind k prefix all is =
     (λ past. let none : drop k prefix ≡ [] = drop_all k prefix past in none ∙ ap (λ (l : List ℕ). take (length l) (drop k all)) (sym none))
     (at_most_or_more k (length prefix))
 
--- what a window shows from a later offset on
+-- a window also shows what is at a later offset
 pub shows_from : (offset later m : ℕ) (bytes seen : List ℕ) → offset ≤ later → Shows offset bytes seen → Shows later (take m (drop (later - offset) bytes)) seen
 shows_from offset later m bytes seen le shown =
     let same : drop (later - offset) (drop offset seen) ≡ drop later seen = drop-drop (later - offset) offset seen ∙ ap (λ (n : ℕ). drop n seen) (omega arith) in
     subst (λ (l : List ℕ). IsPrefix (take m (drop (later - offset) bytes)) l) same (prefix_of_prefix m (drop (later - offset) bytes) (drop (later - offset) (drop offset seen)) (prefix_behind (later - offset) bytes (drop offset seen) shown))
 
--- the first of what is shown
+-- the first m of the bytes that are shown
 pub shows_first : (offset m : ℕ) (bytes seen : List ℕ) → Shows offset bytes seen → Shows offset (take m bytes) seen
 shows_first offset m bytes seen shown = prefix_of_prefix m bytes (drop offset seen) shown
 
--- bytes that are shown and those behind them
+-- the bytes that a window shows, followed by those that were read after them
 pub shown_and_read : (offset done count : ℕ) (first rest seen : List ℕ) → Shows offset first seen → length first ≡ done → done ≤ count
     → rest ≡ take (count - done) (drop (offset + done) seen) → first ++ rest ≡ take count (drop offset seen)
 shown_and_read offset done count first rest seen shown long le read =
@@ -53,11 +53,11 @@ shown_and_read offset done count first rest seen shown long le read =
     let sum : done + (count - done) ≡ count = omega arith in
     (λ i. prefix i ++ behind i) ∙ sym (take-add done (count - done) (drop offset seen)) ∙ ap (λ (n : ℕ). take n (drop offset seen)) sum
 
--- a window that shows nothing
+-- a window without bytes is right for every disk
 pub shows_none : (offset : ℕ) (bytes seen : List ℕ) → bytes ≡ [] → Shows offset bytes seen
 shows_none offset bytes seen none = none ∙ ap (λ (l : List ℕ). take (length l) (drop offset seen)) (sym none)
 
--- what stands in a list that was filled up behind its first bytes
+-- what is in a list that was filled up after its first d bytes
 pub filled : (d n : ℕ) (bytes read rest tail : List ℕ) → d ≤ length bytes → n ≡ d + length read → take n ((take d bytes ++ (read ++ rest)) ++ tail) ≡ take d bytes ++ read
 filled d n bytes read rest tail le size =
     let first = take d bytes in
@@ -68,7 +68,7 @@ filled d n bytes read rest tail le size =
 pub read_as : (buffer l : List ℕ) (n m : ℕ) → buffer ≡ take n l → n ≡ m → buffer ≡ take m l
 read_as buffer l n m is same = is ∙ ap (λ (k : ℕ). take k l) same
 
--- what reading one record finds where its bytes were not read
+-- if a record's bytes could not be read, a fault is a right answer
 pub finds_none : (bytes : List ℕ) (left : ℕ) (fault : JournalFault) → IsBytesFault fault → FindsRecord bytes left (Err fault)
 finds_none bytes left DiskFault is = tt
 finds_none bytes left OutOfMemory is = tt
@@ -87,7 +87,7 @@ reading_of_bytes NotALibrary is = absurd is
 
 -- ---- a record's gate and length
 
--- the first byte that is shown
+-- the first byte that is shown is the gate
 pub prefix_gate : (prefix bytes : List ℕ) → IsPrefix prefix bytes → 1 ≤ length prefix → bytes ≡ get_or prefix 0 0 ∷ drop 1 bytes
 prefix_gate [] bytes is some = absurd (omega arith)
 prefix_gate (x ∷ prefix) [] is some = cc

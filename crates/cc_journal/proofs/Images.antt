@@ -1,5 +1,5 @@
--- What the images of a commit hold. How: a disk that holds records is a prefix, the closed gate, and the bytes after it; a
--- commit changes the bytes after the gate, and then the gate alone.
+-- What the images of a commit hold. How: a disk that holds records is a prefix, the closed gate, and the bytes after it; an
+-- append changes the bytes after the gate, and then only the gate.
 use Rattle.std.proofs.Common.{◌≡◌, ◌≢◌, inl, inr, ⊎_elim, ℕ, ◌+◌, ◌*◌, ◌%◌, ◌<◌, ◌≤◌, List, [], ◌∷◌, ◌++◌, length, get_or, take, drop, sym, ◌∙◌, ap, subst, arith, length-append, append_assoc, take-append-drop}
 use Rattle.std.proofs.lemmas.Bool.{cases_eq}
 use Rattle.std.proofs.lemmas.List.{take_at, drop_at, drop_more, length-take-le, length-drop, take-append-le}
@@ -12,7 +12,7 @@ use Rattle.cc_journal.specs.Commit.{append_commit, IsCommitted}
 use Rattle.cc_journal.specs.internal.Commit.{IsMidCommit}
 use Rattle.cc_journal.proofs.Records.{length-header, length-four_bytes, records_push, length-records_push, holds_alone}
 
--- the bytes that a commit puts after a gate
+-- the bytes that an append puts after a gate
 abbrev pub frame : List ℕ → List ℕ
 frame body = to_le_bytes w32 (length body) ++ (body ++ 0 ∷ [])
 
@@ -22,13 +22,13 @@ length-frame body = omega (arith, length-append (to_le_bytes w32 (length body)) 
 -- ---- two writes
 
 module _ (old new : List ℕ) where
-  -- a write within keeps the length
+  -- a write within the bytes keeps their length
   pub length_written : (offset : ℕ) (bytes : List ℕ) → offset + length bytes ≤ length old → IsWritten old offset bytes new → length new ≡ length old
   length_written offset bytes fits is =
       ap length is ∙ length-append (take offset old) (bytes ++ drop (offset + length bytes) old)
       ∙ omega (arith, fits, length-append bytes (drop (offset + length bytes) old), length-take-le offset old (omega (arith, fits)), length-drop (offset + length bytes) old)
 
-  -- it leaves what stands before its range and behind it
+  -- a write leaves what is before its range and after it
   pub written_differs : (offset : ℕ) (bytes : List ℕ) → offset + length bytes ≤ length old → IsWritten old offset bytes new → DiffersWithin offset (length bytes) old new
   written_differs offset bytes fits is =
       let Z = drop (offset + length bytes) old in
@@ -40,7 +40,7 @@ module _ (old new : List ℕ) where
         size = length_written offset bytes fits is;
       }
 
-  -- a byte that is written right before what was written before it: both are one write
+  -- if a byte is written right before bytes that were written before, both are one write
   pub in_one_write : (staged : List ℕ) (gate byte : ℕ) (bytes : List ℕ) → gate + 1 + length bytes ≤ length old → IsWritten old (gate + 1) bytes staged → IsWritten staged gate (byte ∷ []) new → IsWritten old gate (byte ∷ bytes) new
   in_one_write staged gate byte bytes fits first second =
       let Z = drop (gate + 1 + length bytes) old in
@@ -56,7 +56,7 @@ module _ (image : List ℕ) (start area used : ℕ) (bodies : List (List ℕ)) (
   abbrev h : HoldsRecords image area bodies
   h = from.holds
 
-  -- the bytes in front of the closed gate
+  -- the bytes before the closed gate
   abbrev prefix : List ℕ
   prefix = header h.area_byte area ++ (h.other ++ records bodies)
 
@@ -83,7 +83,7 @@ module _ (image : List ℕ) (start area used : ℕ) (bodies : List (List ℕ)) (
     is_area = subst (λ (n : ℕ). IsArea n area) (sym long) h.is_area;
   }
 
-  -- with the new one after it and its gate open it holds the new one too
+  -- with the new record after the old ones and its gate open, an image holds the new one too
   pub holds_new : (other body behind : List ℕ) → length other ≡ length image → used + length body + 6 ≤ area → other ≡ prefix ++ open_gate ∷ (frame body ++ behind) → HoldsFrom other start area (bodies ++ body ∷ [])
   holds_new other body behind long room is = record {
     holds = record {
@@ -110,14 +110,14 @@ module _ (image : List ℕ) (start area used : ℕ) (bodies : List (List ℕ)) (
   prefix_gate : prefix ++ h.gate ∷ [] ≡ take (start + used + 1) image
   prefix_gate = sym (ap (λ (l : List ℕ). take (start + used + 1) l) (in_two ∙ sym (append_assoc prefix (h.gate ∷ []) h.behind)) ∙ take_at (prefix ++ h.gate ∷ []) h.behind (start + used + 1) (omega (arith, length-append prefix (h.gate ∷ []), length-prefix)))
 
-  -- the body's write leaves the closed gate in front of whatever it leaves
+  -- the write of the body leaves the closed gate, whatever else it leaves
   pub behind_gate : (other : List ℕ) (n : ℕ) → DiffersWithin (start + used + 1) n image other → HoldsRecords other area bodies
   behind_gate other n differs =
       let is : other ≡ prefix ++ h.gate ∷ drop (start + used + 1) other =
       sym (take-append-drop (start + used + 1) other) ∙ ap (λ (l : List ℕ). l ++ drop (start + used + 1) other) (differs.before ∙ sym prefix_gate) ∙ append_assoc prefix (h.gate ∷ []) (drop (start + used + 1) other) in
       holds_old other h.gate (drop (start + used + 1) other) differs.size is h.closed
 
-  -- the gate's write leaves the old records, or the old ones and the new one
+  -- the write of the gate leaves the old records, or the old ones and the new one
   pub at_gate : (body written other : List ℕ) → used + length body + 6 ≤ area → IsWritten image (start + used + 1) (frame body) written → length written ≡ length image → DiffersWithin (start + used) 1 written other
       → HoldsOldOrNew area bodies body other
   at_gate body written other room is long differs =
@@ -136,7 +136,7 @@ module _ (image : List ℕ) (start area used : ℕ) (bodies : List (List ℕ)) (
       (λ shut. inl (holds_alone other area bodies (holds_old other x (frame body ++ Z) (differs.size ∙ long) whole shut)))
       (cases_eq x open_gate)
 
-  -- a write within the image keeps its length
+  -- a write within the image keeps the image's length
   pub length-written : (offset : ℕ) (bytes written : List ℕ) → offset + length bytes ≤ length image → IsWritten image offset bytes written → length written ≡ length image
   length-written offset bytes written fits is =
       ap length is ∙ length-append (take offset image) (bytes ++ drop (offset + length bytes) image)
@@ -156,7 +156,7 @@ module _ (image : List ℕ) (start area used : ℕ) (bodies : List (List ℕ)) (
   mid_commit body other room (inr (written, is, differs)) =
       at_gate body written other room is (length-written (start + used + 1) (frame body) written (omega (arith, in_area (1 + length (frame body)) (omega (arith, room, length-frame body)))) is) differs
 
-  -- a commit that was done
+  -- what one write of a whole record leaves: the old records and the new one
   pub committed : (body written : List ℕ) → used + length body + 6 ≤ area → IsWritten image (start + used) (open_gate ∷ frame body) written → HoldsFrom written start area (bodies ++ body ∷ [])
   committed body written room is =
       let Z = drop (start + used + length (open_gate ∷ frame body)) image in
@@ -164,7 +164,7 @@ module _ (image : List ℕ) (start area used : ℕ) (bodies : List (List ℕ)) (
       (length-written (start + used) (open_gate ∷ frame body) written (omega (arith, in_area (1 + length (frame body)) (omega (arith, room, length-frame body)))) is)
       room (is ∙ ap (λ (l : List ℕ). l ++ open_gate ∷ (frame body ++ Z)) take-prefix)
 
-  -- the commit of an append that was made: one write of the record, its gate open, and a closed gate
+  -- an append that was committed is one write of the record, its gate open, and a closed gate
   pub appended : (body new : List ℕ) → used + length body + 6 ≤ area → IsCommitted (append_commit (start + used) body) image new → IsWritten image (start + used) (open_gate ∷ frame body) new
   appended body new room done =
       in_one_write image new done.0 (start + used) open_gate (frame body) (omega (arith, in_area (1 + length (frame body)) (omega (arith, room, length-frame body)))) done.1 done.2

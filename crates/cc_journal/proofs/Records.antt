@@ -1,5 +1,5 @@
--- At most one list of records stands in an image. How: a header, and a record, at the start of two equal lists are equal,
--- since they tell their own lengths; so of two lists of records in front of the same bytes one goes on from the other.
+-- An image holds at most one list of records. How: if two equal lists both begin with a header or a record, these are equal,
+-- since they state their own lengths. So if the same bytes begin with two lists of records, one of these continues the other.
 use Rattle.std.proofs.Common.{◌≡◌, ◌≢◌, ℕ, zero, suc, ◌+◌, ◌*◌, ◌%◌, ◌^◌, ◌<◌, ◌≤◌, List, [], ◌∷◌, ◌++◌, length, get_or, take, drop, refl, sym, ◌∙◌, ap, arith, length-append, append_assoc, drop-cons}
 use Rattle.std.proofs.lemmas.List.{take_at, drop_at}
 use Rattle.std.proofs.lemmas.Nat.{from_le_bytes-to_le_bytes_4}
@@ -22,7 +22,7 @@ length-four_bytes n = refl
 pub length-header : (area_byte area : ℕ) → length (header area_byte area) ≡ 16
 length-header area_byte area = refl
 
--- a header tells its own fields
+-- two headers at the start of the same bytes have the same fields
 pub header_same : (b a c d : ℕ) (rest others : List ℕ) → a < 2 ^ 32 → d < 2 ^ 32 → header b a ++ rest ≡ header c d ++ others → (b ≡ c) × (a ≡ d) × (rest ≡ others)
 header_same b a c d rest others small-a small-d same =
     let parts = split_same (header b a) rest (header c d) others refl same in
@@ -51,7 +51,7 @@ records_push bodies body = records-append bodies (body ∷ []) ∙ ap (λ (l : L
 pub length-records_push : (bodies : List (List ℕ)) (body : List ℕ) → length (records (bodies ++ body ∷ [])) ≡ length (records bodies) + (length body + 5)
 length-records_push bodies body = ap length (records_push bodies body) ∙ length-append (records bodies) (record_bytes body) ∙ ap (λ (k : ℕ). length (records bodies) + k) (length-record_bytes body)
 
--- going over records from the start
+-- going through a list of records from its start
 pub next_body : (bodies : List (List ℕ)) (i : ℕ) (body : List ℕ) → i < length bodies → body ≡ get_or bodies i body → drop i bodies ≡ body ∷ drop (i + 1) bodies
 next_body bodies i body within is =
     let k : suc i ≡ i + 1 = omega arith in
@@ -68,7 +68,7 @@ length-records_next bodies i body within is =
     ap (λ (l : List (List ℕ)). length (records l)) (next_body bodies i body within is)
     ∙ length-append (record_bytes body) (records (drop (i + 1) bodies)) ∙ ap (λ (n : ℕ). n + length (records (drop (i + 1) bodies))) (length-record_bytes body)
 
--- a record tells its own body
+-- two records at the start of the same bytes have the same body
 pub record_same : (x y : List ℕ) (rest others : List ℕ) → length x < 2 ^ 32 → length y < 2 ^ 32 → record_bytes x ++ rest ≡ record_bytes y ++ others → (x ≡ y) × (rest ≡ others)
 record_same x y rest others small-x small-y same =
     let whole : to_le_bytes w32 (length x) ++ (x ++ rest) ≡ to_le_bytes w32 (length y) ++ (y ++ others) =
@@ -79,7 +79,7 @@ record_same x y rest others small-x small-y same =
 first_same : (x y : ℕ) (xs ys : List ℕ) → x ∷ xs ≡ y ∷ ys → x ≡ y
 first_same x y xs ys same = cc
 
--- records that stand in front of a closed gate go on from any that stand in front of the same bytes
+-- if bytes begin with records, and also with other records and a closed gate, the others continue the first ones
 pub records_prefix : (bodies others : List (List ℕ)) (bytes : List ℕ) (gate : ℕ) (behind : List ℕ)
     → length (records bodies) < 2 ^ 32 → length (records others) < 2 ^ 32 → gate ≢ open_gate → records bodies ++ bytes ≡ records others ++ gate ∷ behind
     → (more : List (List ℕ)) × (others ≡ bodies ++ more) × (bytes ≡ records more ++ gate ∷ behind)

@@ -1,5 +1,5 @@
--- What reading one record after the other comes to. How: the bytes of the area are the records read so far and the rest;
--- any list of records in front of the same bytes goes on from those that were read.
+-- What is found by reading one record after the other. How: the bytes of the area are the records read so far, followed by the
+-- rest; any list of records with which they begin continues those that were read.
 use Rattle.std.proofs.Common.{◌≡◌, Bool, IsTrue, Err, if◌then◌else◌, ℕ, ◌+◌, ◌-◌, ◌*◌, ◌%◌, ◌^◌, ◌<◌, ◌≤◌, List, [], ◌∷◌, ◌++◌, length, take, drop, refl, sym, ◌∙◌, ap, arith, length-append, append_assoc, take-append-drop}
 use Rattle.std.proofs.lemmas.List.{drop_at, drop-drop, length-take-le}
 use Rattle.std.proofs.Math.Nat.{mul-le-mul_right}
@@ -13,7 +13,7 @@ use Rattle.cc_journal.specs.declared.fault.JournalFault.{JournalFault}
 use Rattle.cc_journal.specs.declared.fault.JournalFault.TheVariants.{Full, DiskFault, Closed, Damaged, NotALibrary, OutOfMemory}
 use Rattle.cc_journal.proofs.Records.{length-header, header_same, length-record_bytes, records-append, records_push, records_prefix}
 
--- one record more was read
+-- after one more record was read, the bytes are again the records read so far, followed by the rest
 pub record_on : (bytes : List ℕ) (start used : ℕ) (bodies : List (List ℕ)) (body rest : List ℕ) → drop start bytes ≡ records bodies ++ drop (start + used) bytes → drop (start + used) bytes ≡ record_bytes body ++ rest
     → drop start bytes ≡ records (bodies ++ body ∷ []) ++ drop (start + (used + (length body + 5))) bytes
 record_on bytes start used bodies body rest so_far is =
@@ -23,7 +23,7 @@ record_on bytes start used bodies body rest so_far is =
     let pushed = sym (records_push bodies body) in
     so_far ∙ ap (λ (l : List ℕ). records bodies ++ l) is ∙ sym (append_assoc (records bodies) (record_bytes body) rest) ∙ (λ i. pushed i ++ tail i)
 
--- an open gate before a record that does not fit: no list of records stands there
+-- if an open gate comes before a record that does not fit, the bytes hold no list of records
 pub none_ends : (bytes : List ℕ) (start used area : ℕ) (bodies others : List (List ℕ)) → area ≤ 2 ^ 30 → used ≡ length (records bodies) → used + 1 ≤ area → drop start bytes ≡ records bodies ++ drop (start + used) bytes
     → (rest : List ℕ) → drop (start + used) bytes ≡ open_gate ∷ rest → ((body rest : List ℕ) → drop (start + used) bytes ≡ record_bytes body ++ rest → length body < 2 ^ 32 → area - used < length body + 6)
     → EndsClosed (drop start bytes) others → room_of others ≤ area → ⊥
@@ -46,7 +46,7 @@ none_ends bytes start used area bodies others small taken fits so_far rest is_op
         omega (arith, total, parts, record-long, long, room, past, taken)
 
 module _ {D : Type 0} (seen : D → List ℕ) (may_leave : D → List ℕ → Type 0) (moment : D → ℕ) (left_since : D → ℕ → List ℕ → Type 0) where
-  -- reading after reading
+  -- if two calls only read the disk, so do both together
   pub reads_on : (a b c : D) → OnlyReads seen may_leave moment left_since a b → OnlyReads seen may_leave moment left_since b c → OnlyReads seen may_leave moment left_since a c
   reads_on a b c first second = record {
     same = second.same ∙ first.same;

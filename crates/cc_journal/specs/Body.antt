@@ -1,4 +1,4 @@
--- A body by the bytes that are kept of it: these are the body, or all that stands behind the gate of its record.
+-- A body, given the bytes that are kept for it: these are the body itself, or everything after the gate of its record.
 use Rattle.std.specs.Prelude.{ℕ, ◌-◌, Bool, true, false, List, length, take, drop}
 
 -- the body in these bytes

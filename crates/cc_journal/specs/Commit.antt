@@ -1,36 +1,37 @@
--- How records get onto a disk. An `append` and a `rewrite` are each one commit, and the protocol core makes the same commits
--- step by step: bytes are written where they count for nothing yet, and synced; then one byte is written that puts them in
--- force, and synced.
+-- How records get onto a disk. An `append` and a `rewrite` are each one commit, and the protocol core makes the same commits step
+-- by step. First, bytes are written to a place where they count for nothing yet, and synced. Then one byte is written that puts
+-- them in force, and synced.
 use Rattle.std.specs.Prelude.{ℕ, ◌⊎◌, ◌+◌, ◌*◌, ◌%◌, List, [], ◌∷◌, ◌++◌, length}
 use Rattle.std.specs.Int.{w32, to_le_bytes}
 use Rattle.cc_disk.specs.Images.{IsWritten, DiffersWithin}
 use Rattle.cc_journal.specs.Format.{open_gate, records}
 
--- one commit: the bytes of its first write and the offset from which they go, the offset of the byte that decides, and that byte
+-- one commit: the bytes of its first write and their offset, the offset of the byte that decides, and that byte
 pub record Commit : Type 0 where
   pub offset : ℕ
   pub bytes : List ℕ
   pub deciding_offset : ℕ
   pub deciding_byte : ℕ
 
--- what stands behind the gate of a record with this body: the body's length as four bytes, the lowest first, the body, and the
--- next gate, closed
+-- what comes after the gate of a record with this body: the body's length as four bytes, the lowest first, the body, and the next
+-- gate, closed
 abbrev pub behind_gate : List ℕ → List ℕ
 behind_gate body = to_le_bytes w32 (length body) ++ (body ++ 0 ∷ [])
 
--- an append: what stands behind the gate at that offset, and then that gate, open
+-- an append: first what comes after the gate at that offset is written, and then that gate, open
 abbrev pub append_commit : (gate : ℕ) (body : List ℕ) → Commit
 append_commit gate body = record { offset = gate + 1; bytes = behind_gate body; deciding_offset = gate; deciding_byte = open_gate }
 
--- the offset at which the area begins that this area byte names: A right behind the header, B right behind A
+-- the offset of the area that this area byte names: A is right after the header, B right after A
 abbrev pub area_begin : (area_byte area : ℕ) → ℕ
 area_begin area_byte area = 16 + area_byte % 2 * area
 
--- the byte of the other area: 1 where this one names A, 0 where it names B
+-- the byte of the other area: 1 if this one names A, 0 if it names B
 abbrev pub other_area : ℕ → ℕ
 other_area area_byte = (area_byte + 1) % 2
 
--- a rewrite: all records and the closed gate behind them, at the begin of the other area, and then the byte of that area
+-- a rewrite: first all records and the closed gate after them are written, at the beginning of the other area, and then the byte
+-- of that area
 abbrev pub rewrite_commit : (area_byte area : ℕ) (bodies : List (List ℕ)) → Commit
 rewrite_commit area_byte area bodies = record {
   offset = area_begin (other_area area_byte) area;
@@ -43,8 +44,8 @@ rewrite_commit area_byte area bodies = record {
 abbrev pub IsCommitted : Commit → (old new : List ℕ) → Type 0
 IsCommitted c old new = (staged : List ℕ) × IsWritten old c.offset c.bytes staged × IsWritten staged c.deciding_offset (c.deciding_byte ∷ []) new
 
--- What a commit that failed left: all images differ from the old bytes in the range of the first write alone, or all differ in the
--- byte that decides alone from the old bytes with that write done.
+-- What a failed commit left: either all images differ from the old bytes only in the range of the first write; or, after that
+-- write has changed the old bytes, all images differ from the result only in the byte that decides.
 abbrev pub FailsIn : Commit → (old : List ℕ) (images : List ℕ → Type 0) → Type 0
 FailsIn c old images =
     ((image : List ℕ) → images image → DiffersWithin c.offset (length c.bytes) old image)

@@ -1,5 +1,5 @@
--- The bytes of a journal: a header of 16 bytes, area A, and area B right after it. In an area stand records, and after
--- the last a closed gate.
+-- The bytes of a journal: a header of 16 bytes, area A, and area B right after it. An area has records, and a closed gate after
+-- the last one.
 use Rattle.std.specs.Prelude.{◌≡◌, ◌≢◌, ◌⊎◌, ℕ, ◌+◌, ◌*◌, ◌%◌, ◌^◌, ◌≤◌, List, [], ◌∷◌, ◌++◌, length}
 use Rattle.std.specs.Int.{w32, to_le_bytes}
 
@@ -24,7 +24,7 @@ records (body ∷ bodies) = record_bytes body ++ records bodies
 abbrev pub room_of : List (List ℕ) → ℕ
 room_of bodies = length (records bodies) + 1
 
--- a disk of that many bytes has room for two areas of that size, which is within its limits
+-- a disk of this many bytes has room for two areas of that size, which is within its limits
 pub record IsArea (size area : ℕ) : Type 0 where
   pub least : 64 ≤ area
   pub most : area ≤ 2 ^ 30
@@ -41,8 +41,8 @@ pub record HasHeader (image : List ℕ) (area : ℕ) : Type 0 where
 abbrev pub HasAreaByte : List ℕ → (area_byte area : ℕ) → Type 0
 HasAreaByte image area_byte area = (rest : List ℕ) × (image ≡ header area_byte area ++ rest)
 
--- The image has a right header, and in the area that the area byte names (A where it is even, B where it is odd) stand
--- these records and then a closed gate, within the area.
+-- The image has a right header. The area that the area byte names (A if it is even, B if it is odd) has these records and then a
+-- closed gate, within the area.
 pub record HoldsRecords (image : List ℕ) (area : ℕ) (bodies : List (List ℕ)) : Type 0 where
   pub area_byte : ℕ
   pub other : List ℕ
@@ -54,19 +54,19 @@ pub record HoldsRecords (image : List ℕ) (area : ℕ) (bodies : List (List ℕ
   pub fits : room_of bodies ≤ area
   pub is_area : IsArea (length image) area
 
--- it holds these records in areas of that size, and no others
+-- the image holds these records in areas of that size, and no others
 pub record HoldsAlone (image : List ℕ) (area : ℕ) (bodies : List (List ℕ)) : Type 0 where
   pub holds : HoldsRecords image area bodies
   pub alone : (size : ℕ) (others : List (List ℕ)) → HoldsRecords image size others → (size ≡ area) × (others ≡ bodies)
 
--- every one of these images has these records alone, in an area of that size
+-- every one of these images has exactly these records, in an area of that size
 abbrev pub AllHold : (List ℕ → Type 0) → ℕ → List (List ℕ) → Type 0
 AllHold may_leave area bodies = (image : List ℕ) → may_leave image → HoldsAlone image area bodies
 
--- it holds the one records alone, or the others
+-- the image holds exactly the old records, or exactly the new ones
 abbrev pub HoldsOneOf : ℕ → (old new : List (List ℕ)) → List ℕ → Type 0
 HoldsOneOf area old new image = HoldsAlone image area old ⊎ HoldsAlone image area new
 
--- it holds these records alone, or these with one more alone
+-- the image holds exactly these records, or exactly these and one more
 abbrev pub HoldsOldOrNew : ℕ → List (List ℕ) → List ℕ → List ℕ → Type 0
 HoldsOldOrNew area bodies body image = HoldsAlone image area bodies ⊎ HoldsAlone image area (bodies ++ body ∷ [])

@@ -10,12 +10,12 @@ pub record View (D : Type 0) : Type 0 where
   pub bodies : List (List ℕ)
   pub closed : Bool
 
--- where records stand on an image
+-- the place of the records on an image
 pub record HoldsFrom (image : List ℕ) (start area : ℕ) (bodies : List (List ℕ)) : Type 0 where
   pub holds : HoldsRecords image area bodies
   pub begins : start ≡ 16 + length holds.other
 
--- What the type of a journal keeps. While it is not closed, every image has these records alone.
+-- What the type of a journal keeps. While the journal is not closed, every image has exactly these records.
 pub record IsKept (honest : Bool) (size : ℕ) (seen : List ℕ) (may_leave : List ℕ → Type 0) (start area used : ℕ) (bodies : List (List ℕ)) (closed : Bool) : Type 0 where
   pub is_area : IsArea size area
   pub begins : start ≤ 16 + area

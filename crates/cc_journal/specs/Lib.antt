@@ -2,9 +2,9 @@
 pub mod Fault
 -- the bytes of a journal, and which records an image holds
 pub mod Format
--- one commit: which bytes go where, and in which order
+-- one commit: the bytes, their offsets, and the order in which they are written
 pub mod Commit
--- which body the bytes that are kept of it are
+-- the body that is in the bytes kept for it
 pub mod Body
 -- what contracts see of a journal, and what its type keeps
 pub mod Journal

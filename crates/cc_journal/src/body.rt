@@ -11,11 +11,11 @@ use std::marker::Model;
 /// The bytes of one record. A clause reads it as a list.
 pub struct Body {
     bytes: Vec<u8>,
-    // Whether `bytes` also has what stands around the body in a record: its length before it and a closed gate behind it.
+    // Whether `bytes` also has what is around the body in a record: its length before it and a closed gate after it.
     is_framed: bool,
 }
 
-// By hand, so that crates above call it and do not prove anew how each part is dropped.
+// This is written by hand, so that crates above call it and need not prove again how each part is dropped.
 impl Drop for Body {
     fn drop(self) {
         let Body { bytes, is_framed } = self;
@@ -35,7 +35,7 @@ impl Model for Body {
 }
 
 impl Body {
-    /// The body with these bytes. It takes no memory.
+    /// The body with these bytes. Takes no memory.
     pub fn new(bytes: Vec<u8>) -> Body
         ensures { result ≡ bytes.items }
     {
@@ -43,8 +43,8 @@ impl Body {
         Body { bytes, is_framed }
     }
 
-    /// The body of these bytes, which are all that stands behind the gate of its record: its length as four bytes, the lowest
-    /// first, the body, and the next gate, 0. Such a body is appended without a copy. It takes no memory.
+    /// The body in these bytes, which are everything after the gate of its record: the body's length as four bytes, the lowest
+    /// first, the body, and the next gate, 0. Such a body is appended without a copy. Takes no memory.
     pub fn from_framed(bytes: Vec<u8>) -> Body
         requires { (body : List ℕ) × (length body < 2 ^ 32) × (bytes.items ≡ behind_gate body) }
         ensures { (body : List ℕ) → bytes.items ≡ behind_gate body → result ≡ body }
@@ -53,7 +53,7 @@ impl Body {
         Body { bytes, is_framed }
     }
 
-    /// Its bytes.
+    /// The body's bytes.
     pub fn as_slice(&self) -> &[u8]
         ensures { result.now ≡ self.now }
     {
@@ -63,7 +63,7 @@ impl Body {
         &self.bytes
     }
 
-    /// Its bytes as the `Vec` that it was made of. It takes no memory.
+    /// The body's bytes, in the `Vec` from which it was made. Takes no memory.
     pub fn into_vec(self) -> Vec<u8>
         ensures { result.items ≡ self }
     {
@@ -79,7 +79,7 @@ impl Body {
         bytes
     }
 
-    // What stands behind the gate of its record. Where it was made without that, this is a copy.
+    // What comes after the gate of the body's record. This is a copy if the body was made without it.
     pub(crate) fn into_framed(self, alloc: Global) -> Result<Vec<u8>, AllocError>
         requires { length self < 2 ^ 32 }
         ensures { IfOk result (λ bytes. bytes.items ≡ behind_gate self) }
@@ -92,7 +92,7 @@ impl Body {
     }
 }
 
-// What stands behind the gate of the record with this body.
+// What comes after the gate of the record with this body.
 pub(crate) fn framed(alloc: Global, body: &[u8]) -> Result<Vec<u8>, AllocError>
     requires { length body.now < 2 ^ 32 }
     ensures { IfOk result (λ bytes. bytes.items ≡ behind_gate body.now) }
@@ -103,7 +103,7 @@ pub(crate) fn framed(alloc: Global, body: &[u8]) -> Result<Vec<u8>, AllocError>
     Ok(bytes)
 }
 
-// Adds the length of a body, and the body.
+// Adds the length of a body, and then the body.
 pub(crate) fn put_body(bytes: &mut Vec<u8>, body: &[u8]) -> Result<(), AllocError>
     requires { length body.now < 2 ^ 32 }
     ensures { OnOk result (bytes.new.items ≡ bytes.old.items ++ (to_le_bytes w32 (length body.now) ++ body.now)) }

@@ -1,6 +1,6 @@
-// One commit: how records get onto the disk. Bytes are written where they count for nothing yet, and synced; then one byte
-// is written that puts them in force, and synced. So a crash at any moment leaves the old records or the new ones. An
-// `append` and a `rewrite` differ in which bytes these are alone.
+// One commit: how records get onto the disk. Bytes are written to a place where they count for nothing yet, and synced. Then one
+// byte is written that puts them in force, and synced. So a crash at any moment leaves the old records or the new ones. An
+// `append` and a `rewrite` differ only in these bytes and their offsets.
 
 ghost use Rattle.std.specs.Prelude.{◌≡◌, ◌+◌, ◌*◌, ◌^◌, ◌<◌, ◌≤◌, ◌++◌, List, ℕ, IsTrue, length, IfOk, OnErr, OnOk, is_ok, if◌then◌else◌};
 ghost use Rattle.cc_disk.specs.Images.{LeavesAlone, LeavesOnly};
@@ -20,7 +20,7 @@ pub const OPEN: u8 = 0xa5;
 /// The closed gate, as it is written.
 pub const CLOSED: u8 = 0;
 
-/// The bytes that one commit writes, and where: those of its first write, and the one byte of its second write, which
+/// The bytes that one commit writes, and their offsets: those of its first write, and the one byte of its second write, which
 /// decides. A clause sees both with their offsets.
 #[derive(Drop)]
 pub struct Commit {
@@ -39,8 +39,8 @@ impl Model for Commit {
 }
 
 impl Commit {
-    /// The commit that puts a record with this body after the closed gate at that offset: first what stands after the
-    /// record's own gate (its length, its body, and the next gate, closed), then its own gate, open.
+    /// The commit that puts a record with this body after the closed gate at that offset: first what comes after the record's own
+    /// gate (its length, its body, and the next gate, closed), then its own gate, open.
     pub fn append(alloc: Global, gate: usize, body: &[u8]) -> Result<Commit, AllocError>
         requires short { length body.now < 2 ^ 32 }
         requires fits { gate + 1 < 2 ^ 64 }
@@ -49,8 +49,8 @@ impl Commit {
         Ok(Commit::behind(gate, framed(alloc, body)?))
     }
 
-    // The same of a body that is handed over, and that can be taken out of it again. Where the body has what stands around
-    // it, it takes no memory.
+    // Makes the same commit for a body that is handed over; the body can be taken out of the commit again. If it already has what
+    // is around it in a record, this takes no memory.
     pub(crate) fn of_body(alloc: Global, gate: usize, body: Body) -> Result<Commit, AllocError>
         requires short { length body < 2 ^ 32 }
         requires fits { gate + 1 < 2 ^ 64 }
@@ -59,7 +59,7 @@ impl Commit {
         Ok(Commit::behind(gate, body.into_framed(alloc)?))
     }
 
-    // The commit that writes these bytes behind the closed gate at that offset, and then opens the gate.
+    // The commit that writes these bytes after the closed gate at that offset, and then opens the gate.
     fn behind(gate: usize, bytes: Vec<u8>) -> Commit
         requires { gate + 1 < 2 ^ 64 }
         ensures { result ≡ record { offset = gate + 1; bytes = bytes.items; deciding_offset = gate; deciding_byte = open_gate } }
@@ -72,7 +72,7 @@ impl Commit {
         }
     }
 
-    // The body of the record that it puts, where it is an append.
+    // The body of the record that the commit puts, if it is an append.
     pub(crate) fn into_body(self) -> Body
         requires { (gate : ℕ) × (body : List ℕ) × (length body < 2 ^ 32) × (self ≡ append_commit gate body) }
         ensures { (gate : ℕ) (body : List ℕ) → self ≡ append_commit gate body → result ≡ body }
@@ -81,8 +81,8 @@ impl Commit {
     }
 
     /// The commit that makes these the records of a disk whose area byte is that one, with areas of `area` bytes: first all
-    /// records and the closed gate after them, from the begin of the other area on, then the byte of that area, 0 for A and
-    /// 1 for B.
+    /// records and the closed gate after them, from the beginning of the other area on, then the byte of that area, 0 for A and 1
+    /// for B.
     pub fn rewrite(
         alloc: Global,
         area_byte: u8,
@@ -105,14 +105,14 @@ impl Commit {
         })
     }
 
-    /// The offset of its first write.
+    /// The offset of the first write.
     pub fn offset(&self) -> usize
         ensures { result ≡ self.now.offset }
     {
         self.offset
     }
 
-    /// The bytes of its first write.
+    /// The bytes of the first write.
     pub fn bytes(&self) -> &[u8]
         ensures { result.now ≡ self.now.bytes }
     {
@@ -142,18 +142,18 @@ pub fn make<D: Disk>(disk: &mut D, commit: &Commit) -> Result<(), DiskFault>
     ensures failures { D.failures disk.new ≡ (if is_ok result then D.failures disk.old else D.failures disk.old + 1) }
     ensures committed { OnOk result (IsTrue D.honest → IsCommitted commit.now (D.seen disk.old) (D.seen disk.new)) }
     ensures alone { OnOk result (IsTrue D.honest → LeavesAlone (D.seen disk.new) (D.may_leave disk.new)) }
-    // Where it failed, and how the disk is then.
+    // At which step the commit failed, and what that left on the disk.
     ensures failed { OnErr result (IsTrue D.honest → LeavesAlone (D.seen disk.old) (D.may_leave disk.old) → FailsIn commit.now (D.seen disk.old) (D.may_leave disk.new)) }
     ensures moments { IsTrue D.honest → LeavesAlone (D.seen disk.old) (D.may_leave disk.old)
         → LeavesOnly D.moment D.left_since disk.old disk.new (IsMidCommit commit.now (D.seen disk.old)) }
 {
-    // The new bytes stand after a closed gate, or in the area that is not in use: a torn write counts for nothing.
+    // The new bytes are after a closed gate, or in the area that is not in use: a torn write counts for nothing.
     disk.write_at(commit.offset(), commit.bytes())?;
-    // They are settled before the deciding byte is written, so that it never puts torn records in force.
+    // The new bytes are settled before the deciding byte is written, so that this byte never puts torn records in force.
     disk.sync()?;
-    // One byte decides, and torn or not it is the one or the other: the records count from here on, all of them, or none.
+    // One byte decides. Torn or not, it has its old value or its new one: from here on all of the records count, or none.
     disk.write_at(commit.deciding_offset(), &[commit.deciding_byte()])?;
-    // The decision is settled before the caller is told.
+    // The decision is synced before the caller learns of it.
     disk.sync()
 }
 

@@ -10,7 +10,7 @@ use thiserror::Error;
 /// Why a call of a journal was refused.
 #[derive(Clone, Copy, Debug, PartialEq, Eq, Error)]
 pub enum JournalFault {
-    /// 34: the area is outside its limits or does not fit the disk, or the record does not fit its area.
+    /// 34: the area is outside its limits or does not fit on the disk, or the record does not fit in its area.
     #[error("Full")]
     Full,
     /// 35: the device failed in the call.
@@ -19,7 +19,7 @@ pub enum JournalFault {
     /// 36: an earlier call failed on the device, so the disk has to be opened again.
     #[error("Closed")]
     Closed,
-    /// 37: an open record does not fit its area.
+    /// 37: an open record does not fit in its area.
     #[error("Damaged")]
     Damaged,
     /// 38: there is no right header.

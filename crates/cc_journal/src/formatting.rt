@@ -9,11 +9,11 @@ use crate::fault::JournalFault;
 use crate::reading::{header_bytes, is_area};
 use cc_disk::Disk;
 
-/// Makes an empty journal of two areas of `area` bytes, 64 to 1,073,741,824, on the disk: the header with area byte 0,
-/// and a closed gate after it. It takes no memory.
+/// Makes an empty journal of two areas of `area` bytes, 64 to 1,073,741,824, on the disk: the header with area byte 0, and a
+/// closed gate after it. Takes no memory.
 ///
-/// Refusals: 34 where `area` is outside its limits or `16 + 2 * area` bytes do not fit the disk, which is as before then;
-/// 35 where the device failed, after which the disk is to be formatted again.
+/// Refusals: 34 if `area` is outside its limits or `16 + 2 * area` bytes do not fit on the disk, which is then as it was before;
+/// 35 if the device failed, after which the disk has to be formatted again.
 pub fn format<D: Disk>(disk: &mut D, area: u32) -> Result<(), JournalFault>
     ensures answers { FormatAnswers (D.size disk.old) area (D.failures disk.old) (D.failures disk.new) result }
     ensures size { D.size disk.new ≡ D.size disk.old }
@@ -25,7 +25,8 @@ pub fn format<D: Disk>(disk: &mut D, area: u32) -> Result<(), JournalFault>
         return Err(JournalFault::Full);
     }
     let [a, b, c, d, e, f, g, h, i, j, k, l, m, n, o, p] = header_bytes(0, area);
-    // Header and closed gate in one write: until the sync nothing is promised of a disk that is being formatted.
+    // The header and the closed gate go out in one write: until the sync, nothing is promised about a disk that is being
+    // formatted.
     disk.write_at(0, &[a, b, c, d, e, f, g, h, i, j, k, l, m, n, o, p, CLOSED])?;
     // From here on every crash leaves the empty journal.
     disk.sync()?;

@@ -1,4 +1,4 @@
-// The log: where records stand on a disk, and how they get there. It knows no body: who needs the bodies keeps them.
+// The log: the places of records on a disk, and how they get there. The log keeps no body: whoever needs the bodies keeps them.
 
 ghost use Rattle.std.specs.Prelude.{◌≡◌, ◌≢◌, ◌⊎◌, ◌+◌, ◌*◌, ◌^◌, ◌<◌, ◌≤◌, ◌++◌, [], ◌∷◌, List, ℕ, true, false, IsTrue, IsNone, length, IfOk, IfErr, IfSome, MatchResult, OnOk, OnErr, IsErrOf, vec_len, vec_capacity};
 ghost use Rattle.cc_disk.specs.Images.{IsWritten, LeavesAlone, LeavesOnly, OnlyReads};
@@ -14,23 +14,23 @@ use cc_disk::{Disk, History};
 use std::alloc::{AllocError, Global};
 use std::marker::Model;
 
-/// Records on a disk, each of which is kept through a power cut once its `append` has answered Ok. It takes no memory for
-/// them: a `Journal` is a log that has its records in memory too.
+/// Records on a disk. Each is kept through a power cut once its `append` has answered Ok. The log takes no memory for them: a
+/// `Journal` is a log that has its records in memory too.
 ///
-/// A clause sees the disk, the size of an area in bytes, the records (`bodies`, the oldest first), and whether the
-/// log is closed. While it is not closed, every image of an honest disk has these records alone.
+/// A clause sees the disk, the size of an area in bytes, the records (`bodies`, the oldest first), and whether the log is closed.
+/// While it is not closed, every image of an honest disk has exactly these records.
 pub struct Log<D: Disk> {
     disk: D,
-    // What its records are, for contracts alone.
+    // The log's records, for contracts only.
     bodies: History<Body>,
-    // Where the area in use begins, its size, and how many of its bytes the records take.
+    // The offset of the area in use, its size, and how many of its bytes the records take.
     start: usize,
     area: usize,
     used: usize,
     closed: bool,
 }
 
-// By hand, so that crates above call it and do not prove anew how each part is dropped.
+// This is written by hand, so that crates above call it and need not prove again how each part is dropped.
 impl<D: Disk + Drop> Drop for Log<D> {
     fn drop(self) {
         let Log {
@@ -55,21 +55,21 @@ impl<D: Disk> Model for Log<D> {
 }
 
 impl<D: Disk> Log<D> {
-    /// Opens the log on a disk: syncs it, then reads its records, which it hands out.
+    /// Opens the log on a disk: syncs it, then reads its records, which it returns.
     ///
-    /// Refusals, in this order, with the disk handed back: 35 where the device failed in the call, 38 where there is no
-    /// right header, 37 where an open record does not fit its area. 40 where memory ran out.
+    /// Refusals, in this order, with the disk handed back: 35 if the device failed in the call, 38 if there is no right header,
+    /// 37 if an open record does not fit in its area. Also 40 if memory ran out.
     pub fn open(alloc: Global, mut disk: D) -> Result<(Log<D>, Vec<Body>), (JournalFault, D)>
-        // The records that it hands out are its own.
+        // The records that are returned are the log's.
         ensures handed { IfOk result (λ x. x.1.items ≡ x.0.bodies) }
 
-        // What was found, of an honest disk, and every image then has it alone.
+        // What was found on an honest disk; every image then has exactly that.
         ensures records { IfOk result (λ x. IsTrue D.honest → HoldsRecords (D.seen disk) x.0.area x.0.bodies) }
         ensures kept { IfOk result (λ x. IsTrue D.honest → AllHold (D.may_leave x.0.disk) x.0.area x.0.bodies) }
         ensures settled { IfOk result (λ x. IsTrue D.honest → LeavesAlone (D.seen x.0.disk) (D.may_leave x.0.disk)) }
         ensures open { IfOk result (λ x. x.0.closed ≡ false) }
 
-        // Of every kind of disk: there is room for the areas and for the records, and a small disk is no library.
+        // For every kind of disk: there is room for the areas and for the records, and a small disk is no library.
         ensures room { IfOk result (λ x. IsArea (D.size disk) x.0.area × (room_of x.0.bodies ≤ x.0.area)) }
         ensures small { D.size disk < 144 → IfErr result (λ e. (e.0 ≡ JournalFault.DiskFault) ⊎ (e.0 ≡ JournalFault.NotALibrary)) }
 
@@ -105,17 +105,17 @@ impl<D: Disk> Log<D> {
         }
     }
 
-    /// Whether it is closed. It takes no memory.
+    /// Whether the log is closed. Takes no memory.
     pub fn is_closed(&self) -> bool
         ensures closed { result ≡ self.now.closed }
         ensures kept { IsTrue D.honest → self.now.closed ≡ false
             → AllHold (D.may_leave self.now.disk) self.now.area self.now.bodies }
     {
-        // Nothing but opening the disk again opens it.
+        // Only opening the disk again makes an open log.
         self.closed
     }
 
-    /// The size of an area in bytes. It takes no memory.
+    /// The size of an area in bytes. Takes no memory.
     pub fn area(&self) -> usize
         ensures area { result ≡ self.now.area }
         ensures is_area { IsArea (D.size self.now.disk) self.now.area }
@@ -123,8 +123,8 @@ impl<D: Disk> Log<D> {
         self.area
     }
 
-    /// How many bytes of the area its records take: of each 5 and its body. The closed gate after the last one takes one more.
-    /// It takes no memory.
+    /// How many bytes of the area the records take: 5 and its body for each record. The closed gate after the last one takes one
+    /// more. Takes no memory.
     pub fn used(&self) -> usize
         ensures used { result ≡ length (records self.now.bodies) }
         ensures fits { room_of self.now.bodies ≤ self.now.area }
@@ -132,13 +132,13 @@ impl<D: Disk> Log<D> {
         self.used
     }
 
-    /// Whether a record with a body of this many bytes would be taken now: 36 where the log is closed, then 34 where it does
-    /// not fit. It takes no memory.
+    /// Answers whether a record with a body of this many bytes would be taken now: 36 if the log is closed, then 34 if the record
+    /// does not fit. Takes no memory.
     pub fn takes(&self, count: usize) -> Result<(), JournalFault>
         ensures answers { (body : List ℕ) (failures : ℕ) → length body ≡ count
             → AppendAnswers self.now.closed self.now.area self.now.bodies body failures failures result }
         ensures short { OnOk result (count < 2 ^ 30) }
-        // Where no call is made, every image has the records.
+        // If no call is made, every image has the records.
         ensures still { IsTrue D.honest → self.now.closed ≡ false
             → (body : List ℕ) → LeavesOnly D.moment D.left_since self.now.disk self.now.disk (HoldsOldOrNew self.now.area self.now.bodies body) }
     {
@@ -155,43 +155,44 @@ impl<D: Disk> Log<D> {
         Ok(())
     }
 
-    /// Adds a record with this body, which it hands back. At Ok it is kept: every crash from then on leaves it. A body made
-    /// by `Body::from_framed` is not copied.
+    /// Adds a record with this body, and hands the body back. At Ok the record is kept: every crash from then on leaves it. A
+    /// body made by `Body::from_framed` is not copied.
     ///
-    /// Refusals, in this order: 36 where the log is closed; 34 where the record does not fit, 5 bytes and its body
-    /// beside the records and the closed gate; then 40 where memory ran out, and up to here no device call is made and
-    /// nothing changes; 35 where the device failed in the call, after which the log is closed, and its disk has the
-    /// old records or the old and the new one. Every refusal gives the body up.
+    /// Refusals, in this order: 36 if the log is closed; 34 if the record does not fit: it takes 5 bytes and its body, besides
+    /// the records and the closed gate; 40 if memory ran out. These three make no device call and change nothing. Last, 35 if the
+    /// device failed in the call: the log is then closed, and its disk has the old records, or those and the new one. Every
+    /// refusal drops the body.
     pub fn append(&mut self, alloc: Global, body: Body) -> Result<Body, JournalFault>
         ensures answers { AppendAnswers self.old.closed self.old.area self.old.bodies body (D.failures self.old.disk) (D.failures self.new.disk) result }
         ensures size { D.size self.new.disk ≡ D.size self.old.disk }
         ensures area { self.new.area ≡ self.old.area }
 
-        // At Ok the record stands after the old ones, and every image has them alone.
+        // At Ok the record comes after the old ones, and every image has exactly these.
         ensures added { OnOk result (self.new.bodies ≡ self.old.bodies ++ body ∷ []) }
         ensures handed { IfOk result (λ kept. kept ≡ body) }
         ensures open { OnOk result (self.new.closed ≡ false) }
         ensures kept { OnOk result (IsTrue D.honest → AllHold (D.may_leave self.new.disk) self.new.area self.new.bodies) }
 
-        // The bytes of the disk change in one range alone: it has the record, its gate open, and a closed gate after it.
+        // The bytes of the disk change in one range only: it then has the record, its gate open, and a closed gate after it.
         ensures bytes { OnOk result (IsTrue D.honest → (offset : ℕ)
             × IsWritten (D.seen self.old.disk) offset (record_bytes body ++ 0 ∷ []) (D.seen self.new.disk)) }
 
-        // They are those of the one commit, by the area byte that it had, and all of them are settled.
+        // The disk then has the bytes that this one commit makes, given the area byte that the disk had, and all of them are
+        // settled.
         ensures committed { OnOk result (IsTrue D.honest → (area_byte : ℕ) → HasAreaByte (D.seen self.old.disk) area_byte self.old.area
             → IsCommitted (append_commit (area_begin area_byte self.old.area + length (records self.old.bodies)) body) (D.seen self.old.disk) (D.seen self.new.disk)
             × LeavesAlone (D.seen self.new.disk) (D.may_leave self.new.disk)) }
 
-        // Where the device failed: how that commit left the disk.
+        // If the device failed, this is how the commit left the disk.
         ensures failed { IsErrOf result JournalFault.DiskFault → IsTrue D.honest → (area_byte : ℕ) → HasAreaByte (D.seen self.old.disk) area_byte self.old.area
             → FailsIn (append_commit (area_begin area_byte self.old.area + length (records self.old.bodies)) body) (D.seen self.old.disk) (D.may_leave self.new.disk) }
 
-        // A refusal leaves the records; without a device call it leaves all, after 35 the log is closed.
+        // A refusal leaves the records as they were. If no device call was made, all is as it was; after 35 the log is closed.
         ensures leaves { OnErr result (self.new.bodies ≡ self.old.bodies) }
         ensures untouched { IfErr result (λ e. e ≢ JournalFault.DiskFault → self.new ≡ self.old) }
         ensures closes { IsErrOf result JournalFault.DiskFault → self.new.closed ≡ true }
 
-        // A crash at any moment of the call leaves the old records, or the old and the new one.
+        // A crash at any moment of the call leaves the old records, or those and the new one.
         ensures moments { IsTrue D.honest → self.old.closed ≡ false
             → LeavesOnly D.moment D.left_since self.old.disk self.new.disk (HoldsOldOrNew self.old.area self.old.bodies body) }
     {
@@ -202,7 +203,7 @@ impl<D: Disk> Log<D> {
         if self.area - self.used < length + 6 {
             return Err(JournalFault::Full);
         }
-        // All growths come before the first device call.
+        // All memory is taken before the first device call.
         let gate = self.start + self.used;
         let commit = Commit::of_body(alloc, gate, body)?;
         match make(&mut self.disk, &commit) {
@@ -219,38 +220,37 @@ impl<D: Disk> Log<D> {
         }
     }
 
-    /// Makes these the records, in the place of all others, and hands them back. At Ok they are kept: every crash from then on
-    /// leaves them, and no others. They are written into the area that is not in use, which is in use from then on.
+    /// Makes these the records, in place of all others, and hands them back. At Ok they are kept: every crash from then on leaves
+    /// them, and no others. They are written into the area that is not in use, which is in use from then on.
     ///
-    /// Refusals, in this order: 36 where the log is closed; 34 where the records and their closed gate do not fit an
-    /// area; then 40 where memory ran out, and up to here no device call is made and nothing changes; 35 where the device
-    /// failed in the call, after which the log is closed, and its disk has the old records or the new ones. Every
-    /// refusal gives the new ones up.
+    /// Refusals, in this order: 36 if the log is closed; 34 if the records and their closed gate do not fit in an area; 40 if
+    /// memory ran out. These three make no device call and change nothing. Last, 35 if the device failed in the call: the log is
+    /// then closed, and its disk has the old records or the new ones. Every refusal drops the new ones.
     pub fn rewrite(&mut self, alloc: Global, bodies: Vec<Body>) -> Result<Vec<Body>, JournalFault>
         ensures answers { CommitAnswers self.old.closed self.old.area bodies.items (D.failures self.old.disk) (D.failures self.new.disk) result }
         ensures size { D.size self.new.disk ≡ D.size self.old.disk }
         ensures area { self.new.area ≡ self.old.area }
 
-        // At Ok these are the records, and every image has them alone.
+        // At Ok these are the records, and every image has exactly these.
         ensures rewritten { OnOk result (self.new.bodies ≡ bodies.items) }
         ensures handed { IfOk result (λ kept. kept.items ≡ bodies.items) }
         ensures open { OnOk result (self.new.closed ≡ false) }
         ensures kept { OnOk result (IsTrue D.honest → AllHold (D.may_leave self.new.disk) self.new.area self.new.bodies) }
 
-        // The bytes of the disk are those of the one commit, by the area byte that it had.
+        // The disk then has the bytes that this one commit makes, given the area byte that the disk had.
         ensures bytes { OnOk result (IsTrue D.honest → (area_byte : ℕ) × HasAreaByte (D.seen self.old.disk) area_byte self.old.area
             × IsCommitted (rewrite_commit area_byte self.old.area bodies.items) (D.seen self.old.disk) (D.seen self.new.disk)) }
 
-        // That is so by any area byte that the disk has, and all of them are settled.
+        // The same holds for any area byte that the disk had, and all of the new bytes are settled.
         ensures committed { OnOk result (IsTrue D.honest → (area_byte : ℕ) → HasAreaByte (D.seen self.old.disk) area_byte self.old.area
             → IsCommitted (rewrite_commit area_byte self.old.area bodies.items) (D.seen self.old.disk) (D.seen self.new.disk)
             × LeavesAlone (D.seen self.new.disk) (D.may_leave self.new.disk)) }
 
-        // Where the device failed: how that commit left the disk.
+        // If the device failed, this is how the commit left the disk.
         ensures failed { IsErrOf result JournalFault.DiskFault → IsTrue D.honest → (area_byte : ℕ) → HasAreaByte (D.seen self.old.disk) area_byte self.old.area
             → FailsIn (rewrite_commit area_byte self.old.area bodies.items) (D.seen self.old.disk) (D.may_leave self.new.disk) }
 
-        // A refusal leaves the records; without a device call it leaves all, after 35 the log is closed.
+        // A refusal leaves the records as they were. If no device call was made, all is as it was; after 35 the log is closed.
         ensures leaves { OnErr result (self.new.bodies ≡ self.old.bodies) }
         ensures untouched { IfErr result (λ e. e ≢ JournalFault.DiskFault → self.new ≡ self.old) }
         ensures closes { IsErrOf result JournalFault.DiskFault → self.new.closed ≡ true }
@@ -260,13 +260,13 @@ impl<D: Disk> Log<D> {
             → LeavesOnly D.moment D.left_since self.old.disk self.new.disk (HoldsOneOf self.old.area self.old.bodies bodies.items) }
     {
         if self.closed {
-            // No device call: what the disk holds is not known before it is opened again.
+            // No device call is made: what the disk holds is not known before it is opened again.
             return Err(JournalFault::Closed);
         }
         let Some(used) = bytes_taken(&bodies, self.area) else {
             return Err(JournalFault::Full);
         };
-        // All growths come before the first device call.
+        // All memory is taken before the first device call.
         let commit = Commit::rewrite(alloc, side(self.start), self.area, &bodies)?;
         match make(&mut self.disk, &commit) {
             Ok(()) => {
@@ -282,7 +282,7 @@ impl<D: Disk> Log<D> {
         }
     }
 
-    /// The disk, as the calls so far left it. It takes no memory.
+    /// The disk, as the calls so far left it. Takes no memory.
     pub fn into_disk(self) -> D
         ensures { result ≡ self.disk }
     {
@@ -298,7 +298,7 @@ impl<D: Disk> Log<D> {
     }
 }
 
-// These bodies, for contracts alone: it does nothing at run time.
+// Gives contracts these bodies; at run time it does nothing.
 fn told(bodies: &[Body]) -> History<Body>
     ensures { result.items ≡ bodies.now }
 {
@@ -317,7 +317,7 @@ fn side(start: usize) -> u8
     if start == HEADER { 0 } else { 1 }
 }
 
-// How many bytes these records take, where they and their closed gate fit an area of that many bytes.
+// How many bytes these records take, if they and their closed gate fit in an area of this many bytes.
 fn bytes_taken(bodies: &[Body], area: usize) -> Option<usize>
     requires { 1 ≤ area }
     ensures taken { IfSome result (λ used. (used ≡ length (records bodies.now)) × (room_of bodies.now ≤ area)) }

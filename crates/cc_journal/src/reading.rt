@@ -1,4 +1,4 @@
-// Reading a journal from a disk of which nothing is known.
+// Reads a journal from a disk that may hold anything.
 
 ghost use Rattle.std.specs.Prelude.{IfSome, IsNone, IsErrOf, ◌↔◌, ◌≡◌, ◌≢◌, ◌⊎◌, ◌+◌, ◌*◌, ◌^◌, ◌<◌, ◌≤◌, ◌++◌, [], ◌∷◌, List, ℕ, false, IsTrue, length, take, drop, IfOk, IfErr, MatchResult, OnOk, OnErr, is_ok, if◌then◌else◌};
 ghost use Rattle.std.specs.Int.{w32, to_le_bytes, from_le_bytes};
@@ -15,25 +15,25 @@ use crate::window::Window;
 use cc_disk::{Disk, DiskFault};
 use std::alloc::Global;
 
-/// The least and the largest size of an area, in bytes.
+/// The smallest and the largest size of an area, in bytes.
 pub const LEAST_AREA: usize = 64;
 
 pub const LARGEST_AREA: usize = 1 << 30;
 
-/// The bytes of a header in front of the two areas.
+/// The number of bytes of the header, which comes before the two areas.
 pub const HEADER: usize = 16;
 
-/// The records that a disk holds, and where.
+/// The records that a disk holds, and their place.
 #[derive(Drop)]
 pub struct Found {
     pub bodies: Vec<Body>,
-    // Where the area begins, its size, and how many of its bytes the records take.
+    // The offset of the area, its size, and how many of its bytes the records take.
     pub start: usize,
     pub area: usize,
     pub used: usize,
 }
 
-/// Settles the disk and reads its records.
+/// Syncs the disk and reads its records.
 pub fn find_records<D: Disk>(alloc: Global, disk: &mut D) -> Result<Found, JournalFault>
     ensures size { D.size disk.new ≡ D.size disk.old }
     ensures reads { IsTrue D.honest → OnlyReads D.seen D.may_leave D.moment D.left_since disk.old disk.new }
@@ -42,7 +42,7 @@ pub fn find_records<D: Disk>(alloc: Global, disk: &mut D) -> Result<Found, Journ
     ensures sound { OnOk result (D.failures disk.new ≡ D.failures disk.old) }
     ensures faults { IfErr result (λ fault. OpenFaults D.honest (D.seen disk.old) (D.failures disk.old) (D.failures disk.new) fault) }
 {
-    // What earlier calls left unsettled is settled first, so that a crash leaves the records that are read.
+    // What earlier calls left unsettled is synced first, so that a crash leaves the records that are read.
     disk.sync()?;
     let Some((start, area)) = read_header(disk)? else {
         return Err(JournalFault::NotALibrary);
@@ -56,7 +56,7 @@ pub fn find_records<D: Disk>(alloc: Global, disk: &mut D) -> Result<Found, Journ
     })
 }
 
-// Where the area in use begins and the size of an area, if there is a right header.
+// The offset of the area in use and the size of an area, if there is a right header.
 fn read_header<D: Disk>(disk: &mut D) -> Result<Option<(usize, usize)>, DiskFault>
     ensures size { D.size disk.new ≡ D.size disk.old }
     ensures failures { D.failures disk.new ≡ (if is_ok result then D.failures disk.old else D.failures disk.old + 1) }
@@ -70,7 +70,7 @@ fn read_header<D: Disk>(disk: &mut D) -> Result<Option<(usize, usize)>, DiskFaul
         return Ok(None);
     }
     let mut bytes = [0u8; 16];
-    // The header alone says where the records are.
+    // Only the header says where the records are.
     disk.read_at(0, &mut bytes)?;
     Ok(parse_header(&bytes, size))
 }
@@ -85,14 +85,14 @@ pub fn header_bytes(area_byte: u8, area: u32) -> [u8; 16]
     ]
 }
 
-// Whether a disk of that many bytes has room for two areas of that size, which is within its limits.
+// Whether a disk of this many bytes has room for two areas of that size, which is within its limits.
 pub fn is_area(size: usize, area: usize) -> bool
     ensures { IsTrue result ↔ IsArea size area }
 {
     LEAST_AREA <= area && area <= LARGEST_AREA && HEADER + 2 * area <= size
 }
 
-// The same as `read_header`, of the first 16 bytes of a disk of that size.
+// Reads the same out of the first 16 bytes of a disk of that size.
 fn parse_header(bytes: &[u8; 16], size: usize) -> Option<(usize, usize)>
     ensures right { IfSome result (λ at. IsArea size at.1 × (at.0 ≤ 16 + at.1) × BeginsWith bytes.now at.0 at.1) }
     ensures wrong { IsNone result → (area_byte area : ℕ) → bytes.now ≡ header area_byte area → IsArea size area → ⊥ }
@@ -152,7 +152,7 @@ fn length_of(bytes: &[u8; 4]) -> u32
     u32::from_le_bytes([bytes[0], bytes[1], bytes[2], bytes[3]])
 }
 
-// The record at that offset, if its gate is open, where this many bytes of the area are left from there on.
+// The record at that offset, if its gate is open; `left` bytes of the area are left from there on.
 fn read_record<D: Disk>(
     alloc: Global,
     disk: &mut D,
@@ -174,7 +174,7 @@ fn read_record<D: Disk>(
 {
     window.look(disk, offset, offset + left, left.min(5))?;
     let prefix = window.from(offset);
-    // A closed gate ends the records, whatever stands after it.
+    // A closed gate ends the records, whatever comes after it.
     if prefix[0] != OPEN {
         return Ok(None);
     }
@@ -186,7 +186,7 @@ fn read_record<D: Disk>(
     if left - 6 < length {
         return Err(JournalFault::Damaged);
     }
-    // The body, as long as it says, within the area.
+    // The body has as many bytes as its length says, all within the area.
     let bytes = window.read(alloc, disk, offset + 5, length)?;
     Ok(Some(Body::new(bytes)))
 }

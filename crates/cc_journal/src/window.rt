@@ -1,6 +1,6 @@
-// Reading ahead. Records are short, and a device call for each of their parts would cost more than the parts: so one call
-// reads what follows an offset, as far as a window goes, and the parts of the records there are taken from the window. A
-// body that goes on behind the window is completed by a call of its own, so no byte is read twice.
+// Reads ahead. Records are short, and a device call for each of their parts would cost more than the parts. So one call reads
+// what follows an offset, as far as a window goes, and the parts of the records there are taken from the window. A body that goes
+// on after the window is completed by a call of its own, so no byte is read twice.
 
 ghost use Rattle.std.specs.Prelude.{◌≡◌, ◌+◌, ◌-◌, ◌^◌, ◌<◌, ◌≤◌, [], List, ℕ, IsTrue, length, take, drop, IfOk, IfErr, OnOk};
 ghost use Rattle.cc_disk.specs.Images.{OnlyReads};
@@ -10,10 +10,10 @@ use crate::fault::JournalFault;
 use cc_disk::Disk;
 use std::alloc::Global;
 
-/// The most bytes that are read ahead.
+/// At most this many bytes are read ahead.
 pub const WINDOW: usize = 65_536;
 
-/// The bytes that a disk gives from an offset on, as many as were read ahead.
+/// The bytes that were read ahead from a disk, from an offset on.
 #[derive(Drop)]
 pub struct Window {
     pub offset: usize,
@@ -21,7 +21,7 @@ pub struct Window {
 }
 
 impl Window {
-    /// A window that shows no byte. It takes no memory.
+    /// A window that shows no byte. Takes no memory.
     pub fn new(alloc: Global) -> Window
         ensures { result.bytes.items ≡ [] }
     {
@@ -31,7 +31,7 @@ impl Window {
         }
     }
 
-    /// The bytes that it shows from that offset on.
+    /// The bytes that the window shows from that offset on.
     pub fn from(&self, offset: usize) -> &[u8]
         ensures shows { (seen : List ℕ) → Shows self.now.offset self.now.bytes.items seen → Shows offset result.now seen }
         ensures all { self.now.offset ≤ offset → length result.now ≡ length self.now.bytes.items - (offset - self.now.offset) }
@@ -42,7 +42,7 @@ impl Window {
         &self.bytes[offset - self.offset..]
     }
 
-    // The first `count` of these, or all where they are fewer.
+    // The first `count` of those bytes, or all if there are fewer.
     fn part(&self, offset: usize, count: usize) -> &[u8]
         ensures shows { (seen : List ℕ) → Shows self.now.offset self.now.bytes.items seen → Shows offset result.now seen }
         ensures most { length result.now ≤ count }
@@ -54,7 +54,7 @@ impl Window {
         &shown[..count]
     }
 
-    /// Reads ahead from that offset on, within `end`, where it shows fewer bytes than `count` from there.
+    /// Reads ahead from that offset on, within `end`, if the window shows fewer than `count` bytes from there.
     pub fn look<D: Disk>(
         &mut self,
         disk: &mut D,
@@ -110,7 +110,7 @@ impl Window {
             return Ok(bytes);
         }
         bytes.resize(count, 0)?;
-        // What goes on behind the window is read into its place.
+        // What lies after the window is read into its place in the answer.
         disk.read_at(offset + first.len(), &mut bytes[first.len()..])?;
         Ok(bytes)
     }

@@ -1,2 +1,2 @@
--- What only private contracts speak of.
+-- What only private contracts use.
 pub mod internal

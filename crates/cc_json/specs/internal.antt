@@ -1,2 +1,2 @@
--- What is written of a value.
+-- What is written for a value.
 pub mod Line

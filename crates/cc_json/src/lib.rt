@@ -1,9 +1,9 @@
-//! What the program answers and explains, as JSON: an object a line.
+//! What the program answers and explains, as JSON: one object for each line.
 //!
-//! `object` makes an object and writes it, `numbers` reads decimals, `line` makes the object of a line of an answer, `place` that of a line
-//! about a place, `telling` has the explanations of a text; `performing` does a task and writes all of it so. `writer` is a writer of lines: each
-//! line of what a session answers and explains becomes an object. Which members an object has is the matter of
-//! `docs/JSON.md`. Hands out `perform_in_json`, `perform_files_in_json` and `InJson`.
+//! `object` makes an object and writes it, `numbers` reads decimals, `line` makes the object for a line of an answer, `place` the
+//! object for a line about a place, `telling` the explanations of a text; `performing` performs a task and writes all of it as
+//! JSON. `writer` is a writer of lines: each line of what a session answers and explains becomes an object. `docs/JSON.md` says
+//! which members an object has. The crate exports `perform_in_json`, `perform_files_in_json` and `InJson`.
 #![tactic(auto)]
 
 mod line;

@@ -1,10 +1,10 @@
-// The object of a line of an answer.
+// The object for a line of an answer.
 
 use super::numbers::{signed, unsigned};
 use super::object::Object;
 use std::alloc::{AllocError, Global};
 
-/// What a line says, as far as it may be explained.
+/// What a line says, as far as that may be explained.
 #[derive(Clone, Copy)]
 pub(crate) enum Said {
     /// How a run ended.
@@ -15,19 +15,19 @@ pub(crate) enum Said {
     Other,
 }
 
-/// The object of a line, and what it says.
+/// The object for a line, and what the line says.
 #[derive(Drop)]
 pub(crate) struct LineObject {
     pub(crate) object: Object,
     pub(crate) said: Said,
 }
 
-// What follows a word and a space.
+// What comes after a word and a space.
 fn after<'a>(line: &'a [u8], word: &str) -> Option<&'a [u8]> {
     line.strip_prefix(word.as_bytes())?.strip_prefix(b" ")
 }
 
-// An object of another kind than a fault and an end.
+// An object that is neither a fault nor an end.
 fn other(object: Object) -> LineObject {
     LineObject {
         object,
@@ -53,7 +53,7 @@ fn word(alloc: Global, word: i32) -> Result<LineObject, AllocError> {
     Ok(other(object))
 }
 
-/// The object of a line that has no other kind.
+/// The object for a line of no other kind.
 pub(crate) fn plain_line(alloc: Global, line: &[u8]) -> Result<Object, AllocError> {
     let mut object = Object::new(alloc, "line")?;
     object.bytes("text", line)?;
@@ -63,11 +63,11 @@ pub(crate) fn plain_line(alloc: Global, line: &[u8]) -> Result<Object, AllocErro
 // How a run ended.
 #[derive(Clone, Copy)]
 enum End<'a> {
-    // So, without a word.
+    // With this name, without a word.
     Bare(&'static str),
-    // So, with this word.
+    // With this name and this word.
     With(&'static str, i32),
-    // It went wrong, for this.
+    // It went wrong, for this cause.
     Wrong(&'a [u8]),
 }
 
@@ -108,7 +108,7 @@ fn end_object(alloc: Global, end: End<'_>) -> Result<LineObject, AllocError> {
     })
 }
 
-// What the line of a fault has after its name: its place, or its function and a label.
+// Adds what the line of a fault has after the fault's name: a place, or a function and a label.
 fn add_position(object: &mut Object, rest: &[u8]) -> Result<(), AllocError> {
     let mut parts = rest.split(|byte| *byte == b' ');
     for _ in 0..2 {
@@ -139,7 +139,7 @@ fn split_word(text: &[u8]) -> (&[u8], &[u8]) {
     }
 }
 
-// The object of the line of a fault with this number and this rest.
+// The object for the line of a fault with this number; `rest` is what comes after the number.
 fn fault(alloc: Global, number: u64, rest: &[u8]) -> Result<LineObject, AllocError> {
     let (name, position) = split_word(rest);
     let mut object = Object::new(alloc, "fault")?;
@@ -152,13 +152,13 @@ fn fault(alloc: Global, number: u64, rest: &[u8]) -> Result<LineObject, AllocErr
     })
 }
 
-// The number of the fault whose line this is, and what follows it; nothing if it is no such line.
+// The number of the fault whose line this is, and what follows it; nothing if this is another line.
 fn fault_in(line: &[u8]) -> Option<(u64, &[u8])> {
     let (digits, rest) = split_word(after(line, "fault")?);
     Some((unsigned(digits)?, rest))
 }
 
-/// The object of a line of an answer.
+/// The object for a line of an answer.
 pub(crate) fn object_of_line(alloc: Global, line: &[u8]) -> Result<LineObject, AllocError> {
     if line == b"ok".as_slice() {
         return Ok(other(Object::new(alloc, "ok")?));

@@ -1,8 +1,8 @@
-// Decimals as the program writes them: without a sign but `-`, and without zeros before others.
+// Decimals as the program writes them: with no sign but `-`, and with no leading zeros.
 
 use std::str;
 
-// Whether digits are a decimal so.
+// Whether these digits are such a decimal.
 fn is_plain(digits: &[u8]) -> bool {
     match digits.split_first() {
         Some((first, rest)) => {
@@ -12,7 +12,7 @@ fn is_plain(digits: &[u8]) -> bool {
     }
 }
 
-/// The number that a decimal means; nothing if it is no such number.
+/// The number that a decimal means; nothing if the text is not such a number.
 pub(crate) fn unsigned(text: &[u8]) -> Option<u64> {
     if !is_plain(text) {
         return None;
@@ -20,7 +20,7 @@ pub(crate) fn unsigned(text: &[u8]) -> Option<u64> {
     str::from_utf8(text).ok()?.parse().ok()
 }
 
-/// The same of one that may have a `-`, for a number of 32 bits.
+/// The same for a decimal that may begin with `-`, as a number of 32 bits.
 pub(crate) fn signed(text: &[u8]) -> Option<i32> {
     let is_number = match text.strip_prefix(b"-") {
         Some(digits) => is_plain(digits) && digits != b"0".as_slice(),

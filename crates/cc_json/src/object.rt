@@ -1,4 +1,4 @@
-// An object of JSON on a line.
+// A JSON object on a line.
 
 ghost use Rattle.std.specs.Prelude.{◌≡◌, OnOk};
 ghost use Rattle.std.specs.Str.Lossy.{utf8_lossy};
@@ -11,7 +11,7 @@ use serde_json::{Map, Value, put};
 use std::alloc::{AllocError, Global};
 use std::io::{self, Write};
 
-/// The version of what is written: it changes with the meaning of a member, and not if one is added.
+/// The version of what is written. It changes if the meaning of a member changes, and not if a member is added.
 const VERSION: u32 = 1;
 
 /// An object that is made member by member.
@@ -22,7 +22,7 @@ pub(crate) struct Object {
 }
 
 impl Object {
-    /// One without members.
+    /// An object without members.
     pub(crate) fn empty(alloc: Global) -> Object {
         Object {
             alloc,
@@ -30,7 +30,7 @@ impl Object {
         }
     }
 
-    /// One of this kind, with the version.
+    /// An object of this kind, with the version.
     pub(crate) fn new(alloc: Global, kind: &str) -> Result<Object, AllocError> {
         let mut object = Object::empty(alloc);
         put(&mut object.members, alloc, "cclib", Value::from(VERSION))?;
@@ -60,7 +60,7 @@ impl Object {
         put(&mut self.members, self.alloc, name, value)
     }
 
-    /// Adds bytes as a text: what is no UTF-8 becomes U+FFFD.
+    /// Adds bytes as a text: what is not UTF-8 becomes U+FFFD.
     pub(crate) fn bytes(&mut self, name: &str, given: &[u8]) -> Result<(), AllocError>
         ensures { OnOk result (members_view self.new.members.entries ≡ with_member name.now (string (utf8_lossy given.now)) (members_view self.old.members.entries)) }
     {
@@ -68,7 +68,7 @@ impl Object {
         self.words(name, text.as_str())
     }
 
-    /// Adds that something is so.
+    /// Adds a member that is true.
     pub(crate) fn truth(&mut self, name: &str) -> Result<(), AllocError> {
         put(&mut self.members, self.alloc, name, Value::from(true))
     }

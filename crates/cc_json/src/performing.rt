@@ -20,7 +20,7 @@ use std::rt::Files;
 const NO_MEMORY: &[u8] =
     b"{\"cclib\":1,\"kind\":\"fault\",\"name\":\"OutOfMemory\",\"number\":40}\n";
 
-// Nothing is explained.
+// An explanation of nothing.
 fn nothing(alloc: Global) -> Explanation {
     Explanation {
         words: None,
@@ -47,7 +47,7 @@ fn write_each<W: Write>(
     Ok(())
 }
 
-// The object of a line, with what explains it.
+// The object for a line, with what explains it.
 fn explained(
     alloc: Global,
     texts: &[NamedText],
@@ -82,7 +82,7 @@ fn write_lines<W: Write>(
     write_each(alloc, "warning", texts, warnings, writer)
 }
 
-// A task for the text that texts make, and whether nothing is to be explained.
+// A task for the text that some texts make up, and whether nothing is to be explained.
 #[derive(Clone, Copy)]
 struct Asked<'a> {
     task: &'a Task,
@@ -91,7 +91,7 @@ struct Asked<'a> {
     is_quiet: bool,
 }
 
-// Writes an answer and explains it; the status.
+// Writes an answer and explains it. The result is the status.
 fn tell_answer<W: Write>(
     alloc: Global,
     asked: &Asked<'_>,
@@ -128,7 +128,7 @@ fn tell_fault<W: Write>(
     write_lines(alloc, asked.texts, lines.as_slice(), &explanation, writer)
 }
 
-// Does a task for the text that texts make; the status.
+// Performs a task for the text that these texts make up. The result is the status.
 fn try_perform<W: Write>(
     alloc: Global,
     task: &Task,
@@ -162,7 +162,7 @@ fn try_perform<W: Write>(
     }
 }
 
-// The status of what was written. If there was no memory for it, that is written.
+// The status, which is 1 if writing failed. If there was no memory for an object, `NO_MEMORY` is written in its place.
 fn status_of<W: Write>(written: io::Result<u8>, writer: &mut W) -> u8
     requires { IfOk written (λ status. status ≤ 1) }
     ensures { result ≤ 1 }
@@ -182,8 +182,9 @@ fn status_of<W: Write>(written: io::Result<u8>, writer: &mut W) -> u8
     status
 }
 
-/// Does a task for the text that texts make, and writes each thing that `perform_and_explain` writes or explains as an object of JSON on a line
-/// of its own; if it is to be quiet what `perform` writes. The status is that of `perform`; 1 too if there was no memory for an object.
+/// Performs a task for the text that these texts make up, and writes each thing that `perform_and_explain` writes or explains as
+/// an object of JSON on a line of its own; if it is to be quiet, only what `perform` writes. The status is that of
+/// `perform`, but 1 if there was no memory for an object.
 pub fn perform_in_json<H: AllocGlobal, W: Write>(
     rt: &H,
     task: Task,
@@ -198,7 +199,7 @@ pub fn perform_in_json<H: AllocGlobal, W: Write>(
     status_of(written, writer)
 }
 
-// The name of the text that was not read.
+// The name of the text that could not be read.
 fn name_of(names: &[String], number: usize) -> &str {
     match names.get(number) {
         Some(name) => name.as_str(),
@@ -206,7 +207,7 @@ fn name_of(names: &[String], number: usize) -> &str {
     }
 }
 
-// 53: the text of a name could not be read.
+// The object for fault 53: the text with this name could not be read.
 fn unread(alloc: Global, name: &str, why: &io::Error) -> Result<Object, AllocError> {
     let LineObject {
         mut object,
@@ -219,7 +220,7 @@ fn unread(alloc: Global, name: &str, why: &io::Error) -> Result<Object, AllocErr
     Ok(object)
 }
 
-// Writes that a text could not be read; the status.
+// Writes that a text could not be read. The result is the status.
 fn refuse<W: Write>(
     alloc: Global,
     names: &[String],
@@ -238,7 +239,7 @@ fn refuse<W: Write>(
     }
 }
 
-/// Does a task for the files of these names, as `perform_in_json` does; `-` is standard input.
+/// Performs a task for the files with these names, as `perform_in_json` does; `-` is standard input.
 pub fn perform_files_in_json<R: AllocGlobal + Input, F: Files, W: Write>(
     rt: &R,
     files: &F,

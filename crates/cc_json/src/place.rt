@@ -1,4 +1,4 @@
-// The object of a line that a session writes for a person.
+// The object for a line that a session writes for a person.
 
 use super::line::plain_line;
 use super::numbers::unsigned;
@@ -7,7 +7,7 @@ use super::telling::add_message;
 use cc_answers::words_of;
 use std::alloc::{AllocError, Global};
 
-// A message about a place of a source that was sent, as `-:4:2: ..`.
+// A message about a place in a source that was sent, written as `-:4:2: ..`.
 #[derive(Clone, Copy)]
 struct Placed<'a> {
     line: u64,
@@ -28,7 +28,7 @@ fn message_in(line: &[u8]) -> Option<Placed<'_>> {
     })
 }
 
-// The object of such a message.
+// The object for such a message.
 fn placed_object(alloc: Global, placed: Placed<'_>) -> Result<Object, AllocError> {
     let message = String::from_utf8_lossy(alloc, placed.message)?;
     let message = message.as_str();
@@ -49,7 +49,7 @@ fn spaces(line: &[u8]) -> usize {
     line.iter().take_while(|byte| **byte == b' ').count()
 }
 
-// How many are digits.
+// How many bytes at the front of a line are digits.
 fn digits(line: &[u8]) -> usize {
     line.iter().take_while(|byte| byte.is_ascii_digit()).count()
 }
@@ -65,7 +65,7 @@ fn is_excerpt(line: &[u8]) -> bool {
     }
 }
 
-// Whether a line says what the object of a fault says already.
+// Whether the object for a fault already says what this line says.
 fn is_said(line: &[u8]) -> bool {
     let Some(words) = line.strip_prefix(b"cclib: ") else {
         return false;
@@ -80,7 +80,7 @@ fn is_said(line: &[u8]) -> bool {
     false
 }
 
-/// The object of a line of explanations; nothing if the object of a fault has it already, or if it only shows the text.
+/// The object for a line of explanations; nothing if the object for a fault has it already, or if the line only shows the text.
 pub(crate) fn told_object(alloc: Global, line: &[u8]) -> Result<Option<Object>, AllocError> {
     if is_excerpt(line) || is_said(line) {
         return Ok(None);

@@ -7,7 +7,7 @@ use cc_tasks::Explanation;
 use serde_json::Value;
 use std::alloc::{AllocError, Global};
 
-// The text of a byte of the whole, with line and column there.
+// Adds the place of a byte of all the texts together: the text that has it, and its line and column there.
 fn add_place(object: &mut Object, texts: &[NamedText], at: usize) -> Result<(), AllocError> {
     let Some(found) = place_in(texts, at) else {
         return Ok(());
@@ -19,7 +19,7 @@ fn add_place(object: &mut Object, texts: &[NamedText], at: usize) -> Result<(), 
     object.count("column", found.place.column as u64)
 }
 
-/// Adds a message; what it proposes after a colon is the help.
+/// Adds a message; what it proposes after a colon becomes the help.
 pub(crate) fn add_message(object: &mut Object, message: &str) -> Result<(), AllocError> {
     match message.split_once(": ") {
         Some((message, help)) => {
@@ -30,7 +30,7 @@ pub(crate) fn add_message(object: &mut Object, message: &str) -> Result<(), Allo
     }
 }
 
-// A note about a byte of the whole.
+// A note about a byte of all the texts together.
 fn note(alloc: Global, texts: &[NamedText], at: usize, words: &str) -> Result<Value, AllocError> {
     let mut note = Object::empty(alloc);
     add_place(&mut note, texts, at)?;
@@ -38,7 +38,7 @@ fn note(alloc: Global, texts: &[NamedText], at: usize, words: &str) -> Result<Va
     Ok(note.into_value())
 }
 
-// The notes of a message: another place, and calls that were open.
+// The notes of a message: another place, and the calls that were open.
 fn notes_of(
     alloc: Global,
     texts: &[NamedText],
@@ -59,7 +59,7 @@ fn notes_of(
     Ok(notes)
 }
 
-/// Adds an explanation of the whole that texts make, with calls that were open.
+/// Adds an explanation of all the texts together, with the calls that were open.
 pub(crate) fn add_told(
     alloc: Global,
     object: &mut Object,

@@ -8,19 +8,20 @@ use cc_answers::words_of;
 use std::alloc::{AllocError, Global};
 use std::io::{self, Write};
 
-/// The most bytes of a line that are held: a longer one becomes several objects.
+/// At most this many bytes of a line are held: a longer line becomes several objects.
 const MOST_LINE: usize = 65_536;
 
-/// What lines are.
+/// What the lines of a writer are.
 #[derive(Clone, Copy)]
 pub enum LineKind {
     /// Answers.
     Answers,
-    /// Explanations beside them.
+    /// Explanations that go with answers.
     Told,
 }
 
-/// A writer of lines. Each line becomes an object of JSON on a line of its own. What is no whole line becomes one when it is flushed.
+/// A writer of lines. Each line becomes an object of JSON on a line of its own. An incomplete line becomes an object when it is
+/// flushed.
 #[derive(Drop)]
 pub struct InJson<W: Drop> {
     alloc: Global,
@@ -37,7 +38,7 @@ fn words_of_fault(number: u64) -> Option<&'static str> {
     }
 }
 
-// The object of a line of an answer, with the words of a fault.
+// The object for a line of an answer, with the words that explain it if it reports a fault.
 fn answer_object(alloc: Global, line: &[u8]) -> Result<Object, AllocError> {
     let LineObject { mut object, said } = object_of_line(alloc, line)?;
     if let Said::Fault(number) = said
@@ -48,7 +49,7 @@ fn answer_object(alloc: Global, line: &[u8]) -> Result<Object, AllocError> {
     Ok(object)
 }
 
-// The object of a line; nothing if the line is left out.
+// The object for a line; nothing if the line is left out.
 fn object_of(alloc: Global, lines: LineKind, line: &[u8]) -> Result<Option<Object>, AllocError> {
     match lines {
         LineKind::Answers => Ok(Some(answer_object(alloc, line)?)),
@@ -57,7 +58,7 @@ fn object_of(alloc: Global, lines: LineKind, line: &[u8]) -> Result<Option<Objec
 }
 
 impl<W: Write + Drop> InJson<W> {
-    /// Before this writer, for lines of this kind.
+    /// A writer of objects that passes them to `writer`, for lines of this kind.
     pub fn new(alloc: Global, writer: W, lines: LineKind) -> InJson<W> {
         InJson {
             alloc,
@@ -67,7 +68,7 @@ impl<W: Write + Drop> InJson<W> {
         }
     }
 
-    /// The writer of the objects. What is no whole line, and was not flushed, is left out.
+    /// The writer of the objects. An incomplete line that was not flushed is left out.
     pub fn into_writer(self) -> W {
         let InJson {
             alloc: _,
@@ -79,7 +80,7 @@ impl<W: Write + Drop> InJson<W> {
         writer
     }
 
-    // Writes the object of the line that is there.
+    // Writes the object for the line that is held.
     fn finish_line(&mut self) -> io::Result<()> {
         let object = object_of(self.alloc, self.lines, self.line.as_slice())?;
         self.line.clear();

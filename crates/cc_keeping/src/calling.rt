@@ -1,20 +1,21 @@
-// The command `call`: a unit of the library in a file is run. The file is open until the unit was read, and nothing is written to it.
+// The command `call`: a unit of the library in a file is run. The file is open until the unit has been read, and nothing is
+// written to it.
 
 ghost use Rattle.std.specs.Prelude.{◌≡◌, false, true};
 ghost use Rattle.std.specs.Io.KnownBytes.{Appends};
 ghost use Rattle.cc_runs.specs.Written.{counted_text};
 
 use crate::telling::{refuse, settled, unwritten};
-use cc_answers::{Persons, Telling};
+use cc_answers::Persons;
 use cc_call::{LinesEnd, call, call_lines, unit_on};
 use cc_command_line::Calling;
-use cc_filing::disk_of;
+use cc_filing::{buffers, library_disk};
 use cc_runs::{CountedRun, write_counted_run};
 use cc_tasks::{Done, PartFault};
 use cc_unit::StoredUnit;
 use cc_watch::AnswerProgress;
 use std::alloc::{AllocError, Global};
-use std::io::{BufRead, BufReader, BufWriter, Input, IsTerminal, Write};
+use std::io::{BufRead, BufReader, Input, IsTerminal, Write};
 use std::rt::Clock;
 use std::sync::Arc;
 
@@ -25,24 +26,20 @@ fn run_of<E: Write>(
     asked: &Calling,
     told: &mut E,
 ) -> Result<CountedRun, PartFault> {
-    match disk_of(files, asked.disk.as_str(), None) {
-        Ok(disk) => {
-            let name = asked.name.as_bytes();
-            let words = asked.words.as_slice();
-            let (run, disk) = call(
-                alloc,
-                disk,
-                name,
-                words,
-                asked.steps,
-                asked.is_counted,
-                told,
-            );
-            drop(disk);
-            run
-        }
-        Err(reason) => Err(PartFault::Library(reason.fault())),
-    }
+    let disk = library_disk(files, asked.disk.as_str())?;
+    let name = asked.name.as_bytes();
+    let words = asked.words.as_slice();
+    let (run, disk) = call(
+        alloc,
+        disk,
+        name,
+        words,
+        asked.steps,
+        asked.is_counted,
+        told,
+    );
+    drop(disk);
+    run
 }
 
 // The unit that is to be run line by line.
@@ -52,14 +49,10 @@ fn unit_of<E: Write>(
     asked: &Calling,
     told: &mut E,
 ) -> Result<Arc<StoredUnit>, PartFault> {
-    match disk_of(files, asked.disk.as_str(), None) {
-        Ok(disk) => {
-            let (unit, disk) = unit_on(alloc, disk, asked.name.as_bytes(), told);
-            drop(disk);
-            unit
-        }
-        Err(reason) => Err(PartFault::Library(reason.fault())),
-    }
+    let disk = library_disk(files, asked.disk.as_str())?;
+    let (unit, disk) = unit_on(alloc, disk, asked.name.as_bytes(), told);
+    drop(disk);
+    unit
 }
 
 // Writes a run.
@@ -72,7 +65,7 @@ fn answer<W: Write, E: Write>(run: &CountedRun, writer: &mut W, told: &mut E) ->
     settled(write, 0, writer, told)
 }
 
-// Runs a unit line by line; the status.
+// Runs a unit line by line. The result is the status.
 fn answer_lines<R: BufRead, W: Write, E: Write>(
     alloc: Global,
     unit: &StoredUnit,
@@ -95,7 +88,7 @@ fn answer_lines<R: BufRead, W: Write, E: Write>(
     }
 }
 
-// The same. A person who sees standard error, and not the answers, is shown how many lines of them there are.
+// Runs a unit line by line. A person who sees standard error, but not the answers, is shown how many lines of them there are.
 fn answer_lines_seen<R: AllocGlobal + Clock + Copy + Drop, I: BufRead, W: Write + Drop, E: Write>(
     rt: &R,
     files: &HostRuntime,
@@ -118,8 +111,8 @@ fn answer_lines_seen<R: AllocGlobal + Clock + Copy + Drop, I: BufRead, W: Write 
     status
 }
 
-/// Runs a unit of the library in a file on input words, or on the words of each line of standard input; the status. The error is lack of memory
-/// before it began.
+/// Runs a unit of the library in a file on input words, or on the words of each line of standard input. The result is the status.
+/// The error is lack of memory before the command began.
 pub fn call_in_file<R: AllocGlobal + Clock + Input + Copy + Drop, A: Write + Drop, E: Write + Drop>(
     rt: &R,
     files: &HostRuntime,
@@ -128,14 +121,8 @@ pub fn call_in_file<R: AllocGlobal + Clock + Input + Copy + Drop, A: Write + Dro
     answers: A,
     errors: E,
 ) -> Result<u8, AllocError> {
-    let (Ok(mut writer), Ok(errors)) = (
-        BufWriter::new(rt.alloc(), answers),
-        BufWriter::new(rt.alloc(), errors),
-    ) else {
-        return Err(AllocError);
-    };
     let is_quiet = persons.is_quiet;
-    let mut told = Telling { errors, is_quiet };
+    let (mut writer, mut told) = buffers(rt.alloc(), answers, errors, is_quiet)?;
     if !asked.is_lines {
         return Ok(match run_of(rt.alloc(), files, asked, &mut told) {
             Ok(run) => answer(&run, &mut writer, &mut told).status,

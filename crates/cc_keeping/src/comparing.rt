@@ -1,18 +1,18 @@
-// The command `diff`: where the libraries in two files differ. Nothing is written to them.
+// The command `diff`: the differences between the libraries in two files. Nothing is written to them.
 
 ghost use Rattle.std.specs.Prelude.{◌≡◌, ◌≢◌, [], false, true};
 ghost use Rattle.std.specs.Io.KnownBytes.{Appends};
 ghost use Rattle.cc_diff.specs.Written.{diff_text};
 
 use crate::telling::{settled, unwritten};
-use cc_answers::{Stands, Telling, explain_words, write_fault_line};
+use cc_answers::{Stands, explain_words, write_fault_line};
 use cc_diff::{DiffFault, DiffLine, diff_disks, write_diff};
-use cc_filing::disk_of;
+use cc_filing::{buffers, disk_of};
 use cc_tasks::Done;
 use std::alloc::{AllocError, Global};
-use std::io::{self, BufWriter, Write};
+use std::io::{self, Write};
 
-// Where the libraries in the files differ.
+// The differences between the libraries in the files.
 fn lines_of(
     alloc: Global,
     files: &HostRuntime,
@@ -35,7 +35,7 @@ fn lines_of(
     lines
 }
 
-// Tells a person of which file a fault is.
+// Explains to a person which file has a fault.
 fn explain<E: Write>(fault: DiffFault, left: &str, right: &str, told: &mut E) -> io::Result<()> {
     let path = match fault {
         DiffFault::Left(_) => left,
@@ -54,7 +54,7 @@ fn explain<E: Write>(fault: DiffFault, left: &str, right: &str, told: &mut E) ->
     told.flush()
 }
 
-// Writes the lines: the status is 0 without one, else 1.
+// Writes the lines: the status is 0 if there are none, else 1.
 #[tactic(auto, using(crate::proofs::Settled::settled_text))]
 fn answer<W: Write, E: Write>(lines: &[DiffLine], writer: &mut W, told: &mut E) -> Done
     ensures written { result.is_written ≡ true → Appends (W.contents writer.old) (W.contents writer.new) (diff_text lines.now) }
@@ -67,7 +67,8 @@ fn answer<W: Write, E: Write>(lines: &[DiffLine], writer: &mut W, told: &mut E) 
     settled(write, status, writer, told)
 }
 
-/// Writes where the libraries in two files differ; the status: 0 if they hold the same. The error is lack of memory before it began.
+/// Writes the differences between the libraries in two files. The result is the status: 0 if they hold the same. The error is
+/// lack of memory before the command began.
 pub fn diff_files<R: AllocGlobal, A: Write + Drop, E: Write + Drop>(
     rt: &R,
     files: &HostRuntime,
@@ -77,13 +78,7 @@ pub fn diff_files<R: AllocGlobal, A: Write + Drop, E: Write + Drop>(
     answers: A,
     errors: E,
 ) -> Result<u8, AllocError> {
-    let (Ok(mut writer), Ok(errors)) = (
-        BufWriter::new(rt.alloc(), answers),
-        BufWriter::new(rt.alloc(), errors),
-    ) else {
-        return Err(AllocError);
-    };
-    let mut told = Telling { errors, is_quiet };
+    let (mut writer, mut told) = buffers(rt.alloc(), answers, errors, is_quiet)?;
     Ok(match lines_of(rt.alloc(), files, left, right) {
         Ok(lines) => answer(lines.as_slice(), &mut writer, &mut told).status,
         Err(fault) => {

@@ -1,29 +1,29 @@
 // The command `copy`: units of the library in a file, in a new library in a file.
 //
-// The new file is written under a name of this process's alone, and gets its own by a link when all of it is on the medium: nothing is
-// overwritten, and a cut or a kill leaves all of it or nothing by that name.
+// The new file is written under a name that only this process uses, and gets its own name through a link when all of it is on the
+// medium: nothing is overwritten, and a power cut or a kill leaves all of it or nothing under that name.
 
 ghost use Rattle.std.specs.Prelude.{◌≤◌};
 
 use crate::telling::{refuse, refuse_quietly, unwritten};
-use cc_answers::{Persons, Telling, tell_audit, tell_ok};
+use cc_answers::{Persons, tell_audit, tell_ok};
 use cc_command_line::Copying;
 use cc_copy::{LeftOut, Selection, copy_units, least_area, selection_on};
 use cc_disk::FileDisk;
-use cc_filing::{disk_of, name_disk};
+use cc_filing::{buffers, library_disk, name_disk};
 use cc_library::{LibraryFault, Name, UnitMap};
 use cc_tasks::PartFault;
 use cc_watch::AnswerProgress;
 use std::alloc::{AllocError, Global};
 use std::fs::{self, OpenOptions, Permissions};
-use std::io::{self, BufWriter, Print, Write};
+use std::io::{self, Print, Write};
 use std::os::unix::fs::{OpenOptionsExt, PermissionsExt};
 use std::rt::Clock;
 
-/// The rights of a file that is made: its owner's alone.
+/// The rights of a new file: only its owner may use it.
 const OWN: u32 = 0o600;
 
-// What is selected of the library in the file, which is closed again.
+// The selected units of the library in the file, which is closed again.
 fn selection_of<S: Write, E: Write>(
     alloc: Global,
     files: &HostRuntime,
@@ -31,25 +31,14 @@ fn selection_of<S: Write, E: Write>(
     seen: &mut S,
     told: &mut E,
 ) -> Result<Selection, PartFault> {
-    match disk_of(files, asked.old.as_str(), None) {
-        Ok(disk) => {
-            let names = asked.names.as_slice();
-            let (selection, disk) = selection_on(
-                alloc,
-                disk,
-                names,
-                asked.is_confirmed,
-                seen,
-                told,
-            );
-            drop(disk);
-            selection
-        }
-        Err(reason) => Err(PartFault::Library(reason.fault())),
-    }
+    let disk = library_disk(files, asked.old.as_str())?;
+    let names = asked.names.as_slice();
+    let (selection, disk) = selection_on(alloc, disk, names, asked.is_confirmed, seen, told);
+    drop(disk);
+    selection
 }
 
-// Makes an empty file, which nothing may be yet.
+// Makes an empty file at a path where nothing may be yet.
 fn begin(files: &HostRuntime, path: &str) -> io::Result<()> {
     let mut how = OpenOptions::new();
     how.write(true).create_new(true).mode(OWN);
@@ -64,7 +53,7 @@ fn begin(files: &HostRuntime, path: &str) -> io::Result<()> {
     }
 }
 
-// The new library in a file that is this call's, and goes again if it can't be made.
+// The new library in a file that belongs to this call, and is removed again if the library can't be made.
 fn made(
     alloc: Global,
     files: &HostRuntime,
@@ -101,7 +90,7 @@ fn tell_taken<E: Write>(path: &str, told: &mut E) -> LibraryFault {
     LibraryFault::DiskFault
 }
 
-// Makes the new library of these units under a name that it has until it is whole, which nothing may have.
+// Makes the new library of these units under a name that it has until it is whole. Nothing may have that name yet.
 fn write_beside<E: Write>(
     alloc: Global,
     files: &HostRuntime,
@@ -145,7 +134,7 @@ fn write_beside<E: Write>(
     }
 }
 
-// Makes the new library of these units, and says why it could not.
+// Makes the new library of these units, and says why if it could not.
 fn write_new<E: Write>(
     alloc: Global,
     files: &HostRuntime,
@@ -189,8 +178,8 @@ fn write_names<W: Write>(names: &[Name], writer: &mut W) -> io::Result<()> {
     Ok(())
 }
 
-// Writes the names of the units that were copied, what an audit says of those that were left out, and that all is written: whether that could be
-// written.
+// Writes the names of the units that were copied, what an audit says about those that were left out, and that all is written. The
+// result is whether that could be written.
 fn is_told<W: Write>(names: &[Name], left_out: &[LeftOut], writer: &mut W) -> bool {
     if write_names(names, writer).is_err() {
         return false;
@@ -203,7 +192,7 @@ fn is_told<W: Write>(names: &[Name], left_out: &[LeftOut], writer: &mut W) -> bo
     tell_ok(writer).is_ok()
 }
 
-// The same. A person who sees standard error is shown how many units were audited.
+// The selected units, as `selection_of` has them. A person who sees standard error is shown how many units were audited.
 fn selection_seen<R: AllocGlobal + Clock + Copy + Drop, E: Write>(
     rt: &R,
     files: &HostRuntime,
@@ -223,8 +212,8 @@ fn selection_seen<R: AllocGlobal + Clock + Copy + Drop, E: Write>(
     selection
 }
 
-/// Copies units of the library in a file into a new library in a file; the status: 0 if none was left out. The error is lack of memory before it
-/// began.
+/// Copies units of the library in a file into a new library in a file. The result is the status: 0 if none was left out. The
+/// error is lack of memory before the command began.
 pub fn copy_file<R: AllocGlobal + Clock + Print + Copy + Drop, E: Write + Drop>(
     rt: &R,
     files: &HostRuntime,
@@ -236,21 +225,12 @@ pub fn copy_file<R: AllocGlobal + Clock + Print + Copy + Drop, E: Write + Drop>(
     requires least { 64 ≤ asked.now.area }
     requires most { asked.now.area ≤ 1073741824 }
 {
-    let (Ok(mut writer), Ok(errors)) = (
-        BufWriter::new(rt.alloc(), io::writer(rt)),
-        BufWriter::new(rt.alloc(), errors),
-    ) else {
-        return Err(AllocError);
-    };
-    let mut told = Telling {
-        errors,
-        is_quiet: persons.is_quiet,
-    };
+    let (mut writer, mut told) = buffers(rt.alloc(), io::writer(rt), errors, persons.is_quiet)?;
     let selection = match selection_seen(rt, files, asked, persons, &mut told) {
         Ok(selection) => selection,
         Err(fault) => return Ok(refuse(fault, &mut writer, &mut told)),
     };
-    // The memory for what is printed comes before the new file.
+    // The memory for what is printed is taken before the new file is made.
     let Ok(names) = selection.units.names(rt.alloc()) else {
         return Ok(refuse(PartFault::OutOfMemory, &mut writer, &mut told));
     };

@@ -5,13 +5,12 @@ ghost use Rattle.std.specs.Io.KnownBytes.{Appends};
 ghost use Rattle.cc_log.specs.Written.{log_text};
 
 use crate::telling::{refuse, settled};
-use cc_answers::Telling;
-use cc_filing::disk_of;
+use cc_filing::{buffers, library_disk};
 use cc_library::{LibraryCommand, Name};
 use cc_log::{commands_on, write_log};
 use cc_tasks::{Done, PartFault};
 use std::alloc::{AllocError, Global};
-use std::io::{BufWriter, Write};
+use std::io::Write;
 
 // The commands of the library in a file.
 fn commands_of(
@@ -19,20 +18,16 @@ fn commands_of(
     files: &HostRuntime,
     disk: &str,
 ) -> Result<Vec<LibraryCommand>, PartFault> {
-    match disk_of(files, disk, None) {
-        Ok(disk) => {
-            let (commands, disk) = commands_on(alloc, disk);
-            drop(disk);
-            match commands {
-                Ok(commands) => Ok(commands),
-                Err(fault) => Err(PartFault::Library(fault)),
-            }
-        }
-        Err(reason) => Err(PartFault::Library(reason.fault())),
+    let disk = library_disk(files, disk)?;
+    let (commands, disk) = commands_on(alloc, disk);
+    drop(disk);
+    match commands {
+        Ok(commands) => Ok(commands),
+        Err(fault) => Err(PartFault::Library(fault)),
     }
 }
 
-// The name that is asked for, if one is.
+// The name that is asked for, if any.
 fn name_of(name: Option<&str>) -> Result<Option<Name>, PartFault> {
     let Some(name) = name else {
         return Ok(None);
@@ -59,7 +54,7 @@ fn answer<W: Write, E: Write>(
     settled(write, 0, writer, told)
 }
 
-// Writes the lines that are asked for, or why not; the status.
+// Writes the lines that are asked for, or why not. The result is the status.
 fn tell<W: Write, E: Write>(
     commands: &[LibraryCommand],
     name: Option<&str>,
@@ -72,8 +67,8 @@ fn tell<W: Write, E: Write>(
     }
 }
 
-/// Writes the commands of the library in a file since its last compaction, or those about one name; the status. The error is lack of memory
-/// before it began.
+/// Writes the commands of the library in a file since its last compaction, or those about one name. The result is the status. The
+/// error is lack of memory before the command began.
 pub fn log_of_file<R: AllocGlobal, A: Write + Drop, E: Write + Drop>(
     rt: &R,
     files: &HostRuntime,
@@ -83,13 +78,7 @@ pub fn log_of_file<R: AllocGlobal, A: Write + Drop, E: Write + Drop>(
     answers: A,
     errors: E,
 ) -> Result<u8, AllocError> {
-    let (Ok(mut writer), Ok(errors)) = (
-        BufWriter::new(rt.alloc(), answers),
-        BufWriter::new(rt.alloc(), errors),
-    ) else {
-        return Err(AllocError);
-    };
-    let mut told = Telling { errors, is_quiet };
+    let (mut writer, mut told) = buffers(rt.alloc(), answers, errors, is_quiet)?;
     Ok(match commands_of(rt.alloc(), files, disk) {
         Ok(commands) => tell(commands.as_slice(), name, &mut writer, &mut told),
         Err(fault) => refuse(fault, &mut writer, &mut told),

@@ -1,34 +1,30 @@
 // The command `size` with DISK and NAME: what the image of a unit of the library in a file takes. Nothing is written to the file.
 
 use crate::telling::{refuse, unwritten};
-use cc_answers::{Telling, tell_audit};
+use cc_answers::tell_audit;
 use cc_call::{StoredSize, size_on};
 use cc_command_line::Measuring;
-use cc_filing::disk_of;
+use cc_filing::{buffers, library_disk};
 use cc_findings::write_measure;
 use cc_tasks::{PartFault, mode_of};
 use std::alloc::{AllocError, Global};
-use std::io::{BufWriter, Write};
+use std::io::Write;
 
-// What the image of the unit takes.
+// How much memory the image of the unit takes.
 fn size_of<E: Write>(
     alloc: Global,
     files: &HostRuntime,
     asked: &Measuring,
     told: &mut E,
 ) -> Result<StoredSize, PartFault> {
-    match disk_of(files, asked.disk.as_str(), None) {
-        Ok(disk) => {
-            let name = asked.name.as_bytes();
-            let (size, disk) = size_on(alloc, disk, name, mode_of(asked.kind), told);
-            drop(disk);
-            size
-        }
-        Err(reason) => Err(PartFault::Library(reason.fault())),
-    }
+    let disk = library_disk(files, asked.disk.as_str())?;
+    let name = asked.name.as_bytes();
+    let (size, disk) = size_on(alloc, disk, name, mode_of(asked.kind), told);
+    drop(disk);
+    size
 }
 
-// Writes what an image takes, or what an audit says of the unit; the status.
+// Writes how much memory an image takes, or what an audit says about the unit. The result is the status.
 fn answer<W: Write, E: Write>(name: &[u8], size: &StoredSize, writer: &mut W, told: &mut E) -> u8 {
     match size {
         StoredSize::Confirmed(measure) => {
@@ -47,8 +43,8 @@ fn answer<W: Write, E: Write>(name: &[u8], size: &StoredSize, writer: &mut W, to
     }
 }
 
-/// Writes what the image of a unit of the library in a file takes, or the line of an audit that does not confirm it; the status: 0 if it is
-/// confirmed. The error is lack of memory before it began.
+/// Writes what the image of a unit of the library in a file takes, or the line of an audit that does not confirm it. The result
+/// is the status: 0 if it is confirmed. The error is lack of memory before the command began.
 pub fn size_in_file<R: AllocGlobal, A: Write + Drop, E: Write + Drop>(
     rt: &R,
     files: &HostRuntime,
@@ -57,13 +53,7 @@ pub fn size_in_file<R: AllocGlobal, A: Write + Drop, E: Write + Drop>(
     answers: A,
     errors: E,
 ) -> Result<u8, AllocError> {
-    let (Ok(mut writer), Ok(errors)) = (
-        BufWriter::new(rt.alloc(), answers),
-        BufWriter::new(rt.alloc(), errors),
-    ) else {
-        return Err(AllocError);
-    };
-    let mut told = Telling { errors, is_quiet };
+    let (mut writer, mut told) = buffers(rt.alloc(), answers, errors, is_quiet)?;
     Ok(match size_of(rt.alloc(), files, asked, &mut told) {
         Ok(size) => answer(asked.name.as_bytes(), &size, &mut writer, &mut told),
         Err(fault) => refuse(fault, &mut writer, &mut told),

@@ -1,16 +1,15 @@
 // The commands `image` and `source` with `--at`, and `restore`: what a command of the library in a file stored.
 
 use crate::telling::{refuse, unwritten};
-use cc_answers::Telling;
 use cc_command_line::{Restoring, Wanted};
-use cc_filing::{disk_of, write_found};
+use cc_filing::{buffers, library_disk, write_found};
 use cc_past::{part_at, restore};
 use cc_screen::Screen;
 use cc_tasks::PartFault;
 use std::alloc::{AllocError, Global};
-use std::io::{self, BufWriter, IsTerminal, Print, Write};
+use std::io::{self, IsTerminal, Print, Write};
 
-/// What is told where a command stored nothing under the name.
+/// What a person reads if a command stored nothing under the name.
 const NOT_STORED: &str =
     "cclib: that command stored no unit under the name: `cclib log DISK NAME` has those that did\n";
 
@@ -29,19 +28,15 @@ fn bytes_of(
     wanted: &Wanted,
     number: u64,
 ) -> Result<Vec<u8>, PartFault> {
-    match disk_of(files, wanted.disk.as_str(), None) {
-        Ok(disk) => {
-            let name = wanted.name.as_bytes();
-            let (found, disk) = part_at(alloc, disk, name, wanted.part, number as usize);
-            drop(disk);
-            found
-        }
-        Err(reason) => Err(PartFault::Library(reason.fault())),
-    }
+    let disk = library_disk(files, wanted.disk.as_str())?;
+    let name = wanted.name.as_bytes();
+    let (found, disk) = part_at(alloc, disk, name, wanted.part, number as usize);
+    drop(disk);
+    found
 }
 
-/// Writes a part of what the command of this number stored in the library in a file to standard output; the status. On a terminal control bytes
-/// of the source are shown as `?`. The error is lack of memory before it began.
+/// Writes to standard output a part of what the command with this number stored in the library in a file. The result is the
+/// status. On a terminal, control bytes of the source are shown as `?`. The error is lack of memory before the command began.
 pub fn take_out_of_past<R: AllocGlobal + Print, E: Write + Drop>(
     rt: &R,
     files: &HostRuntime,
@@ -50,33 +45,24 @@ pub fn take_out_of_past<R: AllocGlobal + Print, E: Write + Drop>(
     is_quiet: bool,
     errors: E,
 ) -> Result<u8, AllocError> {
-    let (Ok(buffered), Ok(errors)) = (
-        BufWriter::new(rt.alloc(), io::writer(rt)),
-        BufWriter::new(rt.alloc(), errors),
-    ) else {
-        return Err(AllocError);
-    };
+    let (buffered, mut told) = buffers(rt.alloc(), io::writer(rt), errors, is_quiet)?;
     let mut writer = Screen::new(buffered, files.stdout().is_terminal());
-    let mut told = Telling { errors, is_quiet };
     let found = bytes_of(rt.alloc(), files, wanted, number);
     explain_absent(&found, &mut told);
     let done = write_found(found, &mut writer, &mut told);
     Ok(done.status)
 }
 
-// Puts what a command stored back.
+// Puts back what a command stored.
 fn restored(alloc: Global, files: &HostRuntime, asked: &Restoring) -> Result<(), PartFault> {
-    match disk_of(files, asked.disk.as_str(), None) {
-        Ok(disk) => {
-            let (answer, disk) = restore(alloc, disk, asked.name.as_bytes(), asked.number as usize);
-            drop(disk);
-            answer
-        }
-        Err(reason) => Err(PartFault::Library(reason.fault())),
-    }
+    let disk = library_disk(files, asked.disk.as_str())?;
+    let (answer, disk) = restore(alloc, disk, asked.name.as_bytes(), asked.number as usize);
+    drop(disk);
+    answer
 }
 
-/// Puts what a command of the library in a file stored back; the status. The error is lack of memory before it began.
+/// Puts back what a command of the library in a file stored. The result is the status. The error is lack of memory before it
+/// began.
 pub fn restore_in_file<R: AllocGlobal + Print, E: Write + Drop>(
     rt: &R,
     files: &HostRuntime,
@@ -84,13 +70,7 @@ pub fn restore_in_file<R: AllocGlobal + Print, E: Write + Drop>(
     is_quiet: bool,
     errors: E,
 ) -> Result<u8, AllocError> {
-    let (Ok(mut writer), Ok(errors)) = (
-        BufWriter::new(rt.alloc(), io::writer(rt)),
-        BufWriter::new(rt.alloc(), errors),
-    ) else {
-        return Err(AllocError);
-    };
-    let mut told = Telling { errors, is_quiet };
+    let (mut writer, mut told) = buffers(rt.alloc(), io::writer(rt), errors, is_quiet)?;
     let answer = restored(rt.alloc(), files, asked);
     explain_absent(&answer, &mut told);
     Ok(match answer {

@@ -1,4 +1,4 @@
-// The line of a fault, and what a person is told of it.
+// The line for a fault, and its explanation to a person.
 
 ghost use Rattle.std.specs.Prelude.{◌≡◌, false, true, IsOk};
 ghost use Rattle.std.specs.Io.KnownBytes.{Keeps};
@@ -8,7 +8,7 @@ use cc_filing::explain_part;
 use cc_tasks::{Done, PartFault};
 use std::io::{self, Write};
 
-/// Says that an answer could not be written; the status.
+/// Says that an answer could not be written. The result is the status.
 pub(crate) fn unwritten<E: Write>(told: &mut E) -> u8
     ensures { result ≡ 1 }
 {
@@ -16,7 +16,7 @@ pub(crate) fn unwritten<E: Write>(told: &mut E) -> u8
     1
 }
 
-/// Flushes the writer after an answer: this status if it is written, else 1, with a word to a person.
+/// Flushes the writer after an answer. The result is this status if the answer is written; else it is 1, and a person reads why.
 pub(crate) fn settled<W: Write, E: Write>(
     write: io::Result<()>,
     status: u8,
@@ -42,7 +42,7 @@ pub(crate) fn settled<W: Write, E: Write>(
     }
 }
 
-/// Writes the line of a fault; the status.
+/// Writes the line for a fault. The result is the status.
 pub(crate) fn refuse_quietly<W: Write, E: Write>(number: u32, writer: &mut W, told: &mut E) -> u8 {
     let line = write_fault_line(number, Stands::Nowhere, b"", writer);
     if line.is_err() || writer.flush().is_err() {
@@ -51,7 +51,7 @@ pub(crate) fn refuse_quietly<W: Write, E: Write>(number: u32, writer: &mut W, to
     1
 }
 
-/// Writes the line of a fault, and explains it; the status.
+/// Writes the line for a fault, and explains it. The result is the status.
 pub(crate) fn refuse<W: Write, E: Write>(fault: PartFault, writer: &mut W, told: &mut E) -> u8 {
     let status = refuse_quietly(fault.number(), writer, told);
     let _ = explain_part(fault, told);

@@ -3,13 +3,13 @@ use Rattle.std.proofs.Common.{◌≡◌, ◌≢◌, Bool, true, false, cond, ref
 use Rattle.std.specs.Prelude.{Option, Some, None, Result, Ok, Err, IsOk, is_some}
 use Rattle.std.specs.Cmp.Lexicographic.{nat_list_cmp_total}
 use Rattle.std.specs.FinMap as map
-use Rattle.cc_library.specs.declared.command.LibraryCommand.{LibraryCommand}
-use Rattle.cc_library.specs.declared.command.LibraryCommand.TheVariants.{Add, Replace, Withdraw}
+use Rattle.cc_library.specs.Change.{LibraryCommand}
+use Rattle.cc_library.specs.declared.command.Change.TheVariants.{Add, Replace, Withdraw}
 use Rattle.cc_library.specs.Apply.{Units, apply, after, kept, refusal, exists, absent}
 use Rattle.cc_library.specs.internal.Halves.{begun, finished, undone}
 use Rattle.cc_library.proofs.Tables.{put_and_taken}
 
--- no number refuses a command exactly if it is accepted
+-- an answer without a number of a refusal accepts the command
 pub is_accepted : (answer : Result Units ℕ) → refusal answer ≡ None → IsOk answer
 is_accepted (Ok made) e = refl
 is_accepted (Err number) e = absurd (cc e)
@@ -23,7 +23,7 @@ pub refused_by : (answer : Result Units ℕ) (number : ℕ) → Some number ≡ 
 refused_by (Ok made) number is = absurd (cc is)
 refused_by (Err n) number is = cc is
 
--- and it is 32 if it is not 31
+-- a refusal of an absent name has the number 32
 absent_where : (there : Bool) (made : Units) (number : ℕ) → Some number ≡ refusal (cond there (Ok made) (Err absent)) → cond there (Ok made) (Err absent) ≡ Err absent
 absent_where true made number is = absurd (cc is)
 absent_where false made number is = refl
@@ -59,7 +59,7 @@ was_absent : (there : Bool) (made : Units) → IsOk {T = Units} {E = ℕ} (cond 
 was_absent true made ok = absurd (cc ok)
 was_absent false made ok = refl
 
--- one that was begun and undone leaves the map as it was
+-- a change that was begun and undone leaves the map as it was
 pub undone_is : (units : Units) (command : LibraryCommand) → IsOk (apply units command) → undone (begun units command) command ≡ units
 undone_is units (Add name unit) ok =
     put_and_taken nat_list_cmp_total (map.slice_cmp-IsAntisymmetric map.nat_cmp-IsAntisymmetric) units name unit

@@ -4,8 +4,8 @@ use Rattle.std.specs.Prelude.{IsTrue, ◌||◌}
 use Rattle.std.proofs.lemmas.Bool.{eqb-true, ne_eqb}
 use Rattle.std.proofs.lemmas.List.{append-nil, nil_from_length}
 use Rattle.std.proofs.lemmas.Option.{none-some, same_Some}
-use Rattle.cc_library.specs.declared.command.LibraryCommand.{LibraryCommand}
-use Rattle.cc_library.specs.declared.command.LibraryCommand.TheVariants.{Add, Replace, Withdraw}
+use Rattle.cc_library.specs.Change.{LibraryCommand}
+use Rattle.cc_library.specs.declared.command.Change.TheVariants.{Add, Replace, Withdraw}
 use Rattle.cc_library.specs.Name.{is_name}
 use Rattle.cc_unit.specs.declared.unit.StoredUnit.{StoredUnit}
 use Rattle.cc_library.specs.Body.{AreBelow, HasVersion, IsCommand, Spells, body_of, certificate_version, name_field, spelling, unit_fields}
@@ -72,7 +72,7 @@ kind_again version (Replace name unit) units =
     rw whole refl
 kind_again version (Withdraw name) units = refl
 
--- a spelling of a command, in its parts
+-- a spelling of a command, split into its parts
 in_parts : (version : ℕ) (command : LibraryCommand) → spelling version command ≡ version ∷ (kind_of command ∷ (name_field (name_of command) ++ rest_of command))
 in_parts version (Add name unit) = refl
 in_parts version (Replace name unit) = refl
@@ -168,7 +168,7 @@ command_again version command has is =
     let known = known_version version command has in
     ap command_in (in_parts version command) ∙ rw (name, kind_again version command (has_units version command has is), known) refl
 
--- what spells a command is read as it
+-- whatever spells a command is read as that command
 pub spelled_is_read : (bytes : List ℕ) (command : LibraryCommand) → Spells bytes command → command_in bytes ≡ Some command
 spelled_is_read bytes command p = ap command_in p.spelled ∙ command_again p.version command p.has_version p.command_is
 

@@ -1,5 +1,5 @@
--- One Add per name represents the map. The reason: from the map of the entries before them, the Adds of the next entries lead to the map of
--- all. Each is accepted, since in a list with ascending names no name is among those before it.
+-- One Add per name represents the map. The reason: starting from the map of the entries before them, the Adds of the next entries
+-- lead to the map of all. Each is accepted, since in a list with ascending names no name is among those before it.
 use Rattle.std.proofs.Common.{◌≡◌, ℕ, ◌+◌, ◌-◌, ◌<◌, ◌≤◌, length, List, [], ◌∷◌, ◌++◌, Bool, true, false, ◌&&◌, refl, sym, ap, subst, ◌∙◌, append_assoc, length-append, cond, Some, None, arith}
 use Rattle.std.specs.Int.{w32, to_le_bytes}
 use Rattle.std.specs.Prelude.{T, IsOk, Ok, Err, if◌then◌else◌, is_some, Result}
@@ -12,7 +12,7 @@ use Rattle.std.specs.FinMap as map
 use Rattle.std.specs.FinMap.Entries.{find, is_sorted, below_all}
 use Rattle.cc_journal.specs.Format.{record_bytes, records, room_of}
 use Rattle.cc_unit.specs.declared.unit.StoredUnit.{StoredUnit}
-use Rattle.cc_library.specs.declared.command.LibraryCommand.TheVariants.{Add}
+use Rattle.cc_library.specs.declared.command.Change.TheVariants.{Add}
 use Rattle.cc_library.specs.Apply.{Units, apply, after, after_all, kept, exists, AreAccepted}
 use Rattle.cc_library.specs.Body.{Spells, body_of}
 use Rattle.cc_library.specs.Recovered.{AreSpelled, StandFor}
@@ -87,7 +87,7 @@ adds_stand units bodies spelled =
     let all = leads [] (map.entries units) (map.entries_sorted units) in
     record { commands = adds_of units; spelled = spelled; accepted = all.0; map_is = whole units ∙ sym all.1 }
 
--- they are the bodies of these Adds, as they are written
+-- bodies that spell these Adds are their bodies as they are written
 pub spelled_bodies : (bodies : List (List ℕ)) (es : List Entry) → AreSpelled bodies (adds es) → bodies ≡ bodies_of (adds es)
 spelled_bodies [] [] spelled = refl
 spelled_bodies [] (e ∷ es) spelled = absurd spelled
@@ -100,18 +100,18 @@ spelled_bodies (body ∷ bodies) (e ∷ es) spelled =
 pub spelled_compacted : (bodies : List (List ℕ)) (units : Units) → AreSpelled bodies (adds_of units) → bodies ≡ compacted units
 spelled_compacted bodies units spelled = spelled_bodies bodies (map.entries units) spelled
 
--- ---- their room
+-- ---- the room that they take
 
 -- the room of some records and one more
 pub room_record : (bodies : List (List ℕ)) (body : List ℕ) → room_of (bodies ++ body ∷ []) ≡ room_of bodies + (length body + 5)
 room_record [] body = omega (arith, length-append (record_bytes body) [], record_long body)
 room_record (b ∷ bodies) body = omega (arith, room_record bodies body, length-append (record_bytes b) (records (bodies ++ body ∷ [])), length-append (record_bytes b) (records bodies))
 
--- there is no room for one more
+-- if the body is longer than what the area leaves for it, there is no room for one more record
 pub no_room_left : (bodies : List (List ℕ)) (body : List ℕ) (area n : ℕ) → n ≡ length body → area - 5 ≤ n → room_of (bodies ++ body ∷ []) ≤ area → ⊥
 no_room_left bodies body area n long few fits = omega (arith, room_record bodies body, long, few, fits)
 
--- or there is room, if the others leave it
+-- otherwise there is room for one more record exactly if the others leave it
 pub room_left : (bodies : List (List ℕ)) (body : List ℕ) (area n left : ℕ) → n ≡ length body → n < area - 5 → left ≡ area - 5 - n
     → (room_of bodies ≤ left → room_of (bodies ++ body ∷ []) ≤ area) × (room_of (bodies ++ body ∷ []) ≤ area → room_of bodies ≤ left)
 room_left bodies body area n left long few is = (λ le. omega (arith, room_record bodies body, long, few, is, le), λ le. omega (arith, room_record bodies body, long, few, is, le))
@@ -122,18 +122,18 @@ room_push [] e = omega (arith, length-append (record_bytes (body_of (Add e.0 e.1
 room_push (f ∷ es) e =
     omega (arith, room_push es e, length-append (record_bytes (body_of (Add f.0 f.1))) (records (bodies_of (adds (es ++ e ∷ [])))), length-append (record_bytes (body_of (Add f.0 f.1))) (records (bodies_of (adds es))))
 
--- some entries take at most as much room as all
+-- some of the entries take at most as much room as all
 pub room_prefix : (prefix rest : List Entry) → room_of (bodies_of (adds prefix)) ≤ room_of (bodies_of (adds (prefix ++ rest)))
 room_prefix [] rest = omega arith
 room_prefix (f ∷ prefix) rest =
     omega (arith, room_prefix prefix rest, length-append (record_bytes (body_of (Add f.0 f.1))) (records (bodies_of (adds (prefix ++ rest)))), length-append (record_bytes (body_of (Add f.0 f.1))) (records (bodies_of (adds prefix))))
 
--- and so does one
+-- the body of one entry is shorter than the room of all
 pub room_one : (prefix rest : List Entry) (e : Entry) → length (body_of (Add e.0 e.1)) < room_of (bodies_of (adds (prefix ++ e ∷ rest)))
 room_one [] rest e = omega (arith, length-append (record_bytes (body_of (Add e.0 e.1))) (records (bodies_of (adds rest))), record_long (body_of (Add e.0 e.1)))
 room_one (f ∷ prefix) rest e = omega (arith, room_one prefix rest e, length-append (record_bytes (body_of (Add f.0 f.1))) (records (bodies_of (adds (prefix ++ e ∷ rest)))))
 
--- one more
+-- bodies that spell some Adds, and one more, spell one more Add
 pub spelled_push : (bodies : List (List ℕ)) (es : List Entry) (body : List ℕ) (e : Entry) → AreSpelled bodies (adds es) → Spells body (Add e.0 e.1) → AreSpelled (bodies ++ body ∷ []) (adds (es ++ e ∷ []))
 spelled_push [] [] body e spelled one = (one, tt)
 spelled_push [] (f ∷ es) body e spelled one = absurd spelled

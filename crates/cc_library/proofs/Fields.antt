@@ -1,4 +1,4 @@
--- What is read is what was written, and what was written is read again: for each kind of field, up to the unit.
+-- For each kind of field, up to the unit: what is read is what was written, and what was written is read again.
 use Rattle.std.proofs.Common.{◌≡◌, ℕ, zero, suc, ◌^◌, ◌<◌, ◌≤◌, Bool, true, false, ◌&&◌, cond, ltb, eqb, List, [], ◌∷◌, ◌++◌, length, get_or, take, drop, Option, Some, None, refl, sym, ap, subst, ◌∙◌, append_assoc, arith}
 use Rattle.std.specs.Prelude.{IsTrue, nat_le}
 use Rattle.std.specs.List.{flat_map}
@@ -15,17 +15,17 @@ use Rattle.cc_library.specs.internal.Reading.{◌>>=◌, taken, number_in, words
 
 -- ---- tools
 
--- the value of a step that found something
+-- if two steps find something, so does the first, and the second finds it from that
 pub bind_some : {A B : Type 0} (o : Option A) (f : A → Option B) (y : B) → (o >>= f) ≡ Some y → (x : A) × (o ≡ Some x) × (f x ≡ Some y)
 bind_some (Some x) f y e = (x, refl, e)
 bind_some None f y e = absurd (none-some y e)
 
--- a test that had to fail
+-- if the value comes only when a test fails, the test failed
 pub unless_some : {A : Type 0} (b : Bool) (x y : A) → cond b None (Some x) ≡ Some y → (b ≡ false) × (x ≡ y)
 unless_some true x y e = absurd (none-some y e)
 unless_some false x y e = (refl, same_Some x y e)
 
--- a test that had to hold
+-- if the value comes only when a test holds, the test holds
 pub when_some : {A : Type 0} (b : Bool) (o : Option A) (y : A) → cond b o None ≡ Some y → (b ≡ true) × (o ≡ Some y)
 when_some true o y e = (refl, e)
 when_some false o y e = absurd (none-some y e)
@@ -61,14 +61,14 @@ pub record Takes (bytes text rest : List ℕ) : Type 0 where
 pub Takes-then : (a x b y c : List ℕ) → Takes a x b → Takes b y c → Takes a (x ++ y) c
 Takes-then a x b y c p q = record { parts = p.parts ∙ ap (λ (t : List ℕ). x ++ t) q.parts ∙ sym (append_assoc x y c); below = q.below }
 
--- reading and writing undo each other at the values that have P
+-- reading and writing undo each other for the values that have P
 pub record IsField {X : Type 0} (read : List ℕ → Option (X × List ℕ)) (write : X → List ℕ) (P : X → Type 0) : Type 0 where
   pub takes : (bytes : List ℕ) (x : X) (rest : List ℕ) → AreBelow 256 bytes → read bytes ≡ Some (x, rest) → Takes bytes (write x) rest × P x
   pub again : (x : X) (rest : List ℕ) → P x → read (write x ++ rest) ≡ Some (x, rest)
 
 -- ---- numbers
 
--- four bytes that spell a number, by any spelling
+-- four bytes that spell a number, whatever the spelling
 record IsWide (spell : ℕ → List ℕ) (value : List ℕ → ℕ) : Type 0 where
   len : (n : ℕ) → length (spell n) ≡ 4
   back : (bytes : List ℕ) (n : ℕ) → length bytes ≡ 4 → AreBelow 256 bytes → n ≡ value bytes → spell n ≡ bytes
@@ -225,12 +225,12 @@ name_fields = record { takes = name_takes; again = name_again }
 
 -- ---- a certificate
 
--- version 2 has one, and no other version has
+-- a unit has a certificate in version 2, and in no other version
 abbrev pub StandsIn : (version : ℕ) → Option (List ℕ) → Type 0
 StandsIn version None = eqb version 2 ≡ false
 StandsIn version (Some certificate) = eqb version 2 ≡ true
 
--- reading it, if the version is known to be 2 or known not to be
+-- reading a certificate, if it is known whether the version is 2
 abbrev certificate_by : (two : Bool) → List ℕ → Option (Option (List ℕ) × List ℕ)
 certificate_by two bytes = cond two (number_in bytes >>= λ n. taken n.0 n.1 >>= λ found. Some (Some found.0, found.1)) (Some (None, bytes))
 

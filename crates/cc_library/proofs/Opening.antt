@@ -17,7 +17,7 @@ use Rattle.cc_library.proofs.Standing.{one_map, none_left}
 pub has_header : (image : List ℕ) (area : ℕ) (bodies : List (List ℕ)) → HoldsRecords image area bodies → HasHeader image area
 has_header image area bodies h = record { area_byte = h.area_byte; rest = h.other ++ (records bodies ++ h.gate ∷ h.behind); bytes = h.bytes; is_area = h.is_area }
 
--- if records represent no map, the image that has them and no others recovers to no map
+-- if records represent no map, an image that has exactly these records recovers to no map
 pub replay_refused : (honest : Bool) (seen : List ℕ) (area : ℕ) (bodies : List (List ℕ)) (before behind : ℕ) (fault : LibraryFault) → (IsTrue honest → HoldsAlone seen area bodies) → ReplayFaults bodies fault
     → behind ≡ before → OpenFaults honest seen before behind fault
 replay_refused honest seen area bodies before behind Damaged holds faults same = (

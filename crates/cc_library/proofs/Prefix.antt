@@ -13,7 +13,7 @@ use Rattle.cc_library.proofs.Fields.{both_true}
 
 -- ---- the number of a prefix
 
--- one byte further
+-- the number of a prefix after one more byte
 at_byte : (a n k : ℕ) (bytes : List ℕ) → prefix_number a (suc n) (drop k bytes) ≡ prefix_number (a * 256 + get_or bytes k 0) n (drop (suc k) bytes)
 unfolding prefix_number
 at_byte a n zero [] = ap (λ (m : ℕ). prefix_number m n []) (omega arith)
@@ -44,7 +44,7 @@ least a (suc n) [] = omega arith
 least a (suc n) (zero ∷ xs) = subst (λ (m : ℕ). prefix_number (a * 256) n [] ≤ prefix_number m n xs) (omega arith) (least (a * 256) n xs)
 least a (suc n) (suc x ∷ xs) = omega (arith, stays (a * 256) (a * 256 + suc x) n [] xs (omega arith) tt)
 
--- by how the first two bytes compare
+-- how two prefixes compare, depending on how their first bytes compare
 by_first : (a n x y : ℕ) (xs ys : List ℕ) (o : Ordering) → MatchOrdering o (x < y) (x ≡ y) (y < x) → x < 256 → y < 256 → AreBelow 256 xs → AreBelow 256 ys
     → (x ≡ y → MatchOrdering (slice_cmp nat_cmp xs ys) (prefix_number (a * 256 + x) n xs < prefix_number (a * 256 + y) n ys) (prefix_number (a * 256 + x) n xs ≡ prefix_number (a * 256 + y) n ys)
     (prefix_number (a * 256 + y) n ys < prefix_number (a * 256 + x) n xs))
@@ -73,7 +73,7 @@ by_prefixes xs ys below below2 differ = nat_cmp_is (prefix_number 0 8 xs) (prefi
 abbrev horner : ℕ → ℕ → ℕ
 horner so_far byte = so_far * 256 + byte
 
--- the number of eight bytes
+-- the number of the first eight bytes
 pub prefix_is : (bytes : List ℕ) → prefix_number 0 8 bytes
     ≡ horner (horner (horner (horner (horner (horner (horner (horner 0 (get_or bytes 0 0)) (get_or bytes 1 0)) (get_or bytes 2 0)) (get_or bytes 3 0)) (get_or bytes 4 0)) (get_or bytes 5 0)) (get_or bytes 6 0)) (get_or bytes 7 0)
 prefix_is bytes =

@@ -1,5 +1,5 @@
--- A change that was refused: without a device call every image still recovers to the old map; and what is left after a refusal by the
--- journal, and whether the library is closed then.
+-- A change that was refused. Without a device call every image still recovers to the old map. Also: what is left after a refusal
+-- by the journal, and whether the library is closed then.
 use Rattle.std.proofs.Common.{◌≡◌, ◌≢◌, ℕ, ◌<◌, ◌≤◌, List, [], ◌∷◌, ◌++◌, Bool, true, false, IsTrue, sym, ap, subst, ◌∙◌, refl, arith}
 use Rattle.std.specs.Prelude.{Err, IsOk}
 use Rattle.cc_disk.specs.Images.{LeavesOnly}
@@ -10,7 +10,7 @@ use Rattle.cc_journal.specs.contracts.fault.JournalFault.{the_type}
 use Rattle.cc_journal.specs.declared.fault.JournalFault.{JournalFault}
 use Rattle.cc_journal.specs.declared.fault.JournalFault.TheVariants as journal
 use Rattle.cc_journal.specs.Journal as journals
-use Rattle.cc_library.specs.declared.command.LibraryCommand.{LibraryCommand}
+use Rattle.cc_library.specs.Change.{LibraryCommand}
 use Rattle.cc_library.specs.Fault.{fault_of}
 use Rattle.cc_library.specs.Apply.{Units, after, apply}
 use Rattle.cc_library.specs.Body.{body_of}
@@ -25,7 +25,7 @@ module _ {D : Type 0} where
   abbrev pub seen_as : journals.View D → Units → Bool → View D
   seen_as j units closed = record { disk = j.disk; area = j.area; bodies = j.bodies; units = units; closed = closed }
 
-  -- without a device call
+  -- what holds at each moment if no device call was made
   pub quiet_edit : (made : View D → List (List ℕ)) (result : View D → Units) (honest : Bool) (moment : D → ℕ) (left_since : D → ℕ → List ℕ → Type 0) (may_leave : D → List ℕ → Type 0) (j : journals.View D) (units : Units) (closed : Bool) (old : View D)
       → seen_as j units closed ≡ old → StandFor j.bodies units → closed ≡ j.closed
       → (IsTrue honest → j.closed ≡ false → (image : List ℕ) → may_leave j.disk image → HoldsAlone image j.area j.bodies)
@@ -45,7 +45,7 @@ module _ {D : Type 0} where
   quiet_change honest moment left_since may_leave j units closed old command is stand same kept only_now d d_is =
       quiet_edit (λ v. v.bodies ++ body_of command ∷ []) (λ v. after v.units command) honest moment left_since may_leave j units closed old is stand same kept only_now d d_is
 
-  -- without a device call, for the map alone
+  -- the same, only for the map
   pub still_map : (P : List ℕ → Type 0) (honest : Bool) (moment : D → ℕ) (left_since : D → ℕ → List ℕ → Type 0) (may_leave : D → List ℕ → Type 0) (j : journals.View D) (units : Units) (closed : Bool) (old : View D)
       → seen_as j units closed ≡ old → StandFor j.bodies units → closed ≡ j.closed
       → (IsTrue honest → j.closed ≡ false → (image : List ℕ) → may_leave j.disk image → HoldsAlone image j.area j.bodies)
@@ -109,7 +109,7 @@ module _ {D : Type 0} where
   compact_refused journal.Damaged j units closed bodies before behind is same answers = absurd answers
   compact_refused journal.NotALibrary j units closed bodies before behind is same answers = absurd answers
 
-  -- a refusal of the journal's `append`, or of the log if it would not take a record, is a refusal of the change
+  -- a refusal of the journal's `append`, or of the log if it does not take a record, is a refusal of the change
   pub change_refused : (fault : JournalFault) (j : journals.View D) (units : Units) (closed : Bool) (command : LibraryCommand) (before behind : ℕ) → closed ≡ j.closed → IsOk (apply units command)
       → AppendAnswers {T = Unit {0}} j.closed j.area j.bodies (body_of command) before behind (Err fault) → ChangeAnswers {T = Unit {0}} (seen_as j units closed) command before behind (Err (fault_of fault))
   change_refused journal.Full j units closed command before behind same ok answers = ((same ∙ answers.0, ok), answers.1, answers.2)
@@ -121,7 +121,7 @@ module _ {D : Type 0} where
 
   -- ---- what a `compact` would mend
 
-  -- 34 refuses what the map accepts: the record does not fit
+  -- 34 for a command that the map accepts: the record does not fit
   pub is_full : (fault : JournalFault) (full : Bool) (j : journals.View D) (units : Units) (closed : Bool) (command : LibraryCommand) → full ≡ sameb the_type fault journal.Full → full ≡ true → closed ≡ j.closed → IsOk (apply units command)
       → AppendAnswers {T = Unit {0}} j.closed j.area j.bodies (body_of command) 0 0 (Err fault) → IsAsked (seen_as j units closed) command × (j.area < room_with (seen_as j units closed) command)
   is_full journal.Full full j units closed command e is same ok answers = ((same ∙ answers.0, ok), answers.1)
@@ -131,7 +131,7 @@ module _ {D : Type 0} where
   is_full journal.Damaged full j units closed command e is same ok answers = absurd answers
   is_full journal.NotALibrary full j units closed command e is same ok answers = absurd answers
 
-  -- any other answer means that it fits, or that the journal is closed
+  -- any other answer means that the record fits, or that the journal is closed
   pub not_full : (fault : JournalFault) (full : Bool) (j : journals.View D) (units : Units) (closed : Bool) (command : LibraryCommand) → full ≡ sameb the_type fault journal.Full → full ≡ false → closed ≡ j.closed
       → AppendAnswers {T = Unit {0}} j.closed j.area j.bodies (body_of command) 0 0 (Err fault) → IsMended (seen_as j units closed) command → ⊥
   not_full journal.Full full j units closed command e is same answers mended = let no : true ≡ false = sym e ∙ is in cc
@@ -141,7 +141,7 @@ module _ {D : Type 0} where
   not_full journal.Damaged full j units closed command e is same answers mended = absurd answers
   not_full journal.NotALibrary full j units closed command e is same answers mended = absurd answers
 
-  -- it leaves everything as it was: no device has failed
+  -- the refused change leaves everything as it was, since no device failed
   pub change_leaves : (fault : JournalFault) (closed : Bool) (area : ℕ) (bodies : List (List ℕ)) (body : List ℕ) (old : View D) (command : LibraryCommand)
       → AppendAnswers {T = Unit {0}} closed area bodies body 0 0 (Err fault) → ChangeLeaves {T = Unit {0}} command old old (Err (fault_of fault))
   change_leaves journal.Full closed area bodies body old command answers = refl

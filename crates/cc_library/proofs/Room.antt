@@ -1,5 +1,6 @@
--- A compaction never takes more room. How: by entries. A command puts one entry in or takes some out, so the records of the entries never
--- take more than those of the commands that led to them; an Add and a Replace of a unit are of one length.
+-- A compaction never takes more room. The proof goes by entries: a command puts in one entry or takes some out, so the records of
+-- the entries never take more than those of the commands that led to them. The Add and the Replace of a unit have the same
+-- length.
 use Rattle.std.proofs.Common.{◌≡◌, ℕ, ◌+◌, ◌≤◌, Bool, true, false, cond, not, Option, None, Some, List, [], ◌∷◌, length, refl, sym, ap, subst, ◌∙◌, arith, length-append}
 use Rattle.std.specs.Prelude.{T, Ok, Err}
 use Rattle.std.specs.declared.cmp.Ordering.{Ordering}
@@ -12,8 +13,8 @@ use Rattle.std.specs.FinMap.Entries.{put, by_order, is_sorted, is_sorted-where_k
 use Rattle.cc_journal.specs.Format.{record_bytes, records}
 use Rattle.cc_unit.specs.declared.unit.StoredUnit.{StoredUnit}
 use Rattle.cc_library.specs.declared.command.Kind.TheVariants as kind
-use Rattle.cc_library.specs.declared.command.LibraryCommand.{LibraryCommand}
-use Rattle.cc_library.specs.declared.command.LibraryCommand.TheVariants.{Add, Replace, Withdraw}
+use Rattle.cc_library.specs.Change.{LibraryCommand}
+use Rattle.cc_library.specs.declared.command.Change.TheVariants.{Add, Replace, Withdraw}
 use Rattle.cc_library.specs.Apply.{Units, after, after_all, kept}
 use Rattle.cc_library.specs.Body.{body_of}
 use Rattle.cc_library.specs.Recovered.{AreSpelled, StandFor}
@@ -33,14 +34,14 @@ Entry = List ℕ × StoredUnit
 abbrev pub size : List Entry → ℕ
 size es = length (records (bodies_of (adds es)))
 
--- of one
+-- the bytes of the record of one entry
 abbrev pub one : List ℕ → StoredUnit → ℕ
 one name unit = length (record_bytes (body_of (Add name unit)))
 
 pub size-more : (name : List ℕ) (unit : StoredUnit) (es : List Entry) → size ((name, unit) ∷ es) ≡ one name unit + size es
 size-more name unit es = length-append (record_bytes (body_of (Add name unit))) (records (bodies_of (adds es)))
 
--- an entry put in its place
+-- the size of the entries after one is put in its place
 pub put_size : (name : List ℕ) (unit : StoredUnit) (es : List Entry) → size (put R name unit es) ≤ one name unit + size es
 put_size name unit [] = omega (arith, size-more name unit [])
 put_size name unit (e ∷ es) = at (put_size name unit es) (R name e.0) refl
@@ -52,7 +53,7 @@ put_size name unit (e ∷ es) = at (put_size name unit es) (R name e.0) refl
         omega (arith, size-more e.0 unit es, size-more e.0 e.1 es, ap (λ (n : List ℕ). one n unit) same)
     at rest Greater is = omega (arith, size-more e.0 e.1 (put R name unit es), size-more e.0 e.1 es, rest)
 
--- entries taken out
+-- the size of the entries after some are taken out
 pub where_size : (p : List ℕ → Bool) (es : List Entry) → size (filter (λ (e : Entry). p e.0) es) ≤ size es
 where_size p [] = omega arith
 where_size p (e ∷ es) = at (where_size p es) (p e.0)
@@ -96,7 +97,7 @@ after_remove units name =
     let is = entries-remove units name in
     subst (λ (es : List Entry). size es ≤ size (map.entries units)) (sym is.1) (where_size is.0 (map.entries units))
 
--- a command adds no more than its record
+-- a command adds at most the size of its record
 after_one : (units : Units) (c : LibraryCommand) → size (map.entries (after units c)) ≤ length (record_bytes (body_of c)) + size (map.entries units)
 after_one units (Add name unit) = at (map.contains_key units name)
   where
@@ -131,7 +132,7 @@ after_those from (body ∷ bodies) (c ∷ commands) spelled = omega (
   record_long (body_of c),
 )
 
--- the records of one Add per name take no more than any records that lead to the map
+-- the records of one Add per name take at most as much room as any records that lead to the map
 pub compacted_least : (bodies : List (List ℕ)) (units : Units) → StandFor bodies units → length (records (compacted units)) ≤ length (records bodies)
 compacted_least bodies units stand =
     let all = after_those map.empty bodies stand.commands stand.spelled in

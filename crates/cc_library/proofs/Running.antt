@@ -3,7 +3,7 @@ use Rattle.std.proofs.Common.{◌≡◌, ◌≢◌, ◌⊎◌, inl, inr, ℕ, �
 use Rattle.std.specs.Prelude.{Result, Ok, Err}
 use Rattle.cc_disk.specs.Images.{LeavesOnly}
 use Rattle.cc_journal.specs.Format.{HasHeader, HoldsRecords}
-use Rattle.cc_library.specs.declared.command.LibraryCommand.{LibraryCommand}
+use Rattle.cc_library.specs.Change.{LibraryCommand}
 use Rattle.cc_library.specs.declared.command.Edit.{Edit}
 use Rattle.cc_library.specs.declared.command.Edit.TheVariants.{Change, Compact}
 use Rattle.cc_library.specs.declared.fault.LibraryFault.{LibraryFault}
@@ -36,7 +36,7 @@ recovers_some : (image : List ℕ) (area : ℕ) (bodies : List (List ℕ)) (old 
 recovers_some image area bodies old made new (inl p) = (old, p.1.recovers)
 recovers_some image area bodies old made new (inr p) = (new, p.1.recovers)
 
--- an honest disk is refused because the device failed or memory ran out
+-- opening an honest disk is refused because the device failed or memory ran out
 pub cause_of : (honest : Bool) (image : List ℕ) (area : ℕ) (bodies : List (List ℕ)) (old : Units) (made : List (List ℕ)) (new : Units) (before behind : ℕ) (fault : LibraryFault)
     → OpenFaults honest image before behind fault → IsTrue honest → IsOldOrNew area bodies old made new image → (fault ≡ DiskFault) ⊎ (fault ≡ OutOfMemory)
 cause_of honest image area bodies old made new before behind DiskFault refused h p = inl refl
@@ -58,7 +58,7 @@ of_now may_leave moment left_since old new P run counts image now = run.each ima
 -- ---- edits
 
 module _ {D : Type 0} where
-  -- the device failed in it, so the library was not closed
+  -- if the device failed in an edit, the library was not closed before it
   pub was_open : (old : View D) (edit : Edit) (before behind : ℕ) → EditAnswers {T = Unit {0}} old edit before behind (Err DiskFault) → old.closed ≡ false
   was_open old (Change command) before behind answers = answers.0.0
   was_open old Compact before behind answers = answers.0
@@ -71,7 +71,7 @@ module _ {D : Type 0} where
   done_open old left (Change command) done leaves = ap (λ (v : View D). v.closed) leaves
   done_open old left Compact done leaves = ap (λ (v : View D). v.closed) leaves
 
-  -- any other refusal leaves everything
+  -- any other refusal leaves everything as it was
   pub same_left : (old left : View D) (edit : Edit) (fault : LibraryFault) → fault ≢ DiskFault → EditLeaves {T = Unit {0}} edit old left (Err fault) → left ≡ old
   same_left old left (Change command) DiskFault other leaves = absurd (other refl)
   same_left old left (Change command) Exists other leaves = leaves
@@ -121,7 +121,7 @@ module _ {D : Type 0} (honest : Bool) (failures : D → ℕ) where
   left_on old mid left edit Damaged other on = on
   left_on old mid left edit NotALibrary other on = on
 
-  -- a fault other than 35 leaves the library
+  -- a fault other than 35 leaves the library as it was
   no_change : (old mid left : View D) (edit : Edit) (fault : LibraryFault) → fault ≢ DiskFault → EditLeaves {T = Unit {0}} edit old left (Err fault) → GoesOn {T = Unit {0}} honest failures old edit (Err fault) left mid → mid ≡ old
   no_change old mid left edit fault other leaves on = left_on old mid left edit fault other on ∙ same_left old left edit fault other leaves
 
@@ -211,11 +211,11 @@ after_push : (units : Units) (done : List LibraryCommand) (command : LibraryComm
 after_push units [] command = refl
 after_push units (first ∷ done) command = after_push (after units first) done command
 
--- nothing was done yet
+-- before the first edit
 pub among_none : (units : Units) (edits : List Edit) (image : List ℕ) → RecoversAlone image units → RecoversAmong units edits [] image
 among_none units edits image recovers = record { prefix = []; behind = edits; earlier = []; later = []; done = []; edits_are = refl; numbers_are = refl; are_done = refl; recovers = recovers }
 
--- more edits
+-- the same holds among more edits
 pub among_more : (units : Units) (edits more : List Edit) (numbers others : List ℕ) (image : List ℕ) → RecoversAmong units edits numbers image → RecoversAmong units (edits ++ more) (numbers ++ others) image
 among_more units edits more numbers others image p = record {
   prefix = p.prefix;
@@ -229,7 +229,7 @@ among_more units edits more numbers others image p = record {
   recovers = p.recovers;
 }
 
--- all edits, of which these are the first
+-- the same holds among all edits, if these are the first
 pub among_all : (units : Units) (edits more all : List Edit) (numbers shown : List ℕ) (image : List ℕ) → edits ++ more ≡ all → numbers ≡ shown → RecoversAmong units edits numbers image → RecoversAmong units all shown image
 among_all units edits more all numbers shown image edits_are same p = record {
   prefix = p.prefix;

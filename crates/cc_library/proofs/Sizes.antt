@@ -38,20 +38,20 @@ unit_long unit =
       length-append (to_le_bytes w32 (length globals)) (flat_map (to_le_bytes w32) globals),
     )
 
--- the same by its fields
+-- the same, with the parts given by the unit's fields
 pub unit_parts : (unit : StoredUnit) → length (unit_fields unit) ≡ (4 + length unit.source) + (4 + 4 * length unit.image.code) + (4 + 4 * length unit.image.globals) + length (certificate_part unit.certificate)
 unit_parts unit = omega (arith, unit_long unit)
 
 pub body_long : (kind : Kind) (name : List ℕ) (unit : Option StoredUnit) → length (body_bytes kind name unit) ≡ 3 + length name + length (unit_part unit)
 body_long kind name unit = omega (arith, length-append name (unit_part unit))
 
--- ---- what fits a length of four bytes
+-- ---- what fits in a length of four bytes
 
 pub short_certificate : (certificate : Option (List ℕ)) → length (certificate_part certificate) < 2 ^ 32 → IsShort certificate
 short_certificate None few = tt
 short_certificate (Some certificate) few = omega (arith, few, certificate_long certificate)
 
--- if a body does, so does its certificate
+-- if the length of a body fits, so does the length of its certificate
 pub short_part : (unit : Option StoredUnit) → length (unit_part unit) < 2 ^ 32 → HasShort unit
 short_part None few = tt
 short_part (Some unit) few = short_certificate unit.certificate (omega (arith, few, unit_long unit))

@@ -1,11 +1,11 @@
--- The map that records represent: one more record at the start or at the end, and that records represent at most one map. From this follows
--- to what images with these records recover.
+-- The map that records represent, with one more record at the start or at the end; and that records represent at most one map.
+-- From this follows what images with these records recover to.
 use Rattle.std.proofs.Common.{◌≡◌, ◌⊎◌, inl, inr, ⊎_elim, ℕ, List, [], ◌∷◌, ◌++◌, refl, sym, ap, subst, ◌∙◌, arith}
 use Rattle.std.specs.Prelude.{IsOk, Err}
 use Rattle.std.specs.FinMap.{empty}
 use Rattle.cc_disk.specs.Images.{LeavesOnly, OnlyReads}
 use Rattle.cc_journal.specs.Format.{HoldsAlone, HoldsOldOrNew, HoldsOneOf}
-use Rattle.cc_library.specs.declared.command.LibraryCommand.{LibraryCommand}
+use Rattle.cc_library.specs.Change.{LibraryCommand}
 use Rattle.cc_library.specs.declared.fault.LibraryFault.{LibraryFault}
 use Rattle.cc_library.specs.declared.fault.LibraryFault.TheVariants.{Exists, Absent, Full, DiskFault, Closed, Damaged, NotALibrary, OutOfMemory}
 use Rattle.cc_library.specs.Apply.{Units, apply, after, after_all, AreAccepted}
@@ -53,7 +53,7 @@ no_step from body bodies (command ∷ commands) none spelled accepted = none com
 pub leads_nowhere : (from : Units) (body : List ℕ) (bodies : List (List ℕ)) (to : Units) → ((command : LibraryCommand) → Spells body command → IsOk (apply from command) → ⊥) → LeadTo from (body ∷ bodies) to → ⊥
 leads_nowhere from body bodies to none l = no_step from body bodies l.commands none l.spelled l.accepted
 
--- no records lead from a map to itself only
+-- an empty list of records leads from a map to itself
 pub none_left : (units : Units) → LeadTo units [] units
 none_left units = record { commands = []; spelled = tt; accepted = tt; map_is = refl }
 
@@ -117,7 +117,7 @@ pub one_of : (image : List ℕ) (area : ℕ) (bodies : List (List ℕ)) (body : 
 one_of image area bodies body old new before behind (inl h) = inl (h, holds_recovers image area bodies old h before)
 one_of image area bodies body old new before behind (inr h) = inr (h, holds_recovers image area (bodies ++ body ∷ []) new h behind)
 
--- for the maps alone
+-- the same, only for the maps
 pub either : (image : List ℕ) (area : ℕ) (bodies : List (List ℕ)) (old : Units) (made : List (List ℕ)) (new : Units) → IsOldOrNew area bodies old made new image → RecoversOneOf old new image
 either image area bodies old made new (inl p) = inl p.1
 either image area bodies old made new (inr p) = inr p.1
@@ -136,18 +136,18 @@ module _ {D : Type 0} (moment : D → ℕ) (left_since : D → ℕ → List ℕ 
     before = λ t image earlier left. weaker_at {P = P} {Q = Q} old new f t image (l.before t image earlier left);
   }
 
-  -- no call was made
+  -- if no call was made, what held at the moment still holds
   pub no_call : (Q : List ℕ → Type 0) (disk : D) → ((image : List ℕ) → left_since disk (moment disk) image → Q image) → LeavesOnly moment left_since disk disk Q
   no_call Q disk now = record { later = omega arith; each = now; before = λ t image earlier left. inl left }
 
-  -- between two calls, for a library whose every image has its records and no others
+  -- between two calls: what holds for a library whose images all have exactly its records
   pub quiet : (may_leave : D → List ℕ → Type 0) (disk : D) (area : ℕ) (bodies : List (List ℕ)) (units : Units) (made : List (List ℕ)) (new : Units)
       → ((image : List ℕ) → may_leave disk image → HoldsAlone image area bodies) → ((image : List ℕ) → left_since disk (moment disk) image → may_leave disk image) → StandFor bodies units
       → LeavesOnly moment left_since disk disk (IsOldOrNew area bodies units made new)
   quiet may_leave disk area bodies units made new kept only_now stand =
       no_call (IsOldOrNew area bodies units made new) disk (λ image left. let h = kept image (only_now image left) in inl (h, holds_recovers image area bodies units h stand))
 
-  -- during an `append`
+  -- what holds during an `append`
   pub appended : (old new : D) (area : ℕ) (bodies : List (List ℕ)) (body : List ℕ) (units : Units) (command : LibraryCommand) → StandFor bodies units → body ≡ body_of command → IsCommand command → IsOk (apply units command)
       → LeavesOnly moment left_since old new (HoldsOldOrNew area bodies body) → LeavesOnly moment left_since old new (IsOldOrNew area bodies units (bodies ++ body_of command ∷ []) (after units command))
   appended old new area bodies body units command stand is command_is ok run =
@@ -156,7 +156,7 @@ module _ {D : Type 0} (moment : D → ℕ) (left_since : D → ℕ → List ℕ 
       (weaker (HoldsOldOrNew area bodies body) (IsOldOrNew area bodies units (bodies ++ body ∷ []) (after units command)) old new
       (λ image holds. one_of image area bodies body units (after units command) stand (one_more bodies units body command stand spelled ok) holds) run)
 
-  -- during a `rewrite` with records that represent the same map
+  -- what holds during a `rewrite` with records that represent the same map
   pub rewritten : (old new : D) (area : ℕ) (bodies more : List (List ℕ)) (units : Units) → StandFor bodies units → StandFor more units → LeavesOnly moment left_since old new (HoldsOneOf area bodies more)
       → LeavesOnly moment left_since old new (IsOldOrNew area bodies units more units)
   rewritten old new area bodies more units before behind run =
@@ -166,12 +166,12 @@ module _ {D : Type 0} (moment : D → ℕ) (left_since : D → ℕ → List ℕ 
       by image (inl h) = inl (h, holds_recovers image area bodies units h before)
       by image (inr h) = inr (h, holds_recovers image area more units h behind)
 
-  -- for the maps alone
+  -- the same, only for the maps
   pub maps_alone : (old new : D) (area : ℕ) (bodies : List (List ℕ)) (units : Units) (more : List (List ℕ)) (made : Units) → LeavesOnly moment left_since old new (IsOldOrNew area bodies units more made)
       → LeavesOnly moment left_since old new (RecoversOneOf units made)
   maps_alone old new area bodies units more made run = weaker (IsOldOrNew area bodies units more made) (RecoversOneOf units made) old new (λ image p. either image area bodies units more made p) run
 
-  -- for one map
+  -- the same for a single map
   pub map_stays : (old new : D) (area : ℕ) (bodies : List (List ℕ)) (units : Units) (more : List (List ℕ)) → LeavesOnly moment left_since old new (IsOldOrNew area bodies units more units)
       → LeavesOnly moment left_since old new (λ image. RecoversAlone image units)
   map_stays old new area bodies units more run = weaker (IsOldOrNew area bodies units more units) (λ image. RecoversAlone image units) old new (λ image p. the_one image p) run
@@ -180,7 +180,7 @@ module _ {D : Type 0} (moment : D → ℕ) (left_since : D → ℕ → List ℕ 
       the_one image (inl p) = p.1
       the_one image (inr p) = p.1
 
-  -- one run of calls after another
+  -- what holds during one run of calls, and then another
   pub joined : (old mid new : D) (P Q R : List ℕ → Type 0) → LeavesOnly moment left_since old mid P → LeavesOnly moment left_since mid new Q
       → ((image : List ℕ) → P image → R image) → ((image : List ℕ) → Q image → R image) → LeavesOnly moment left_since old new R
   joined old mid new P Q R first second f g = record {
@@ -189,7 +189,7 @@ module _ {D : Type 0} (moment : D → ℕ) (left_since : D → ℕ → List ℕ 
     before = λ t image le left. ⊎_elim (λ earlier. weaker_at {P = P} {Q = R} old mid f t image (first.before t image le earlier)) (λ q. inr (g image q)) (second.before t image (omega (arith, le, first.later)) left);
   }
 
-  -- after it only reads
+  -- what holds if only reads follow
   pub read_on : (seen : D → List ℕ) (may_leave : D → List ℕ → Type 0) (old mid new : D) (P : List ℕ → Type 0) → LeavesOnly moment left_since old mid P → OnlyReads seen may_leave moment left_since mid new → LeavesOnly moment left_since old new P
   read_on seen may_leave old mid new P first reads = record {
     later = omega (arith, first.later, reads.later);

@@ -1,5 +1,5 @@
--- A `BTreeMap` seen as a finite map, with its look-up, its insertion and its removal. Two finite maps that answer alike are equal, and the
--- `BTreeMap`'s clauses say what it answers.
+-- A `BTreeMap` seen as a finite map, with its look-up, its insertion and its removal. Two finite maps with the same answers are
+-- equal, and the `BTreeMap`'s clauses say what it answers.
 use Rattle.std.proofs.Common.{◌≡◌, List, [], ◌∷◌, refl, sym, ap, ◌∙◌, cond, Option, Some, None, false, map}
 use Rattle.std.specs.Prelude.{is_some}
 use Rattle.std.specs.declared.cmp.Ordering.{Ordering}
@@ -36,7 +36,7 @@ module _ {K X : Type 0} {R : K → K → Ordering} (o : IsTotalOrder R) where
   pub no_entries : entries (empty {K = K} {X = X} {R = R}) ≡ []
   no_entries = nil_from_length (entries empty) (sym (len-entries empty) ∙ len-empty R X)
 
-  -- the entries of a list with ascending keys are the list
+  -- the map of a list with ascending keys has this list as its entries
   pub entries-map : (es : List (K × X)) → IsStrictlySortedBy R (keys_of es) → entries (from_entries {R = R} es) ≡ es
   unfolding IsStrictlySortedBy
   entries-map [] rises = no_entries
@@ -57,7 +57,7 @@ module _ {K X : Type 0} {R : K → K → Ordering} (o : IsTotalOrder R) where
   taken_at m k v q Equal e absent = sym absent ∙ get_tied o m q k e
   taken_at m k v q Greater e absent = refl
 
-  -- an absent key that was set and removed again leaves the map
+  -- if an absent key is set and removed again, the map is as it was
   pub put_and_taken : IsAntisymmetric R → (m : FinMap R X) (k : K) (v : X) → contains_key m k ≡ false → remove (insert m k v) k ≡ m
   put_and_taken same m k v absent = same_map o same _ _ (λ q.
       get-remove o (insert m k v) k q ∙ ap (cond (eq_by_cmp R q k) None) (get-insert o m k v q)

@@ -1,5 +1,5 @@
--- The whole promise of a change and of a compaction, from its parts: what holds at each moment holds now. Also the whole promise if they
--- ended before a device call: then only the answer remains to be shown.
+-- The whole promise of a change and of a compaction, from its parts: what holds at each moment holds now. Also the whole promise
+-- for those that end before a device call: then only the answer remains to be shown.
 use Rattle.std.proofs.Common.{◌≡◌, ◌≢◌, ◌≤◌, ℕ, List, [], ◌∷◌, ◌++◌, Bool, false, IsTrue, refl, sym, ap, subst}
 use Rattle.std.specs.Prelude.{Result, Err, IsOk, OnOk}
 use Rattle.cc_disk.specs.Images.{LeavesOnly}
@@ -8,7 +8,7 @@ use Rattle.cc_journal.specs.Answers.{AppendAnswers}
 use Rattle.cc_journal.specs.Format.{HoldsAlone}
 use Rattle.cc_journal.specs.declared.fault.JournalFault.{JournalFault}
 use Rattle.cc_journal.specs.Journal as journals
-use Rattle.cc_library.specs.declared.command.LibraryCommand.{LibraryCommand}
+use Rattle.cc_library.specs.Change.{LibraryCommand}
 use Rattle.cc_library.specs.declared.fault.LibraryFault.{LibraryFault}
 use Rattle.cc_library.specs.declared.fault.LibraryFault.TheVariants.{Exists, Absent, Full, DiskFault, Closed, Damaged, NotALibrary, OutOfMemory}
 use Rattle.cc_library.specs.Fault.{fault_of}
@@ -22,7 +22,7 @@ use Rattle.cc_library.proofs.Refused.{seen_as, change_leaves, change_refused, ch
 use Rattle.cc_library.proofs.Running.{of_now}
 
 module _ {Disk : Type 0} (D : Ghosts Disk) where
-  -- this moment is one of those since an earlier one
+  -- the present moment is one of the moments since an earlier one
   abbrev pub CountsNow : Disk → Type 0
   CountsNow disk = (t : ℕ) (image : List ℕ) → IsTrue D.honest → t ≤ D.moment disk → D.may_leave disk image → D.left_since disk t image
 
@@ -65,7 +65,7 @@ module _ {Disk : Type 0} (D : Ghosts Disk) where
       answers (still command old fault other).0 refl (λ _. (still command old fault other).1) tt
       (quiet_change D.honest D.moment D.left_since D.may_leave j units closed old command is stand same kept only_now old.disk (sym (ap (λ (v : View Disk). v.disk) is)))
 
-  -- if the log would not take the record
+  -- a change whose record the log does not take
   pub refused_changed : (j : journals.View Disk) (units : Units) (closed : Bool) (old : View Disk) (command : LibraryCommand) (fault : JournalFault)
       → seen_as j units closed ≡ old → StandFor j.bodies units → closed ≡ j.closed
       → (IsTrue D.honest → j.closed ≡ false → (image : List ℕ) → D.may_leave j.disk image → HoldsAlone image j.area j.bodies)

@@ -10,7 +10,7 @@ use Rattle.cc_library.specs.internal.Reading.{◌>>=◌, taken, number_in, words
 use Rattle.cc_library.specs.Answers.{Gives}
 use Rattle.std.specs.Prelude.{Err}
 
--- what was read, and what is still to be read
+-- what was read, put before what is still to be read
 abbrev pub with_prefix : List ℕ → Option (List ℕ × List ℕ) → Option (List ℕ × List ℕ)
 with_prefix prefix read = read >>= λ x. Some (prefix ++ x.0, x.1)
 
@@ -33,9 +33,9 @@ is_done prefix count i bytes total le so_far =
     let one : with_prefix prefix (words_in (count - i) bytes) ≡ Some (prefix, bytes) = rw k (ap (λ (ns : List ℕ). Some (ns, bytes)) (append-nil prefix)) in
     sym so_far ∙ one
 
--- ---- words in a buffer of their own
+-- ---- words in a separate buffer
 
--- a number is its four bytes
+-- a number is read from its four bytes
 number_prefix : (bytes : List ℕ) → 4 ≤ length bytes → number_in bytes ≡ Some (from_le_bytes w32 (get_or bytes 0 0 ∷ get_or bytes 1 0 ∷ get_or bytes 2 0 ∷ get_or bytes 3 0 ∷ []), drop 4 bytes)
 number_prefix [] long = absurd (omega (arith, long))
 number_prefix (a ∷ []) long = absurd (omega (arith, long))
@@ -43,7 +43,7 @@ number_prefix (a ∷ b ∷ []) long = absurd (omega (arith, long))
 number_prefix (a ∷ b ∷ c ∷ []) long = absurd (omega (arith, long))
 number_prefix (a ∷ b ∷ c ∷ d ∷ bytes) long = rw (le-ltb (length (a ∷ b ∷ c ∷ d ∷ bytes)) 4 (omega (arith, long))) refl
 
--- there is no word if there are too few bytes
+-- if there are too few bytes, no words are read
 none_in_few : (n : ℕ) (bytes : List ℕ) (short : Bool) → short ≡ ltb (length bytes) 4 → length bytes < 4 * suc n → (length (drop 4 bytes) < 4 * n → words_in n (drop 4 bytes) ≡ None) → words_in (suc n) bytes ≡ None
 unfolding words_in
 none_in_few n bytes true e few later = rw (sym e) refl
@@ -55,7 +55,7 @@ pub too_few : (n : ℕ) (bytes : List ℕ) → length bytes < 4 * n → words_in
 too_few zero bytes few = absurd (omega (arith, few))
 too_few (suc n) bytes few = none_in_few n bytes (ltb (length bytes) 4) refl few (λ fewer. too_few n (drop 4 bytes) fewer)
 
--- one more word, set in its place
+-- one more word is set in its place
 pub sets_on : (words bytes : List ℕ) (n i word : ℕ) (total : Option (List ℕ × List ℕ)) → i < n → i < length words → 4 * n ≤ length bytes
     → word ≡ from_le_bytes w32 (get_or bytes (4 * i) 0 ∷ get_or bytes (4 * i + 1) 0 ∷ get_or bytes (4 * i + 2) 0 ∷ get_or bytes (4 * i + 3) 0 ∷ [])
     → with_prefix (take i words) (words_in (n - i) (drop (4 * i) bytes)) ≡ total → with_prefix (take (i + 1) (slice_set words i word)) (words_in (n - (i + 1)) (drop (4 * (i + 1)) bytes)) ≡ total
@@ -70,7 +70,7 @@ sets_on words bytes n i word total lt within long is so_far =
     ap (λ (ws : List ℕ). with_prefix ws (words_in (n - (i + 1)) (drop (4 * (i + 1)) bytes))) (take_more_set words i word within)
     ∙ goes_on (take i words) n i prefix word (drop (4 * (i + 1)) bytes) total lt found so_far
 
--- if the bytes for them are refused, so are the words
+-- if there are too few bytes for the words, the words are refused
 refused : (n : ℕ) (bytes : List ℕ) (short : Bool) → short ≡ ltb (length bytes) (4 * n) → cond {A = Option (List ℕ × List ℕ)} short None (Some (take (4 * n) bytes, drop (4 * n) bytes)) ≡ None → words_in n bytes ≡ None
 refused n bytes true e none = too_few n bytes (ltb-true _ _ (sym e))
 refused n bytes false e none = let found : List ℕ × List ℕ = (take (4 * n) bytes, drop (4 * n) bytes) in absurd (none-some found (sym none))

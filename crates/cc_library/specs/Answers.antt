@@ -1,11 +1,11 @@
--- Which answer a call of a library gives, when, and what it leaves. The failures are those that the disk has counted before the call and
--- after it.
+-- Which answer a call of a library gives, when, and what it leaves. `before` and `after` are the numbers of failures that the
+-- disk has counted before the call and after it.
 use Rattle.std.specs.Prelude.{◌≡◌, length, ℕ, ◌+◌, ◌<◌, ◌≤◌, Bool, true, false, IsTrue, IsOk, List, ◌∷◌, ◌++◌, [], Option, Some, None, Result, Ok, Err, OnOk}
 use Rattle.cc_disk.specs.Images.{LeavesAlone, LeavesOnly}
 use Rattle.cc_disk.specs.declared.disk.Disk.{Ghosts}
 use Rattle.cc_journal.specs.Commit.{Commit, FailsIn, IsCommitted, append_commit, area_begin, rewrite_commit}
 use Rattle.cc_journal.specs.Format.{HasAreaByte, HasHeader, HoldsRecords, records, room_of}
-use Rattle.cc_library.specs.declared.command.LibraryCommand.{LibraryCommand}
+use Rattle.cc_library.specs.Change.{LibraryCommand}
 use Rattle.cc_library.specs.declared.fault.LibraryFault.{LibraryFault}
 use Rattle.cc_library.specs.declared.fault.LibraryFault.TheVariants.{Exists, Absent, Full, DiskFault, Closed, Damaged, NotALibrary, OutOfMemory}
 use Rattle.cc_library.specs.Apply.{Units, apply, after, exists, absent}
@@ -15,7 +15,7 @@ use Rattle.cc_library.specs.Body.{body_of}
 use Rattle.cc_library.specs.Compact.{compacted, room_compacted}
 use Rattle.cc_library.specs.Recovered.{Recovers, RecoversAlone, RecoversOneOf, StandFor, View}
 
--- what a function returned, by its view, is what the definition reads; if memory ran out, nothing is claimed
+-- what a function returned, seen through `view`, is what the definition reads; if memory ran out, nothing is claimed
 abbrev pub Gives : {X Y : Type 0} → (X → Y) → Result X ReadFault → Option Y → Type 0
 Gives view (Ok x) found = found ≡ Some (view x)
 Gives view (Err read.NoCommand) found = found ≡ None
@@ -50,12 +50,12 @@ module _ {D : Type 0} where
   abbrev pub IsAsked : View D → LibraryCommand → Type 0
   IsAsked old command = (old.closed ≡ false) × IsOk (apply old.units command)
 
-  -- the number of bytes that the records take together with the command's
+  -- the number of bytes that the records take, together with the command's record
   abbrev pub room_with : View D → LibraryCommand → ℕ
   room_with old command = room_of (old.bodies ++ body_of command ∷ [])
 
-  -- when a change has which answer: 36 exactly if the library was closed, then 31 or 32 exactly if the map refuses, then 34 exactly if the
-  -- record does not fit, then 35 exactly if the device failed
+  -- when a change has which answer: 36 exactly if the library was closed, then 31 or 32 exactly if the map refuses it, then 34
+  -- exactly if the record does not fit, then 35 exactly if the device failed
   abbrev pub ChangeAnswers : {T : Type 0} → View D → LibraryCommand → (before after : ℕ) → Result T LibraryFault → Type 0
   ChangeAnswers old command before after (Ok done) = IsAsked old command × (room_with old command ≤ old.area) × (after ≡ before)
   ChangeAnswers old command before after (Err Closed) = (old.closed ≡ true) × (after ≡ before)
@@ -67,8 +67,8 @@ module _ {D : Type 0} where
   ChangeAnswers old command before after (Err Damaged) = ⊥
   ChangeAnswers old command before after (Err NotALibrary) = ⊥
 
-  -- what a change leaves, except on the disk: after Ok the map after the command; after 35 the old map, closed; after any other refusal
-  -- everything is as before, and the disk too
+  -- what a change leaves, apart from the disk: after Ok the map after the command; after 35 the old map, closed; after any other
+  -- refusal everything is as before, and the disk too
   abbrev pub ChangeLeaves : {T : Type 0} → LibraryCommand → (old new : View D) → Result T LibraryFault → Type 0
   ChangeLeaves command old new (Ok done) = new ≡ record { disk = new.disk; area = old.area; bodies = old.bodies ++ body_of command ∷ []; units = after old.units command; closed = false }
   ChangeLeaves command old new (Err DiskFault) = new ≡ record old { disk = new.disk; closed = true }
@@ -84,8 +84,8 @@ module _ {D : Type 0} where
   abbrev pub commit_of : (area_byte : ℕ) → View D → LibraryCommand → Commit
   commit_of area_byte old command = append_commit (area_begin area_byte old.area + length (records old.bodies)) (body_of command)
 
-  -- what a change does to the bytes of an honest disk: after Ok that commit is made, everything is settled, and the records are the
-  -- library's; after 35 it was left in its first write or in its last one
+  -- what a change does to the bytes of an honest disk: after Ok that commit is made, everything is settled, and the records are
+  -- the library's; after 35 the commit was left in its first write or in its last one
   abbrev pub ChangesDisk : {T : Type 0} → (seen : D → List ℕ) (may_leave : D → List ℕ → Type 0) → LibraryCommand → (old new : View D) → Result T LibraryFault → Type 0
   ChangesDisk seen may_leave command old new (Ok done) =
       HoldsRecords (seen new.disk) new.area new.bodies
@@ -113,8 +113,8 @@ module _ {D : Type 0} where
   CompactAnswers old before after (Err Damaged) = ⊥
   CompactAnswers old before after (Err NotALibrary) = ⊥
 
-  -- what it leaves, except on the disk: after Ok the compacted records; after 35 the old ones, closed; after any other refusal everything
-  -- is as before, and the disk too; the map is always the same
+  -- what `compact` leaves, apart from the disk: after Ok the compacted records; after 35 the old ones, closed; after any other
+  -- refusal everything is as before, and the disk too; the map is always the same
   abbrev pub CompactLeaves : {T : Type 0} → (old new : View D) → Result T LibraryFault → Type 0
   CompactLeaves old new (Ok done) = new ≡ record old { disk = new.disk; bodies = compacted old.units; closed = false }
   CompactLeaves old new (Err DiskFault) = new ≡ record old { disk = new.disk; closed = true }
@@ -160,14 +160,14 @@ pub record IsChangedAs {Disk : Type 0} (D : Ghosts Disk) (command : LibraryComma
   pub kept : OnOk result (IsTrue D.honest → (image : List ℕ) → D.may_leave new.disk image → RecoversAlone image new.units)
   -- what a crash at any moment of the call leaves
   pub moments : IsTrue D.honest → old.closed ≡ false → LeavesOnly D.moment D.left_since old.disk new.disk Holds
-  -- so whatever the answer, even 35: what every image has
+  -- so every image has this, whatever the answer, even 35
   pub images : IsTrue D.honest → old.closed ≡ false → (image : List ℕ) → D.may_leave new.disk image → Holds image
 
 -- what a change promises: a crash leaves the map before it or the map after it
 abbrev pub IsChanged : {Disk : Type 0} (D : Ghosts Disk) → LibraryCommand → (old new : View Disk) → Result (Unit {0}) LibraryFault → Type 0
 IsChanged D command old new result = IsChangedAs D command old new result (RecoversOneOf old.units (after old.units command))
 
--- What a compaction promises in the same way.
+-- What a compaction promises, in the same way.
 pub record IsCompactedAs {Disk : Type 0} (D : Ghosts Disk) (old new : View Disk) (result : Result (Unit {0}) LibraryFault) (Holds : List ℕ → Type 0) : Type 0 where
   pub answers : CompactAnswers old (D.failures old.disk) (D.failures new.disk) result
   pub leaves : CompactLeaves old new result
@@ -176,9 +176,9 @@ pub record IsCompactedAs {Disk : Type 0} (D : Ghosts Disk) (old new : View Disk)
   pub disk : IsTrue D.honest → CompactsDisk D.seen D.may_leave old new result
   -- what a crash at any moment of the call leaves
   pub moments : IsTrue D.honest → old.closed ≡ false → LeavesOnly D.moment D.left_since old.disk new.disk Holds
-  -- so whatever the answer, even 35: what every image has
+  -- so every image has this, whatever the answer, even 35
   pub images : IsTrue D.honest → old.closed ≡ false → (image : List ℕ) → D.may_leave new.disk image → Holds image
 
--- what a compaction promises: a crash leaves the map
+-- what a compaction promises: a crash leaves the map as it is
 abbrev pub IsCompacted : {Disk : Type 0} (D : Ghosts Disk) → (old new : View Disk) → Result (Unit {0}) LibraryFault → Type 0
 IsCompacted D old new result = IsCompactedAs D old new result (λ image. RecoversAlone image old.units)

@@ -4,8 +4,8 @@ use Rattle.std.specs.Ordering.{nat_cmp}
 use Rattle.std.specs.Cmp.Lexicographic.{slice_cmp}
 use Rattle.std.specs.FinMap.{FinMap, empty, contains_key, insert, remove}
 use Rattle.cc_unit.specs.declared.unit.StoredUnit.{StoredUnit}
-use Rattle.cc_library.specs.declared.command.LibraryCommand.{LibraryCommand}
-use Rattle.cc_library.specs.declared.command.LibraryCommand.TheVariants.{Add, Replace, Withdraw}
+use Rattle.cc_library.specs.Change.{LibraryCommand}
+use Rattle.cc_library.specs.declared.command.Change.TheVariants.{Add, Replace, Withdraw}
 
 -- a finite map from names, in the order of their bytes, to units
 abbrev pub Units : Type 0
@@ -19,7 +19,8 @@ exists = 31
 abbrev pub absent : ℕ
 absent = 32
 
--- Add sets an absent name, Replace sets a present one, Withdraw removes a present one; else a number refuses
+-- Add sets an absent name, Replace sets a present one, Withdraw removes a present one; otherwise a number says why the command is
+-- refused
 abbrev pub apply : Units → LibraryCommand → Result Units ℕ
 apply units (Add name unit) = if contains_key units name then Err exists else Ok (insert units name unit)
 apply units (Replace name unit) = if contains_key units name then Ok (insert units name unit) else Err absent

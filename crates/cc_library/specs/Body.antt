@@ -6,8 +6,8 @@ use Rattle.std.specs.Int.{w32, to_le_bytes}
 use Rattle.cc_unit.specs.declared.unit.StoredUnit.{StoredUnit}
 use Rattle.cc_library.specs.declared.command.Kind.{Kind}
 use Rattle.cc_library.specs.declared.command.Kind.TheVariants as kind
-use Rattle.cc_library.specs.declared.command.LibraryCommand.{LibraryCommand}
-use Rattle.cc_library.specs.declared.command.LibraryCommand.TheVariants.{Add, Replace, Withdraw}
+use Rattle.cc_library.specs.Change.{LibraryCommand}
+use Rattle.cc_library.specs.declared.command.Change.TheVariants.{Add, Replace, Withdraw}
 use Rattle.cc_library.specs.Name.{is_name}
 
 -- the byte of a kind
@@ -28,7 +28,7 @@ words_field words = to_le_bytes w32 (length words) ++ flat_map (to_le_bytes w32)
 abbrev pub name_field : List ℕ → List ℕ
 name_field name = length name ∷ name
 
--- the certificate, if there is one; one without bytes is still its length
+-- the certificate, if there is one; a certificate without bytes is still its length
 abbrev pub certificate_part : Option (List ℕ) → List ℕ
 certificate_part None = []
 certificate_part (Some certificate) = bytes_field certificate
@@ -95,17 +95,17 @@ HasUnit kind.Withdraw (Some unit) = ⊥
 abbrev pub AreBelow : ℕ → List ℕ → Type 0
 AreBelow limit numbers = AllByRecursion (λ n. n < limit) numbers
 
--- the length of the certificate, if there is one, fits four bytes
+-- the length of the certificate, if there is one, fits in four bytes
 abbrev pub IsShort : Option (List ℕ) → Type 0
 IsShort None = Unit {0}
 IsShort (Some certificate) = length certificate < 2 ^ 32
 
--- so does that of the unit's certificate, if there is a unit
+-- the same for the unit's certificate, if there is a unit
 abbrev pub HasShort : Option StoredUnit → Type 0
 HasShort None = Unit {0}
 HasShort (Some unit) = IsShort unit.certificate
 
--- a possible certificate, if there is one: bytes, as many as a length of four bytes can count
+-- a possible certificate, if there is one: a list of bytes whose length fits in four bytes
 abbrev pub IsCertificate : Option (List ℕ) → Type 0
 IsCertificate None = Unit {0}
 IsCertificate (Some certificate) = (length certificate < 2 ^ 32) × AreBelow (2 ^ 8) certificate

@@ -2,6 +2,8 @@
 pub mod Fault
 -- the bytes that are a name
 pub mod Name
+-- a change that carries the unit
+pub mod Change
 -- the map from names to units, and what a command does to it
 pub mod Apply
 -- a command as the body of a record
@@ -18,7 +20,7 @@ pub mod Answers
 pub mod Runs
 -- for proofs and private contracts only
 pub mod internal
--- Pages of lower crates that clauses here cite, handed on.
+-- Pages of lower crates that clauses here cite, re-exported.
 pub use Rattle.cc_journal.specs.Format
 pub use Rattle.cc_rv32.specs.contracts.image as image_contract
 pub use Rattle.cc_unit.specs.contracts.unit as unit_contract

@@ -3,18 +3,18 @@ use Rattle.std.specs.Prelude.{◌≡◌, ◌⊎◌, ℕ, Bool, List, [], ◌∷�
 use Rattle.std.specs.FinMap.{empty}
 use Rattle.std.specs.Coded.{Coded, code_by, coded×, coded_ℕ, coded_list, coded_bool}
 use Rattle.cc_journal.specs.Format.{HoldsRecords}
-use Rattle.cc_library.specs.declared.command.LibraryCommand.{LibraryCommand}
+use Rattle.cc_library.specs.Change.{LibraryCommand}
 use Rattle.cc_library.specs.Apply.{Units, after_all, AreAccepted}
 use Rattle.cc_library.specs.Body.{Spells}
 
--- each body is that of the command with the same index, and there are as many of both
+-- each body is that of the command with the same index, and there are equally many of both
 abbrev pub AreSpelled : List (List ℕ) → List LibraryCommand → Type 0
 AreSpelled [] [] = Unit {0}
 AreSpelled [] (command ∷ commands) = ⊥
 AreSpelled (body ∷ bodies) [] = ⊥
 AreSpelled (body ∷ bodies) (command ∷ commands) = Spells body command × AreSpelled bodies commands
 
--- the bodies are those of commands, each accepted in its turn, and they lead from the one map to the other
+-- the bodies are those of commands, each accepted in its turn, and they lead from the map `from` to the map `to`
 pub record LeadTo (from : Units) (bodies : List (List ℕ)) (to : Units) : Type 0 where
   pub commands : List LibraryCommand
   pub spelled : AreSpelled bodies commands
@@ -32,12 +32,12 @@ pub record Recovers (image : List ℕ) (units : Units) : Type 0 where
   pub holds : HoldsRecords image area bodies
   pub stand : StandFor bodies units
 
--- it recovers to this map, and to no other
+-- the image recovers to this map, and to no other
 pub record RecoversAlone (image : List ℕ) (units : Units) : Type 0 where
   pub recovers : Recovers image units
   pub alone : (others : Units) → Recovers image others → others ≡ units
 
--- it recovers to the one or to the other, and to no other
+-- the image recovers to one of the two maps, and to no other
 abbrev pub RecoversOneOf : Units → Units → List ℕ → Type 0
 RecoversOneOf old new image = RecoversAlone image old ⊎ RecoversAlone image new
 
@@ -49,7 +49,7 @@ pub record View (D : Type 0) : Type 0 where
   pub units : Units
   pub closed : Bool
 
--- it is stored as the tuple of its fields
+-- a view is stored as the tuple of its fields
 abbrev pub view_code : {D : Type 0} → Coded D → Coded Units → Coded (View D)
 view_code {D} disk units =
     code_by (D × (ℕ × (List (List ℕ) × (Units × Bool)))) (coded× disk (coded× coded_ℕ (coded× (coded_list (coded_list coded_ℕ)) (coded× units coded_bool))))

@@ -1,6 +1,6 @@
--- A run of edits: each is done in turn, and after each in which the device failed (35) the disk is opened again.
+-- A run of edits: each is done in turn, and after each one in which the device failed (35) the disk is opened again.
 use Rattle.std.specs.Prelude.{◌≡◌, ◌≢◌, ◌⊎◌, ℕ, Bool, false, IsTrue, List, [], ◌∷◌, ◌++◌, Result, Ok, Err}
-use Rattle.cc_library.specs.declared.command.LibraryCommand.{LibraryCommand}
+use Rattle.cc_library.specs.Change.{LibraryCommand}
 use Rattle.cc_library.specs.declared.command.Edit.{Edit}
 use Rattle.cc_library.specs.declared.command.Edit.TheVariants.{Change, Compact}
 use Rattle.cc_library.specs.declared.fault.LibraryFault.{LibraryFault}
@@ -17,7 +17,8 @@ abbrev pub answer_number : {T : Type 0} → Result T LibraryFault → ℕ
 answer_number (Ok done) = 0
 answer_number (Err fault) = fault_number fault
 
--- the changes that a run made: each with number 0, those with 35 that the reopening showed, and no others; Compact changes nothing
+-- the changes that a run made: each change with number 0, those with 35 that the reopening showed, and no others; Compact changes
+-- nothing
 abbrev pub AreDone : List Edit → List ℕ → List LibraryCommand → Type 0
 AreDone [] [] done = done ≡ []
 AreDone [] (number ∷ numbers) done = ⊥
@@ -32,8 +33,8 @@ abbrev pub after_edit : Units → Edit → Units
 after_edit units (Change command) = after units command
 after_edit units Compact = units
 
--- The image recovers to one map alone: the map after the changes made by the first edits. The first numbers say which of them were made,
--- for as many edits as there are such numbers.
+-- The image recovers to exactly one map: the map after the changes made by the first edits. The first numbers say which of them
+-- were made; there are equally many of these edits and numbers.
 pub record RecoversAmong (units : Units) (edits : List Edit) (numbers : List ℕ) (image : List ℕ) : Type 0 where
   pub prefix : List Edit
   pub behind : List Edit

@@ -26,7 +26,7 @@ pub fn command_body(
     requires unit { HasUnit kind (option_map (λ u. u.now) unit) }
     requires short { HasShort (option_map (λ u. u.now) unit) }
     ensures spelled { IfOk result (λ body. body.items ≡ body_bytes kind name.now (option_map (λ u. u.now) unit.entry)) }
-    // A unit and a name for which there is a body keep their limits.
+    // A unit and a name that have a body keep their limits.
     ensures name { OnOk result (IsTrue (is_name name.now)) }
     ensures unit { OnOk result (HoldsUnit (option_map (λ u. u.now) unit.entry)) }
 {
@@ -58,7 +58,8 @@ pub fn body_of_command(alloc: Global, command: &LibraryCommand) -> Result<Vec<u8
     Ok(framed_body_of_command(alloc, command)?.into_vec())
 }
 
-// The same as `body_of_command`, together with the bytes around the body in its record, so that it is written and kept without a copy.
+// The same as `body_of_command`, but together with the bytes around the body in its record, so that the body is written and kept
+// without a copy.
 pub(crate) fn framed_body_of_command(
     alloc: Global,
     command: &LibraryCommand,
@@ -79,7 +80,7 @@ pub(crate) fn framed_body_of_command(
     }
 }
 
-// The same as `command_body`, together with the bytes around the body in its record.
+// The same as `command_body`, but together with the bytes around the body in its record.
 pub(crate) fn framed_body(
     alloc: Global,
     kind: Kind,
@@ -93,7 +94,7 @@ pub(crate) fn framed_body(
     ensures unit { OnOk result (HoldsUnit (option_map (λ u. u.now) unit.entry)) }
 {
     let length = length_with(name.bytes(), unit);
-    // All memory is taken at once: for the body, for its length in front of it, and for the gate after it.
+    // All memory is taken at once: for the body, for its length before it, and for the gate after it.
     let mut bytes = Vec::with_capacity(alloc, length + 5)?;
     bytes.extend_from_slice(&(length as u32).to_le_bytes())?;
     put_command(&mut bytes, kind, name, unit)?;

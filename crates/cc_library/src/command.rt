@@ -29,12 +29,16 @@ impl Kind {
 }
 
 /// A change of a library: Add sets the unit of an absent name, Replace that of a present one, Withdraw removes a present name.
+/// What a change carries for the unit depends on who makes it: the unit itself, a compiled unit, or the unit's source.
 #[derive(Drop)]
-pub enum LibraryCommand {
-    Add(Name, SharedUnit),
-    Replace(Name, SharedUnit),
+pub enum Change<U> {
+    Add(Name, U),
+    Replace(Name, U),
     Withdraw(Name),
 }
+
+/// A change that carries the unit.
+pub type LibraryCommand = Change<SharedUnit>;
 
 /// A step of `Library::run`: a change of the map, or `Library::compact`.
 #[derive(Drop)]
@@ -44,7 +48,7 @@ pub enum Edit {
 }
 
 impl LibraryCommand {
-    /// A copy of the command; the unit is shared. Err: memory ran out, or the unit has the most owners already.
+    /// A copy of the command; the unit is shared. Err: memory ran out, or the unit already has as many owners as it can have.
     pub fn again(&self) -> Result<LibraryCommand, AllocError>
         ensures { IfOk result (λ command. command ≡ self.now) }
     {

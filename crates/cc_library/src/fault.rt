@@ -9,7 +9,7 @@ use thiserror::Error;
 /// Why bytes are not a name.
 #[derive(Clone, Copy, Debug, Error)]
 pub enum NameFault {
-    /// 33: the bytes break the rule of names.
+    /// 33: the bytes break the rules for names.
     #[error("BadName")]
     BadName,
 }
@@ -36,7 +36,7 @@ pub enum LibraryFault {
     /// 32: the name to be replaced or withdrawn has no unit.
     #[error("Absent")]
     Absent,
-    /// 34: the record does not fit the area.
+    /// 34: the record does not fit in the area.
     #[error("Full")]
     Full,
     /// 35: the device failed in the call.
@@ -45,7 +45,7 @@ pub enum LibraryFault {
     /// 36: an earlier call failed on the device, so the disk has to be opened again.
     #[error("Closed")]
     Closed,
-    /// 37: a record does not fit its area, or the records are not a list of accepted commands.
+    /// 37: a record does not fit in its area, or the records are not a list of accepted commands.
     #[error("Damaged")]
     Damaged,
     /// 38: there is no valid header.

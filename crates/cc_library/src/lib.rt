@@ -1,9 +1,8 @@
 //! The library: a map from names to stored units that survives any crash, over any disk.
 //!
-//! `name` is a name, `unit` and `units` are what is kept, `command` what changes it, `body` and `reading` a command as
-//! the body of a record, `replaying` what records stand for, `library` the library and its calls, `space` how much of
-//! its area it takes.
-//! It hands out `Library`, `Name`, `UnitMap`, `LibraryCommand`, `Edit`, `Kind`, `SharedUnit`, `SpaceUse`, `command_body`,
+//! `name` has names, `unit` and `units` what is kept, `command` what changes it, `body` and `reading` a command as the body of a
+//! record, `replaying` what records represent, `library` the library and its calls, `space` how much of its area a library takes.
+//! It exports `Library`, `Name`, `UnitMap`, `Change`, `LibraryCommand`, `Edit`, `Kind`, `SharedUnit`, `SpaceUse`, `command_body`,
 //! `body_length`, `body_of_command`, `read_command`, `replay` and the faults.
 #![tactic(auto)]
 
@@ -19,7 +18,7 @@ mod unit;
 mod units;
 
 pub use body::{body_length, body_of_command, command_body};
-pub use command::{Edit, Kind, LibraryCommand};
+pub use command::{Change, Edit, Kind, LibraryCommand};
 pub use fault::{LibraryFault, NameFault};
 pub use library::Library;
 pub use name::{NAME_BYTES, Name};

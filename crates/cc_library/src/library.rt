@@ -6,8 +6,8 @@ ghost use Rattle.std.specs.Arc.{arc_value};
 ghost use Rattle.std.specs.FinMap as map;
 ghost use Rattle.cc_disk.specs.Images.{LeavesAlone, LeavesOnly, OnlyReads};
 ghost use Rattle.cc_journal.specs.Format.{AllHold, HoldsRecords};
-ghost use Rattle.cc_library.specs.declared.command.LibraryCommand.{LibraryCommand};
-ghost use Rattle.cc_library.specs.declared.command.LibraryCommand.TheVariants as command;
+ghost use Rattle.cc_library.specs.Change.{LibraryCommand};
+ghost use Rattle.cc_library.specs.declared.command.Change.TheVariants as command;
 ghost use Rattle.cc_library.specs.Apply.{after, after_all, library_of};
 ghost use Rattle.cc_library.specs.Body.{body_of};
 ghost use Rattle.cc_library.specs.Recovered.{Recovers, RecoversAlone, StandFor, View};
@@ -43,7 +43,7 @@ pub struct Library<D: Disk> {
     closed: bool,
 }
 
-// Written by hand, so that crates above call it and need not prove again how each part is dropped.
+// Written by hand, so that crates above use this proof and need not show again how each part is dropped.
 impl<D: Disk + Drop> Drop for Library<D> {
     fn drop(self) {
         let Library { log, units, closed } = self;
@@ -68,8 +68,8 @@ impl<D: Disk> Model for Library<D> {
 impl<D: Disk> Library<D> {
     /// Opens the library on a disk: syncs it, reads its records, and carries out their commands one after the other.
     ///
-    /// Refusals, in this order, with the disk handed back: 35 if the device failed in the call, 38 if there is no valid header, 37 if an
-    /// open record does not fit its area or the records are not a list of accepted commands. 40 if memory ran out.
+    /// Refusals, in this order, with the disk handed back: 35 if the device failed in the call, 38 if there is no valid header,
+    /// 37 if an open record does not fit in its area or the records are not a list of accepted commands. 40 if memory ran out.
     pub fn open(alloc: Global, disk: D) -> Result<Library<D>, (LibraryFault, D)>
         // On an honest disk: the map that was recovered, and to which every image then recovers.
         ensures recovered { IfOk result (λ l. IsTrue D.honest → Recovers (D.seen disk) l.units) }
@@ -109,18 +109,18 @@ impl<D: Disk> Library<D> {
         }
     }
 
-    /// Makes a change, as `add`, `replace` and `withdraw` do, with the same refusals; each leaves what it leaves there.
+    /// Makes a change, as `add`, `replace` and `withdraw` do, with the same refusals, each of which leaves the same.
     pub fn change(&mut self, alloc: Global, command: LibraryCommand) -> Result<(), LibraryFault>
         ensures changed { IsChanged D.Disk command self.old self.new result }
     {
         self.append_change(alloc, command)
     }
 
-    /// Sets the unit of an absent name. After Ok it is kept: every crash leaves it.
+    /// Sets the unit of an absent name. After Ok it is kept: no crash removes it.
     ///
-    /// Refusals, in this order: 36 if the library is closed, 31 if the name has a unit, 34 if the record does not fit, 35 if the device
-    /// failed. 40 if memory ran out, before the first device call. Each leaves the map as it was; after 35 the library is closed, and its
-    /// disk has the map with or without the unit.
+    /// Refusals, in this order: 36 if the library is closed, 31 if the name has a unit, 34 if the record does not fit, 35 if the
+    /// device failed. 40 if memory ran out, before the first device call. Each leaves the map as it was; after 35 the library is
+    /// closed, and its disk has the map with or without the unit.
     pub fn add(
         &mut self,
         alloc: Global,
@@ -132,11 +132,11 @@ impl<D: Disk> Library<D> {
         self.change(alloc, LibraryCommand::Add(name, SharedUnit::new(unit)))
     }
 
-    /// Sets the unit of a present name. After Ok it is kept: every crash leaves it.
+    /// Sets the unit of a present name. After Ok it is kept: no crash removes it.
     ///
-    /// Refusals, in this order: 36 if the library is closed, 32 if the name has no unit, 34 if the record does not fit, 35 if the device
-    /// failed. 40 if memory ran out, before the first device call. Each leaves the map as it was; after 35 the library is closed, and its
-    /// disk has the map with the old unit or with the new one.
+    /// Refusals, in this order: 36 if the library is closed, 32 if the name has no unit, 34 if the record does not fit, 35 if the
+    /// device failed. 40 if memory ran out, before the first device call. Each leaves the map as it was; after 35 the library is
+    /// closed, and its disk has the map with the old unit or with the new one.
     pub fn replace(
         &mut self,
         alloc: Global,
@@ -171,11 +171,12 @@ impl<D: Disk> Library<D> {
         self.write_anew(alloc)
     }
 
-    /// Whether the record of this command would have room after compacted records. After a `compact`, a change that the map accepts is
-    /// refused by 34 exactly if this is false. It takes no memory and makes no device call; it looks at each unit.
+    /// Whether the record of this command would have room after compacted records. After a `compact`, a change that the map
+    /// accepts is refused with 34 exactly if this is false. The call takes no memory and makes no device call; it looks at each
+    /// unit.
     pub fn has_room_compacted(&self, command: &LibraryCommand) -> bool
         ensures room { IsTrue result ↔ (room_compacted self.now.units command.now ≤ self.now.area) }
-        // So it says whether the record fits the library that a `compact` leaves.
+        // So the answer is whether the record fits in the library that a `compact` leaves.
         ensures compacted { (new : View D) → CompactLeaves {T = Unit {0}} self.now new (Ok tt) → IsTrue result ↔ (room_with new command.now ≤ new.area) }
     {
         // A record takes five bytes in addition to its body.
@@ -187,8 +188,8 @@ impl<D: Disk> Library<D> {
         self.units.fits(room - body)
     }
 
-    /// Whether 34 would refuse this change now, but not after a `compact`. It takes no memory and makes no device call; it looks at each
-    /// unit only if 34 would come.
+    /// Whether this change would be refused with 34 now, but not after a `compact`. The call takes no memory and makes no device
+    /// call; it looks at each unit only if 34 would come.
     pub fn is_mended_by_compact(&self, command: &LibraryCommand) -> bool
         ensures { IsTrue result ↔ IsMended self.now command.now }
     {
@@ -205,20 +206,20 @@ impl<D: Disk> Library<D> {
         }
     }
 
-    /// Whether a call has failed on the device: every change and `compact` then answer 36. It takes no memory.
+    /// Whether a call has failed on the device: every change and `compact` then answer 36. This takes no memory.
     pub fn is_closed(&self) -> bool
         ensures { result ≡ self.now.closed }
     {
         self.closed
     }
 
-    /// How much of its area the library takes. It takes no memory and makes no device call; it looks at each unit.
+    /// How much of its area the library takes. This takes no memory and makes no device call; it looks at each unit.
     pub fn space(&self) -> SpaceUse
         ensures space { IsSpace self.now.area self.now.bodies self.now.units result }
-        // While the library is not closed, every crash leaves these records alone.
+        // While the library is not closed, a crash leaves exactly these records.
         ensures kept { IsTrue D.honest → self.now.closed ≡ false → AllHold (D.may_leave self.now.disk) self.now.area self.now.bodies }
     {
-        // What the log promises of its images.
+        // What the log promises about its images.
         let _kept = self.log.is_closed();
         let size = self.log.area();
         let taken = self.log.used();
@@ -231,14 +232,14 @@ impl<D: Disk> Library<D> {
         }
     }
 
-    /// The map. It takes no memory.
+    /// The map. This takes no memory.
     pub fn units(&self) -> &UnitMap
         ensures { result.now ≡ self.now.units }
     {
         &self.units
     }
 
-    /// The unit of a name, if it has one. It takes no memory.
+    /// The unit of a name, if it has one. This takes no memory.
     pub fn get(&self, name: &Name) -> Option<&Arc<StoredUnit>>
         ensures { option_map (λ unit. arc_value unit.now) result ≡ map.get self.now.units name.now }
     {
@@ -252,7 +253,7 @@ impl<D: Disk> Library<D> {
         self.units.names(alloc)
     }
 
-    /// The disk, as the calls so far have left it. It takes no memory.
+    /// The disk, as the calls so far have left it. This takes no memory.
     pub fn into_disk(self) -> D
         ensures { result ≡ self.disk }
     {
@@ -264,28 +265,29 @@ impl<D: Disk> Library<D> {
         log.into_disk()
     }
 
-    /// Carries out each edit in turn, opens the disk again after each 35, and stops if that opening is refused. It answers the numbers of
-    /// the edits that were carried out, in order (0 for Ok), and the library as it is then, or why it stopped and the disk.
+    /// Carries out each edit in turn, opens the disk again after each 35, and stops if that opening is refused. The answer has
+    /// the numbers of the edits that were carried out, in order (0 for Ok), and either the library as it is then, or why the run
+    /// stopped, with the disk.
     ///
-    /// 40 and no number if there is no memory for all the numbers, which is taken first: nothing was done then. After that only the
-    /// refusals of `open` are possible; on an honest disk these are 35 and 40.
+    /// The answer is 40, with no number, if there is no memory for all the numbers, which is taken first: nothing was done then.
+    /// After that only the refusals of `open` are possible; on an honest disk these are 35 and 40.
     pub fn run(
         self,
         alloc: Global,
         edits: Vec<Edit>,
     ) -> (Result<Library<D>, (LibraryFault, D)>, Vec<u32>)
-        // Each number is the reply at that point.
+        // Each number is that of the answer at that point.
         ensures numbers { IfOk result.0 (λ l. AreEdited D.honest D.failures self edits.items result.1.items l) }
 
         // The map is the earlier one after the changes with number 0, and those with 35 that the reopening showed.
         ensures folded { IfOk result.0 (λ l. IsTrue D.honest
             → (done : List LibraryCommand) × AreDone edits.items result.1.items done × (l.units ≡ after_all self.units done)) }
 
-        // On a new journal it is the map of these changes from the empty one.
+        // On a new journal the map is that of these changes from the empty one.
         ensures from_new { IfOk result.0 (λ l. IsTrue D.honest → self.units ≡ map.empty
             → (done : List LibraryCommand) × AreDone edits.items result.1.items done × (l.units ≡ library_of done)) }
 
-        // While it is not closed, every image recovers to its map.
+        // While the library is not closed, every image recovers to its map.
         ensures kept { IfOk result.0 (λ l. IsTrue D.honest → l.closed ≡ false → (image : List ℕ) → D.may_leave l.disk image → RecoversAlone image l.units) }
 
         // A crash at any moment of the run leaves the map after the changes of the edits up to some edit.
@@ -293,7 +295,7 @@ impl<D: Disk> Library<D> {
             (λ l. LeavesOnly D.moment D.left_since self.disk l.disk (RecoversAmong self.units edits.items result.1.items))
             (λ e. LeavesOnly D.moment D.left_since self.disk e.1 (RecoversAmong self.units edits.items result.1.items)) }
 
-        // Why it stopped, and after which edit.
+        // Why the run stopped, and after which edit.
         ensures refused { IfErr result.0 (λ e. HadNoRoom self result.1.items e.0 e.1
             ⊎ Stopped D.honest D.failures D.seen D.may_leave self edits.items result.1.items e.0 e.1) }
         ensures size { MatchResult result.0 (λ l. D.size l.disk ≡ D.size self.disk) (λ e. D.size e.1 ≡ D.size self.disk) }
@@ -320,7 +322,7 @@ impl<D: Disk> Library<D> {
         (Ok(library), numbers)
     }
 
-    // Carries out one edit of a run: its number, and the library after it, opened again if the device failed.
+    // Carries out one edit of a run. The result is its number, and the library after it, opened again if the device failed.
     fn edited(mut self, alloc: Global, edit: Edit) -> (u32, Result<Library<D>, (LibraryFault, D)>)
         ensures edited { IfOk result.1 (λ l. IsEdited D.honest D.failures self edit result.0 l) }
         ensures refused { IfErr result.1 (λ e. (result.0 ≡ 35) × IsRefused D.honest D.failures D.seen D.may_leave self edit e.0 e.1) }
@@ -358,7 +360,7 @@ impl<D: Disk> Library<D> {
         }
     }
 
-    // Writes the records again, one Add per name: first all memory is taken, then the log decides.
+    // Compacts the records, one Add per name: first all memory is taken, then the log decides.
     fn write_anew(&mut self, alloc: Global) -> Result<(), LibraryFault>
         ensures compacted { IsCompactedAs D.Disk self.old self.new result
             (IsOldOrNew self.old.area self.old.bodies self.old.units (compacted self.old.units) self.old.units) }

@@ -23,11 +23,12 @@ pub const NAME_BYTES: usize = 32;
 pub struct Name {
     bytes: [u8; 32],
     len: usize,
-    // Its first eight bytes as one number, the first byte highest, with zeros if it is shorter: most names differ in it.
+    // The first eight bytes of the name as one number, the first byte highest, with zeros if it is shorter: most names differ in
+    // this number.
     prefix: u64,
 }
 
-// Written by hand, so that crates above call it and need not prove again how each part is dropped.
+// Written by hand, so that crates above use this proof and need not show again how each part is dropped.
 impl Drop for Name {
     fn drop(self) {
         let Name { bytes, len, prefix } = self;
@@ -98,7 +99,7 @@ fn prefix_of(bytes: &[u8]) -> u64
 }
 
 impl Name {
-    /// The name with these bytes, or 33 `BadName` if they are not a name. It takes no memory.
+    /// The name with these bytes, or 33 `BadName` if they are not a name. This takes no memory.
     pub fn new(bytes: &[u8]) -> Result<Name, NameFault>
         ensures answers { IsOk result ↔ IsTrue (is_name bytes.now) }
         ensures answer { IfOk result (λ name. name ≡ bytes.now) }
@@ -117,7 +118,7 @@ impl Name {
         })
     }
 
-    /// The bytes of the name. It takes no memory.
+    /// The bytes of the name. This takes no memory.
     pub fn bytes(&self) -> &[u8]
         ensures bytes { result.now ≡ self.now }
         ensures name { IsTrue (is_name self.now) }
@@ -150,7 +151,7 @@ impl PartialOrd for Name {
     }
 }
 
-// By bytes, from the first one on.
+// Names are ordered by their bytes, from the first one on.
 impl Ord for Name {
     ghost cmp = { slice_cmp nat_cmp };
 

@@ -1,7 +1,7 @@
 // Reading a command from the body of a record.
 
 ghost use Rattle.std.specs.Prelude.{◌≡◌, ◌≤◌, ◌*◌, length, drop, IfOk};
-ghost use Rattle.cc_library.specs.declared.command.LibraryCommand.{LibraryCommand};
+ghost use Rattle.cc_library.specs.Change.{LibraryCommand};
 ghost use Rattle.cc_library.specs.Body.{Spells};
 ghost use Rattle.cc_library.specs.internal.Reading.{byte_in, taken, number_in, words_in, words_field_in, source_in, name_in, certificate_in, unit_in, kind_in, command_in};
 ghost use Rattle.cc_library.specs.Answers.{Gives};
@@ -17,7 +17,7 @@ use std::sync::Arc;
 /// Why no command was read.
 #[derive(Clone, Copy, Debug)]
 pub enum ReadFault {
-    /// The bytes are no command.
+    /// The bytes are not a command.
     NoCommand,
     /// Memory ran out.
     OutOfMemory,
@@ -47,7 +47,7 @@ impl<T: Drop> From<AllocFailed<T>> for ReadFault {
 pub fn read_command(alloc: Global, bytes: &[u8]) -> Result<LibraryCommand, ReadFault>
     // The bytes spell the command that is read.
     ensures answer { IfOk result (λ command. Spells bytes.now command) }
-    // What spells a command is read as it; no command is refused as `NoCommand`.
+    // Whatever spells a command is read as that command, and none is refused as `NoCommand`.
     ensures only { (command : LibraryCommand) → Spells bytes.now command → Gives (λ c. c) result (Some command) }
 {
     command_at(alloc, bytes)

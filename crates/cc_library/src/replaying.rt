@@ -11,10 +11,10 @@ use crate::units::UnitMap;
 use cc_journal::Body;
 use std::alloc::Global;
 
-/// The map that records with these bodies represent, the oldest first.
+/// The map that records with these bodies, the oldest first, represent.
 ///
-/// 37 exactly if they represent no map: some body is not that of a command, or its command is refused by the map so far. 40 if memory ran
-/// out.
+/// 37 exactly if they represent no map: some body is not that of a command, or its command is refused by the map so far. 40 if
+/// memory ran out.
 pub fn replay(alloc: Global, bodies: &[Body]) -> Result<UnitMap, LibraryFault>
     ensures answer { IfOk result (λ units. StandFor bodies.now units) }
     ensures refused { IfErr result (λ fault. ReplayFaults bodies.now fault) }

@@ -13,7 +13,7 @@ pub struct SharedUnit {
     stored: Arc<StoredUnit>,
 }
 
-// Written by hand, so that crates above call it and need not prove again how each part is dropped.
+// Written by hand, so that crates above use this proof and need not show again how each part is dropped.
 impl Drop for SharedUnit {
     fn drop(self) {
         let SharedUnit { stored } = self;
@@ -30,21 +30,21 @@ impl Model for SharedUnit {
 }
 
 impl SharedUnit {
-    /// The unit that this pointer owns. It takes no memory.
+    /// The unit that this pointer owns. This takes no memory.
     pub fn new(stored: Arc<StoredUnit>) -> SharedUnit
         ensures { result ≡ arc_value stored }
     {
         SharedUnit { stored }
     }
 
-    /// The unit. It takes no memory.
+    /// The unit. This takes no memory.
     pub fn stored(&self) -> &Arc<StoredUnit>
         ensures { arc_value result.now ≡ self.now }
     {
         &self.stored
     }
 
-    /// One more owner of the unit. It takes no memory. Err: the unit has the most owners already.
+    /// One more owner of the unit. This takes no memory. Err: the unit already has as many owners as it can have.
     pub fn again(&self) -> Result<SharedUnit, AllocError>
         ensures { IfOk result (λ s. s ≡ self.now) }
     {

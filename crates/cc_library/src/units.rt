@@ -28,7 +28,7 @@ pub struct UnitMap {
     units: BTreeMap<Name, SharedUnit>,
 }
 
-// Written by hand, so that crates above call it and need not prove again how each part is dropped.
+// Written by hand, so that crates above use this proof and need not show again how each part is dropped.
 impl Drop for UnitMap {
     fn drop(self) {
         let UnitMap { units } = self;
@@ -51,7 +51,7 @@ impl Model for UnitMap {
 }
 
 impl UnitMap {
-    /// The empty map. It takes no memory.
+    /// The empty map. This takes no memory.
     pub fn new(alloc: Global) -> UnitMap
         ensures { result ≡ map.empty }
     {
@@ -60,7 +60,7 @@ impl UnitMap {
         }
     }
 
-    /// The unit with this name, if there is one. It takes no memory.
+    /// The unit with this name, if there is one. This takes no memory.
     pub fn get(&self, name: &Name) -> Option<&Arc<StoredUnit>>
         ensures { option_map (λ unit. arc_value unit.now) result ≡ map.get self.now name.now }
     {
@@ -70,7 +70,8 @@ impl UnitMap {
         }
     }
 
-    /// A copy of the map. Its units are shared; its names take memory. Err: memory ran out, or a unit has the most owners already.
+    /// A copy of the map. Its units are shared; its names take memory. Err: memory ran out, or a unit already has as many owners
+    /// as it can have.
     pub fn again(&self) -> Result<UnitMap, AllocError>
         ensures { IfOk result (λ units. units ≡ self.now) }
     {
@@ -79,7 +80,7 @@ impl UnitMap {
         })
     }
 
-    /// Whether this name has a unit. It takes no memory.
+    /// Whether this name has a unit. This takes no memory.
     pub fn contains(&self, name: &Name) -> bool
         ensures { result ≡ map.contains_key self.now name.now }
     {
@@ -97,7 +98,7 @@ impl UnitMap {
         Ok(names)
     }
 
-    /// Whether the records of one Add per name, and their closed gate, fit an area of that many bytes. It takes no memory.
+    /// Whether the records of one Add per name, and their closed gate, fit in an area of this many bytes. This takes no memory.
     pub fn fits(&self, area: usize) -> bool
         requires some { 1 ≤ area }
         requires few { area ≤ 2 ^ 30 }
@@ -113,7 +114,7 @@ impl UnitMap {
         true
     }
 
-    /// How many bytes the records of one Add per name take, and how many names there are. It takes no memory.
+    /// How many bytes the records of one Add per name take, and how many names there are. This takes no memory.
     pub fn measure(&self) -> (usize, usize)
         requires { room_of (compacted self.now) ≤ 2 ^ 30 }
         ensures bytes { result.0 ≡ length (records (compacted self.now)) }
@@ -128,7 +129,7 @@ impl UnitMap {
         (bytes, names)
     }
 
-    /// The bodies of one Add per name, in the order of the names' bytes, where an area can hold them.
+    /// The bodies of one Add per name, in the order of the names' bytes, if an area can hold them.
     pub fn bodies(&self, alloc: Global) -> Result<Vec<Body>, AllocError>
         requires { room_of (compacted self.now) ≤ 2 ^ 30 }
         ensures { IfOk result (λ bodies. AreSpelled bodies.items (adds_of self.now)) }
@@ -141,7 +142,7 @@ impl UnitMap {
         Ok(bodies)
     }
 
-    /// The number that refuses the command now, 31 or 32, if one does. It takes no memory.
+    /// The number with which the command would be refused now, 31 or 32, if it would be. This takes no memory.
     pub fn refusal(&self, command: &LibraryCommand) -> Option<u32>
         ensures { result ≡ refusal (apply self.now command.now) }
     {
@@ -184,7 +185,7 @@ impl UnitMap {
         }
     }
 
-    // Does the rest of a command that was begun. It takes no memory.
+    // Does the rest of a command that was begun. This takes no memory.
     pub(crate) fn finish(&mut self, command: LibraryCommand)
         ensures { self.new ≡ finished self.old command }
     {
@@ -199,7 +200,7 @@ impl UnitMap {
         }
     }
 
-    // Takes back what a command has begun. It takes no memory.
+    // Takes back what a command has begun. This takes no memory.
     pub(crate) fn undo(&mut self, command: LibraryCommand)
         ensures { self.new ≡ undone self.old command }
     {

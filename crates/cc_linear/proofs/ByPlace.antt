@@ -1,4 +1,4 @@
--- From tables by places to what the layout asks of labels: where chains end, and an order that has all that is reached.
+-- From tables by places to what the layout requires of labels: where chains end, and an order that has all that is reached.
 use Rattle.std.proofs.Common.{◌≡◌, ℕ, zero, suc, ◌+◌, ◌<◌, ◌≤◌, Bool, true, false, cond, ◌&&◌, List, [], ◌∷◌, length, get_or, refl, sym, ap, ◌∙◌, subst, ◌⊎◌, inl, inr, arith, Some, None, ◌==◌, All}
 use Rattle.std.specs.List.{AllPairs, Contains}
 use Rattle.std.proofs.lemmas.Bool.Decides.{nat_tests, eqb_tells}
@@ -91,7 +91,7 @@ place_inside (l ∷ ls) label (suc k, lt, e) = elim (cases_eq l label) [
   | inr other ↦ (let h = place_there l label ls other in let i = place_inside ls label (k, omega arith, e) in omega arith)
 ]
 
--- what a search finds
+-- a search finds a label that is in the list
 pub not_missing : (xs : List ℕ) (x : ℕ) (r : Result ℕ ℕ) (d : ℕ) → IsBinarySearchResult (λ y. nat_cmp y x) xs r → ((i j : ℕ) → i ≤ j → j < length xs → get_or xs i 0 ≤ get_or xs j 0) → Contains xs x → r ≡ Err d → ⊥
 not_missing xs x (Ok i) d found up c e = absurd (let z : Ok i ≡ Err d = e in cc)
 not_missing xs x (Err i) d found up (k, lt, same) e =
@@ -99,13 +99,13 @@ not_missing xs x (Err i) d found up (k, lt, same) e =
     let here : get_or xs k 0 ≡ x = get_or_default xs k 0 x lt ∙ same in
     elim (cases_lt k i) [ inl b ↦ (let a = h.1 k b in omega arith) | inr b ↦ (let a = h.2 k b lt in omega arith) ]
 
--- where labels lead
+-- the labels to which the block at a place leads exist
 pub leads_at : (labels : List ℕ) (blocks : List Block) (i : ℕ) (d : Block) → AllLeadIn labels blocks → i < length blocks → LeadsIn labels (get_or blocks i d).operation
 leads_at labels [] i d h lt = absurd (omega arith)
 leads_at labels (b ∷ bs) zero d h lt = h.0
 leads_at labels (b ∷ bs) (suc i) d h lt = leads_at labels bs i d h.1 (omega arith)
 
--- the block at a place is that of the label there
+-- the block at a label's place is the block of that label
 block_placed : (blocks : List Block) (label : ℕ) (d : Block) → place_in (labels_of blocks) label < length blocks → block_at blocks label ≡ Some (get_or blocks (place_in (labels_of blocks) label) d)
 block_placed [] label d lt = absurd (omega arith)
 block_placed (b ∷ bs) label d lt = elim (eqb_tells b.label label) [

@@ -1,4 +1,4 @@
--- One more label is found.
+-- One more label is marked as found.
 use Rattle.std.proofs.Common.{◌≡◌, ℕ, zero, suc, ◌+◌, ◌<◌, ◌≤◌, List, [], ◌∷◌, ◌++◌, length, get_or, refl, sym, ap, ◌∙◌, subst, inl, inr, arith, length-append, append_assoc, All}
 use Rattle.std.specs.Prelude.{Bool, true, false, set}
 use Rattle.std.specs.List.{Contains}

@@ -1,5 +1,5 @@
--- A list that lays out a function's blocks does what the blocks do. The list lags: when the blocks have come to the next label, the list
--- may still have to do the moves after an operation, and a jump.
+-- A list that lays out a function's blocks does what the blocks do. The list lags: when the blocks have come to the next label,
+-- the list may still have to execute the moves after an operation, and a jump.
 use Rattle.std.proofs.Common.{◌≡◌, ℕ, suc, ◌+◌, ◌<◌, ◌≤◌, List, [], ◌∷◌, length, refl, sym, ap, ◌∙◌, subst, ◌⊎◌, inl, inr, arith}
 use Rattle.std.specs.Prelude.{Bool, true, false, cond, ◌==◌, Option, Some, None}
 use Rattle.cc_words.specs.Operators.{apply_unary, apply_binary}
@@ -66,7 +66,7 @@ module _ (arity : ℕ → ℕ) (function : Ltl) (code : List LinearItem) (end fa
   abbrev pub wide : ℕ
   wide = size + size + 1
 
-  -- The list lags by the moves that follow an operation.
+  -- The list may lag by the moves that follow an operation.
   pub record Related (c : ltl.Configuration) (d : linear.Configuration) : Type 0 where
     pub copies : List Move
     pub tail : List LinearItem
@@ -91,7 +91,7 @@ module _ (arity : ℕ → ℕ) (function : Ltl) (code : List LinearItem) (end fa
       let more : Way b (length ms) c = copies_way ms tail (put (target m) (at (source m)) at) world words in
       subst (λ n. Way a n c) (let e : 1 + length ms ≡ suc (length ms) = omega arith in e) (path_then a b c 1 (length ms) step more)
 
-  -- a label is no move
+  -- a label takes no move
   label_way : (l : ℕ) (items : List LinearItem) (at : Locations) (world : World) (words : List ℕ) → Way (at_items (Label l ∷ items) at world words) 0 (at_items items at world words)
   label_way l items at world words = (refl, refl)
 
@@ -104,12 +104,12 @@ module _ (arity : ℕ → ℕ) (function : Ltl) (code : List LinearItem) (end fa
   then_way : (d e f : linear.Configuration) (a b n : ℕ) → Arrives d a b e → Way e n f → Arrives d (a + n) (b + n) f
   then_way d e f a b n x w = record { moves = x.moves + n; enough = let g = x.enough in omega arith; few = let g = x.few in omega arith; way = path_then d e f x.moves n x.way w }
 
-  -- to the place at which the list goes on, by at most one jump
+  -- the list comes to the place at which it goes on, with at most one jump
   goes_on : (tail : List LinearItem) (l : ℕ) (at : Locations) (world : World) (words : List ℕ) → GoesOnAt code tail l → Arrives (at_items tail at world words) 0 1 (at_items (place code l) at world words)
   goes_on tail l at world words (inl e) = record { moves = 0; enough = omega arith; few = omega arith; way = subst (λ x. Way (at_items x at world words) 0 (at_items (place code l) at world words)) e (path_refl (at_items (place code l) at world words)) }
   goes_on tail l at world words (inr (behind, e)) = record { moves = 1; enough = omega arith; few = omega arith; way = one_move (at_items tail at world words) (at_items (place code l) at world words) (ap (λ x. new (at_items x at world words)) e) }
 
-  -- the remaining moves, and then on to the label
+  -- the list executes the remaining moves, and comes to the label
   settles : (c : ltl.Configuration) (d : linear.Configuration) → Related c d → Arrives d 0 (size + 1) (at_items (place code (end c.label)) c.locations c.world c.words)
   settles c d r =
       let first_way = copies_way r.copies r.tail d.locations d.world d.words in
@@ -121,7 +121,7 @@ module _ (arity : ℕ → ℕ) (function : Ltl) (code : List LinearItem) (end fa
       let all = path_then d (at_items r.tail (moved r.copies d.locations) d.world d.words) e (length r.copies) g.moves begin g.way in
       record { moves = length r.copies + g.moves; enough = omega arith; few = let x = r.few in let y = g.few in omega arith; way = subst (λ x. Way d (length r.copies + g.moves) x) same all }
 
-  -- after the moves before the block's operation
+  -- the list executes the moves before the block's operation
   arrives : (c : ltl.Configuration) (d : linear.Configuration) (before : List Move) (body : List LinearItem) → Related c d → end c.label ≡ c.label → place code c.label ≡ Label c.label ∷ moves_then before body
       → Arrives d (length before) (size + 1 + length before) (at_items body (moved before c.locations) c.world c.words)
   arrives c d before body r own is =
@@ -134,7 +134,7 @@ module _ (arity : ℕ → ℕ) (function : Ltl) (code : List LinearItem) (end fa
       let u = then_way d b (at_items body (moved before c.locations) c.world c.words) (0 + 0) (size + 1 + 0) (length before) t (copies_way before body c.locations c.world c.words) in
       record { moves = u.moves; enough = let x = u.enough in omega arith; few = let x = u.few in omega arith; way = u.way }
 
-  -- what the list's move does is what the block does, except the moves after
+  -- the list's move does what the block does, except for the moves after the operation
   abbrev Fits : Moving ltl.Configuration → Moving linear.Configuration → Type 0
   Fits (Goes c) (Goes d) = Related c d
   Fits (Calls q f) (Calls p g) = (p ≡ q) × ((a : Answer) → Related (f a) (g a))
@@ -146,7 +146,7 @@ module _ (arity : ℕ → ℕ) (function : Ltl) (code : List LinearItem) (end fa
   fits_with None f g h = tt
   fits_with (Some x) f g h = h x
 
-  -- one item for one operation
+  -- operations that have one item
   abbrev IsStraight : Operation → Type 0
   IsStraight (Nop n) = ⊥
   IsStraight (Branch from taken other) = ⊥
@@ -169,7 +169,7 @@ module _ (arity : ℕ → ℕ) (function : Ltl) (code : List LinearItem) (end fa
   fits (Write n) after at world words tail i o s f = lagging n after (put destroyed_location (unknown_word words) at) (after_write (at result_location) world) (left_after_word words) tail o s f
   fits op after at world words tail i o s f = absurd i
 
-  -- some moves, and then what the block does
+  -- the list makes some moves, and then does what the block does
   pub record Matches (c : ltl.Configuration) (d : linear.Configuration) : Type 0 where
     pub moves : ℕ
     pub to : linear.Configuration
@@ -181,7 +181,7 @@ module _ (arity : ℕ → ℕ) (function : Ltl) (code : List LinearItem) (end fa
   abbrev Proceeds : ltl.Configuration → ltl.Configuration → linear.Configuration → Type 0
   Proceeds c c' d = Advances old ltl_output new linear_output Related wide c' d ⊎ (Related c' d × (far c'.label < far c.label))
 
-  -- no operation: the block has moves, or nothing
+  -- a block without an operation has moves, or does nothing
   pub record Silent (c : ltl.Configuration) (d : linear.Configuration) : Type 0 where
     pub to : ltl.Configuration
     pub move : old c ≡ Goes to
@@ -309,7 +309,7 @@ module _ (arity : ℕ → ℕ) (function : Ltl) (code : List LinearItem) (end fa
   kept c d b (Read n) r e is own s = inl (straight c d b r e own (subst IsStraight (sym is) tt) s)
   kept c d b (Write n) r e is own s = inl (straight c d b r e own (subst IsStraight (sym is) tt) s)
 
-  -- if there is no block, nothing is owed
+  -- if there is no block, nothing has to be shown
   nothing : (c : ltl.Configuration) (d : linear.Configuration) → Related c d → block_at function.blocks c.label ≡ None → Matches c d
   nothing c d r e =
       let m : Fails ≡ old c = sym (ap (λ o. tried o (λ (x : Block). operate arity x.operation x.after (moved x.before c.locations) c.world c.words)) e) in
@@ -360,7 +360,7 @@ module _ (arity : ℕ → ℕ) (function : Ltl) (code : List LinearItem) (end fa
     ends = λ c a d r e. ends c a d e (at_a_block c d (block_at function.blocks c.label) r refl);
   }
 
--- what the blocks keep of the source, a list that lays them out keeps too, slower by the longest chain that it passes over
+-- if the blocks keep up with the source, so does a list that lays them out; it is slower by the longest chain that it passes over
 pub linear_tracks : (meaning : Meaning) (f rate : ℕ) (function : Ltl) (code : List LinearItem) (end far : ℕ → ℕ) (most : ℕ) → Lays function code end far most
     → TracksForAll meaning f rate (ltl_move meaning.arity function) ltl_output (ltl_start function)
     → TracksForAll meaning f (coarser rate most) (linear_move meaning.arity code) linear_output (linear_start function.slots code)

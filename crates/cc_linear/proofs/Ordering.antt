@@ -1,4 +1,4 @@
--- Blocks in any order are laid out.
+-- Blocks can be laid out in any order.
 use Rattle.std.proofs.Common.{◌≡◌, ℕ, zero, suc, ◌<◌, List, [], ◌∷◌, length, get_or, refl, sym, ap, ◌∙◌, subst, ◌⊎◌, inl, inr, arith}
 use Rattle.std.specs.Prelude.{Bool, true, false, cond, ◌==◌, ◌&&◌, Option, Some, None}
 use Rattle.std.specs.List.{AllPairs, Contains}
@@ -23,7 +23,7 @@ abbrev from : List ℕ → ℕ → List ℕ
 from [] l = []
 from (x ∷ xs) l = cond (x == l) (x ∷ xs) (from xs l)
 
--- the label is in the order, directly before these
+-- the label is in the order, directly before the labels `ls`
 abbrev Before : List ℕ → ℕ → List ℕ → Type 0
 Before order l ls = from order l ≡ l ∷ ls
 
@@ -57,7 +57,7 @@ contains_from (y ∷ ys) l (suc k) lt e =
 from_contains : (order : List ℕ) (l : ℕ) (ls : List ℕ) → Before order l ls → Contains order l
 from_contains order l ls e = let i = from_place order l l ls e in (i.0, i.1, i.2 l)
 
--- what follows a label in the order begins at the next label
+-- what follows a label in the order is the order from the next label on
 next_from : (order : List ℕ) → Distinct order → (l e : ℕ) (ls : List ℕ) → Before order l (e ∷ ls) → Before order e ls
 next_from [] d l e ls h = absurd (cc)
 next_from (y ∷ ys) d l e ls h = elim (eqb_tells y l) [
@@ -73,7 +73,7 @@ next_from (y ∷ ys) d l e ls h = elim (eqb_tells y l) [
     itself : (a : ℕ) → (a == a) ≡ true
     itself a = elim (eqb_tells a a) [ inl t ↦ t.0 | inr t ↦ absurd (t.1 refl) ]
 
--- looking for a label passes over a block's items
+-- a search for a label passes over a block's items
 place_moves : (ms : List Move) (items : List LinearItem) (l : ℕ) → place (moves_then ms items) l ≡ place items l
 place_moves [] items l = refl
 place_moves (m ∷ ms) items l = place_moves ms items l
@@ -165,7 +165,7 @@ module _ (ltl : Ltl) (end far : ℕ → ℕ) (most : ℕ) (order : List ℕ) (en
         inr (items_of order, ap (λ t. cond t (items_of order) (Jump (end ltl.entry) ∷ items_of order)) not_first))
   ]
 
-  -- what is at a label of the order
+  -- what the code has at a label of the order
   stands_at : (l : ℕ) (b : Block) (ls : List ℕ) → Before order l ls → block_at ltl.blocks l ≡ Some b → place code l ≡ Label l ∷ block_then end b b.operation ls (items_of ls)
   stands_at l b ls before e = place_code l ∙ ap items_of before ∙ ap (λ o. Label l ∷ laid_at end o ls (items_of ls)) e
 

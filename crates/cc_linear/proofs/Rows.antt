@@ -54,7 +54,7 @@ branch_by false from t o order rest = ap (λ ys. IfNonzero from t ∷ ys) (leads
 branch_alone : (end : ℕ → ℕ) (from taken other : ℕ) (order : List ℕ) (rest : List LinearItem) → branch_then end from taken other order rest ≡ branch_then end from taken other order [] ++ rest
 branch_alone end from taken other order rest = branch_by (is_next (end taken) order) from (end taken) (end other) order rest
 
--- a block with one successor: its parts one after the other
+-- the items of a block with one successor are those of its parts, one after the other
 pub straight : (before after : List Move) (op : Operation) (xs rest : List LinearItem)
     → moves_then before (operation_then op (moves_then after (xs ++ rest))) ≡ moves_then before (operation_then op (moves_then after xs)) ++ rest
 straight before after op xs rest =
@@ -82,7 +82,7 @@ block_alone end block Return order rest = moves_before block.before (item.Return
 
 -- ---- what is put
 
--- of the order only the next label matters
+-- only the next label of the order matters
 first_alone : (end : ℕ → ℕ) (block : Block) (op : Operation) (order : List ℕ) (rest : List LinearItem) → block_then end block op (listed_first order) rest ≡ block_then end block op order rest
 first_alone end block op [] rest = refl
 first_alone end block (Nop n) (l ∷ ls) rest = refl
@@ -116,7 +116,7 @@ pub return_put : (end : ℕ → ℕ) (block : Block) (order : List ℕ) (old onc
 return_put end block order old once before b is o =
     o ∙ ap (λ xs. old ++ xs) (sym (moves_alone before (item.Return ∷ [])) ∙ ap (λ ms. moves_then ms (item.Return ∷ [])) b ∙ sym (ap (λ op. block_then end block op order []) is))
 
--- a block with one way, as its row
+-- the items of a block with one way, as they are put
 straight_is : (end : ℕ → ℕ) (block : Block) (op : Operation) (order : List ℕ) (rest : List LinearItem) → goes_on op ≡ true
     → block_then end block op order rest ≡ moves_then block.before (operation_then block.operation (moves_then block.after (tail_of end block order rest)))
 straight_is end block (Nop n) order rest g = refl

@@ -87,7 +87,7 @@ pub all_last : (n : ℕ) (xs : List ℕ) (y : ℕ) → All (λ x. x < n) (xs ++ 
 all_last n [] y h = h 0 0 (omega arith)
 all_last n (x ∷ xs) y h = all_last n xs y (λ k d below. h (suc k) d (omega arith))
 
--- ends are places of labels too
+-- the ends are places of labels too
 pub ends_inside : (next ends : List ℕ) → length ends ≡ length next → All (λ n. n < length next) next → HasEnds next ends → All (λ e. e < length next) ends
 ends_inside next ends long all (far, most, h) = λ i d below. subst (λ e. e < length next) (get_or_default ends i 0 d (omega arith)) (inside (suc (far i)) i (omega arith) (omega arith))
   where

@@ -1,4 +1,4 @@
--- From a function's blocks to its list: the tables by places are what each step asks for, and the list is made from the function.
+-- From a function's blocks to its list: the tables by places are what each step requires, and the list is made from the function.
 use Rattle.std.proofs.Common.{◌≡◌, ℕ, suc, ◌+◌, ◌<◌, ◌≤◌, Bool, true, false, cond, ◌&&◌, List, [], ◌∷◌, length, get_or, refl, sym, ap, ◌∙◌, subst, arith, Option, Some, None, IsSome, All, Contains}
 use Rattle.std.specs.List.{AllPairs, AllByRecursion}
 use Rattle.std.proofs.lemmas.List.Elements.{All-from_recursion}
@@ -71,7 +71,7 @@ all_lead ltl up leads =
     successors_lead labels (get_or ltl.blocks i d).operation (λ n c.
     some_label ltl.blocks n (leads (get_or labels i 0) (get_or ltl.blocks i d) n (block_there labels ltl.blocks i d refl (are_labels ltl.blocks up) (omega arith)) c).0))
 
--- ---- places are places of blocks
+-- ---- the places in the tables are places of blocks
 
 nop_next : (labels : List ℕ) (op : Operation) → is_nop op ≡ true → LeadsIn labels op → Contains labels (next op)
 nop_next labels (Nop n) e h = h

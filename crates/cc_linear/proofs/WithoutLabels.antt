@@ -1,4 +1,4 @@
--- Labels to which nothing leads may be left out: at a label the next item is executed, so the two lists go hand in hand.
+-- Labels to which nothing leads may be left out: at a label the next item is executed, so the two lists run side by side.
 use Rattle.std.proofs.Common.{◌≡◌, ◌≢◌, ℕ, zero, suc, ◌+◌, ◌<◌, ◌≤◌, Bool, true, false, cond, List, [], ◌∷◌, length, refl, sym, ap, ◌∙◌, subst, inl, inr, arith, Option, Some, None, ◌==◌, Contains, ◌↔◌, get_or, drop, ◌++◌, append_assoc, append-nil}
 use Rattle.std.specs.List.{AllByRecursion, AllPairs}
 use Rattle.std.proofs.lemmas.Bool.Decides.{eqb_tells}
@@ -25,7 +25,7 @@ use Rattle.cc_linear_language.specs.Linear.{labels, place, IsItem, Configuration
 use Rattle.cc_linear.specs.Targets.{targets, NoneIdle}
 use Rattle.cc_linear.specs.internal.Idle.{IsRising, has, stays, kept}
 
--- ---- what is among numbers
+-- ---- whether a label is among numbers
 
 contains_more : (x l : ℕ) (xs : List ℕ) → Contains xs l → Contains (x ∷ xs) l
 contains_more x l xs (k, lt, e) = (suc k, (let z : suc k < suc (length xs) = omega arith in z), e)
@@ -72,7 +72,7 @@ same_stays xs ys same Read = refl
 same_stays xs ys same Write = refl
 same_stays xs ys same Return = refl
 
--- what a search finds
+-- a search finds a label exactly if the list has it
 pub found_has : (xs : List ℕ) (l : ℕ) (r : Result ℕ ℕ) → IsBinarySearchResult (λ y. nat_cmp y l) xs r → IsRising xs → is_ok r ≡ has xs l
 found_has xs l (Ok i) found up = let h = searched xs l (Ok i) found up in sym (has_one xs l (i, h.0, get_or_default xs i l 0 h.0 ∙ h.1))
 found_has xs l (Err i) found up = let h = searched xs l (Err i) found up in sym (has_none xs l (λ c. missing h.1 h.2 c))
@@ -82,7 +82,7 @@ found_has xs l (Err i) found up = let h = searched xs l (Err i) found up in sym 
         let same : get_or xs k 0 ≡ l = get_or_default xs k 0 l lt ∙ e in
         elim (cases_lt k i) [ inl b ↦ (let a = low k b in omega arith) | inr b ↦ (let a = high k b lt in omega arith) ]
 
--- ---- labels and targets of what is kept
+-- ---- the labels and the targets of what is kept
 
 -- all targets are among these labels
 abbrev Below : List ℕ → List LinearItem → Type 0
@@ -142,7 +142,7 @@ labels_kept led (Read ∷ items) = labels_kept led items
 labels_kept led (Write ∷ items) = labels_kept led items
 labels_kept led (Return ∷ items) = labels_kept led items
 
--- a number stays exactly if it is among them and was there
+-- a label stays exactly if it was there and is among `led`
 pub only_has : (led ls : List ℕ) (l : ℕ) → has led l ≡ true → Contains ls l → Contains (only led ls) l
 only_has led [] l h (k, lt, e) = absurd (omega arith)
 only_has led (x ∷ xs) l h (zero, lt, e) =
@@ -281,7 +281,7 @@ place_below led l (Read ∷ items) b = place_below led l items b
 place_below led l (Write ∷ items) b = place_below led l items b
 place_below led l (Return ∷ items) b = place_below led l items b
 
--- ---- hand in hand
+-- ---- the two lists run side by side
 
 module _ (arity : ℕ → ℕ) (code : List LinearItem) (led : List ℕ) (below : Below led code) where
   abbrev old : Configuration → Moving Configuration
@@ -290,7 +290,7 @@ module _ (arity : ℕ → ℕ) (code : List LinearItem) (led : List ℕ) (below 
   abbrev new : Configuration → Moving Configuration
   new d = linear_move arity (kept led code) d
 
-  -- the same, except labels to which nothing leads
+  -- the same configuration, without the labels to which nothing leads
   abbrev without : Configuration → Configuration
   without c = at_items (kept led c.items) c.locations c.world c.words
 

@@ -1,7 +1,7 @@
 -- Definitions for private contracts and proofs.
 -- when a list lays out a function's blocks
 pub mod Lays
--- the list that lays them out in an order
+-- the list that lays out blocks in an order
 pub mod Layout
 -- Where chains of empty blocks end.
 pub mod Ends

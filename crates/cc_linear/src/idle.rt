@@ -1,4 +1,4 @@
-// Labels to which nothing leads are left out.
+// Leaves out the labels to which nothing leads.
 
 ghost use Rattle.std.specs.Prelude.{◌≡◌, ℕ, ◌↔◌, ◌<◌, IfOk};
 ghost use Rattle.std.specs.List.{Contains};

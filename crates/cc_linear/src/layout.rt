@@ -84,7 +84,7 @@ pub fn lay_out(
     requires order { All (λ p. p < length labels.now) order.now }
     ensures { IfOk result (λ items. items.items ≡ leads (end_in labels.now ends.now entry) (labels_at labels.now order.now) (laid blocks.now (end_in labels.now ends.now) (labels_at labels.now order.now))) }
 {
-    // One label and one item for each block. Usually there are fewer moves and jumps than that.
+    // Each block has one label and one item. Usually there are fewer moves and jumps than blocks.
     let mut items = Vec::with_capacity(alloc, order.len().saturating_mul(3))?;
     let first = label_at(labels, order, 0);
     put(&mut items, &[], way(end_label(labels, ends, entry), first))?;

@@ -9,7 +9,6 @@
 //! nothing leads.
 #![tactic(auto)]
 
-mod fault;
 mod idle;
 mod layout;
 mod lineariser;
@@ -18,5 +17,4 @@ mod tables;
 mod tracing;
 mod writing;
 
-pub use fault::LinearFault;
 pub use lineariser::linearise;

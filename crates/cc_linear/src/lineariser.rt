@@ -5,7 +5,6 @@ ghost use Rattle.cc_validate.specs.Pair.{IsGraph};
 ghost use Rattle.cc_linear.specs.Targets.{NoneIdle};
 ghost use Rattle.cc_linear.specs.internal.Whole.{IsMadeOf};
 
-use crate::fault::LinearFault;
 use crate::idle::without_idle;
 use crate::layout::lay_out;
 use crate::places::labels;
@@ -39,8 +38,8 @@ fn items_of(alloc: Global, ltl: &Ltl) -> Result<Vec<LinearItem>, AllocError>
 /// loop's test is at its bottom and the likely way falls through, so one turn of a loop executes one branch and no jump. Unreachable blocks
 /// are left out, and so is each label to which nothing leads. The pair keeps the LTL as well.
 ///
-/// The only refusal is `LinearFault::OutOfMemory` (40), if memory runs out; the pair is dropped then.
-pub fn linearise(alloc: Global, pair: LtlPair) -> Result<LinearPair, LinearFault>
+/// `AllocError` if memory runs out; the pair is dropped then.
+pub fn linearise(alloc: Global, pair: LtlPair) -> Result<LinearPair, AllocError>
     ensures mode { IfOk result (λ made. made.mode ≡ pair.mode) }
     ensures unit { IfOk result (λ made. made.unit ≡ pair.unit) }
     ensures function { IfOk result (λ made. made.function ≡ pair.function) }

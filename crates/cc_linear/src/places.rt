@@ -18,7 +18,7 @@ pub fn labels(alloc: Global, blocks: &[Block]) -> Result<Vec<u32>, AllocError>
     Ok(labels)
 }
 
-/// The place of a label among labels that ascend.
+/// The place of a label among labels in ascending order.
 pub fn place(labels: &[u32], label: u32) -> usize
     requires there { Contains labels.now label }
     requires labels { AreLabels labels.now }

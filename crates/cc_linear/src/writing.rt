@@ -1,4 +1,4 @@
-// The items of a block's parts. Functions put moves and an item together, so that each names its moves too.
+// The items of a block's parts. Moves and the item after them are put by one call, so that each caller names the moves too.
 
 ghost use Rattle.std.specs.Prelude.{◌≡◌, ◌++◌, [], ◌∷◌, cond, OnOk};
 ghost use Rattle.cc_linear_language.specs.declared.item.LinearItem.TheVariants.{Jump};

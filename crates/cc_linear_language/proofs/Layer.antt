@@ -15,10 +15,10 @@ use Rattle.cc_ltl.specs.Ltl.{Locations}
 use Rattle.cc_linear_language.specs.declared.item.LinearItem.{LinearItem}
 use Rattle.cc_linear_language.specs.declared.item.LinearItem.TheVariants.{Label, Jump, IfNonzero, IfZero, Copy, Const, Unary, Binary, Load, Store, Call, Read, Write, Return}
 use Rattle.cc_linear_language.specs.Linear.{Configuration, does, linear_move, linear_output, linear_start}
-use Rattle.cc_c_laws.specs.declared.mode.Mode.{Mode}
+use Rattle.cc_c_semantics.specs.declared.mode.Mode.{Mode}
 use Rattle.cc_linear_language.specs.Pair.{KeepsUp, FollowsFunction}
 
--- a move that goes on, or calls, was made from something
+-- if a move goes on, or calls, there was something from which it was made
 tried_goes : {C X : Type 0} (x : Option X) (go : X → Moving C) (d : C) → tried x go ≡ Goes d → (y : X) × (x ≡ Some y) × (go y ≡ Goes d)
 tried_goes (Some y) go d e = (y, refl, e)
 tried_goes None go d e = absurd cc
@@ -33,7 +33,7 @@ GrowsTo world d = IsPrefixOf world.output d.world.output
 same_goes : (c d : Configuration) → Goes c ≡ Goes d → c ≡ d
 same_goes c d e = cc
 
--- the output stays
+-- the output stays as it is
 keeps : (world : World) (c d : Configuration) → c.world.output ≡ world.output → Goes c ≡ Goes d → GrowsTo world d
 keeps world c d same e = subst (GrowsTo world) (same_goes c d e) ([], rw same (append-nil world.output))
 
@@ -103,7 +103,7 @@ is_layer arity code = record {
   resumes = λ c q resume e. (does_calls arity code c.items c.locations c.world c.words q resume e).1;
 }
 
--- code that keeps up follows, at whatever rate
+-- code that keeps up with the source, at whatever rate, follows it
 pub follows_of : (mode : Mode) (unit : List External) (f slots : ℕ) (code : List LinearItem) → KeepsUp mode unit f slots code → FollowsFunction mode unit f slots code
 follows_of mode unit f slots code (rate, keeps_up) meaning is opened below ws h call =
     all_follow meaning (linear_move meaning.arity code) linear_output (is_layer meaning.arity code) f rate (linear_start slots code) (keeps_up meaning is) opened below ws h call

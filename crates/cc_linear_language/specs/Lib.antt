@@ -2,6 +2,6 @@
 pub mod Linear
 -- what a pair keeps
 pub mod Pair
--- Pages of lower crates that clauses here cite, handed on.
-pub use Rattle.cc_c_laws.specs.Meaning
-pub use Rattle.cc_c_laws.specs.Numbered
+-- Pages of lower crates that clauses here cite, re-exported.
+pub use Rattle.cc_c_semantics.specs.Meaning
+pub use Rattle.cc_c_semantics.specs.Numbered

@@ -37,7 +37,7 @@ IsItem slots functions labels Read = Unit {0}
 IsItem slots functions labels Write = Unit {0}
 IsItem slots functions labels Return = Unit {0}
 
--- no label occurs twice
+-- there are few enough slots, no label occurs twice, and each item is one of such a function
 pub record IsLinear (slots functions : ℕ) (items : List LinearItem) : Type 0 where
   pub few : slots ≤ most_slots
   pub distinct : AllPairs (λ (a b : ℕ). a ≢ b) (labels items)

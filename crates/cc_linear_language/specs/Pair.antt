@@ -4,9 +4,9 @@ use Rattle.cc_ast.specs.Tree.{External}
 use Rattle.cc_ast.specs.Source.{source}
 use Rattle.cc_ast.specs.declared.unit.Unit as parsed
 use Rattle.cc_types.specs.Typed.{IsTyped}
-use Rattle.cc_c_laws.specs.Meaning.{functions}
-use Rattle.cc_c_laws.specs.Numbered.{IsMeaning}
-use Rattle.cc_c_laws.specs.declared.mode.Mode.{Mode}
+use Rattle.cc_c_semantics.specs.Meaning.{functions}
+use Rattle.cc_c_semantics.specs.Numbered.{IsMeaning}
+use Rattle.cc_c_semantics.specs.declared.mode.Mode.{Mode}
 use Rattle.cc_simulation.specs.Behavior.{FollowsForAll}
 use Rattle.cc_simulation.specs.World.{World}
 use Rattle.cc_simulation.specs.Run.{run}
@@ -28,12 +28,12 @@ pub record Pair : Type 0 where
 abbrev pub tree_of : Pair → List External
 tree_of p = (source p.unit).externals
 
--- the most blocks that the LTL of a function may have
+-- the LTL of a function may have at most this many blocks
 abbrev pub most_blocks : ℕ
 most_blocks = 4096
 
--- so does the run of the LTL: this is `KeepsUp` of `cc_validate`, repeated here so that crates based on Linear need not wait for the
--- validator
+-- the run of the LTL keeps up with the function: this is `KeepsUp` of `cc_validate`, repeated here so that crates based on Linear
+-- need not wait for the validator
 abbrev pub LtlKeepsUp : Mode → List External → (function : ℕ) → Ltl → Type 0
 LtlKeepsUp mode unit f ltl = (rate : ℕ) × ((meaning : Meaning) → IsMeaning mode unit meaning → TracksForAll meaning f rate (ltl_move meaning.arity ltl) ltl_output (ltl_start ltl))
 
@@ -42,7 +42,7 @@ abbrev pub KeepsUp : Mode → List External → (function slots : ℕ) → List 
 KeepsUp mode unit f slots code =
     (rate : ℕ) × ((meaning : Meaning) → IsMeaning mode unit meaning → TracksForAll meaning f rate (linear_move meaning.arity code) linear_output (linear_start slots code))
 
--- so at each number of open calls the run follows the function's body, for all lists of unknown words
+-- so, for each number of open calls below the limit, the run follows the function's body, for all lists of unknown words
 abbrev pub FollowsFunction : Mode → List External → (function slots : ℕ) → List LinearItem → Type 0
 FollowsFunction mode unit f slots code =
     (meaning : Meaning) → IsMeaning mode unit meaning → (opened : ℕ) → opened < most_open → (ws : List ℕ) (h : World) → IsCall meaning f ws h

@@ -2,14 +2,14 @@
 
 ghost use Rattle.std.specs.Prelude.{◌≡◌, ◌<◌, ◌≤◌, length};
 ghost use Rattle.std.specs.Arc.{arc_value};
-ghost use Rattle.cc_c_laws.specs.Meaning.{functions};
+ghost use Rattle.cc_c_semantics.specs.Meaning.{functions};
 ghost use Rattle.cc_types.specs.Typed.{IsTyped};
 ghost use Rattle.cc_linear_language.specs.Linear.{IsLinear};
 ghost use Rattle.cc_ltl.specs.Ltl.{IsLtl};
 ghost use Rattle.cc_linear_language.specs.Pair.{Pair, tree_of, most_blocks, LtlKeepsUp, KeepsUp, FollowsFunction, IsPair};
 
 use crate::item::LinearItem;
-use cc_c_laws::Mode;
+use cc_c_semantics::Mode;
 use cc_ltl::Ltl;
 use cc_types::TypedUnit;
 use std::marker::Model;
@@ -31,7 +31,7 @@ impl Model for LinearPair {
     ghost use Rattle.std.specs.Arc.{arc_value};
     ghost use Rattle.std.specs.Coded.{codes};
     ghost use Rattle.cc_ast.specs.contracts.unit.Unit as parsed;
-    ghost use Rattle.cc_c_laws.specs.contracts.mode.Mode as modes;
+    ghost use Rattle.cc_c_semantics.specs.contracts.mode.Mode as modes;
     ghost use Rattle.cc_linear_language.specs.Pair.{Pair, IsPair};
 
     ghost Value = { Pair };
@@ -65,7 +65,7 @@ impl LinearPair {
         }
     }
 
-    /// The mode: what the code owes if the function goes wrong.
+    /// The mode: what the code must do if the function goes wrong.
     pub fn mode(&self) -> Mode
         ensures answer { result ≡ self.now.mode }
     {

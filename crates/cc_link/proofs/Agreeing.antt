@@ -4,10 +4,10 @@ use Rattle.cc_ast.specs.Tree.{External}
 use Rattle.cc_types.specs.Typed.{IsTyped, IsWithinLimits}
 use Rattle.cc_types.specs.Limits.{objects}
 use Rattle.cc_types.specs.Verdict.{source_with}
-use Rattle.cc_c_laws.specs.Meaning.{functions, initial_globals}
-use Rattle.cc_c_laws.specs.declared.mode.Mode.{Mode}
-use Rattle.cc_c_laws.specs.Calls.{HasMain, main_of, first_shared, TypedUnitsHaveMain, ObjectsAreSized}
-use Rattle.cc_c_laws.specs.Numbered.{IsMeaning, objects_of, world_of, outcome_by_number, TypedUnitsHaveMeanings, ProgramsAreNumbered}
+use Rattle.cc_c_semantics.specs.Meaning.{functions, initial_globals}
+use Rattle.cc_c_semantics.specs.declared.mode.Mode.{Mode}
+use Rattle.cc_c_semantics.specs.Calls.{HasMain, main_of, first_shared, TypedUnitsHaveMain, ObjectsAreSized}
+use Rattle.cc_c_semantics.specs.Numbered.{IsMeaning, objects_of, world_of, outcome_by_number, TypedUnitsHaveMeanings, ProgramsAreNumbered}
 use Rattle.cc_simulation.specs.Behavior.{Outcome, AreWords, Follows}
 use Rattle.cc_simulation.specs.Meaning.{Meaning}
 use Rattle.cc_simulation.specs.World.{Size}
@@ -48,7 +48,7 @@ module _ (meanings : TypedUnitsHaveMeanings) (mains : TypedUnitsHaveMain) (progr
       (λ f lt. all f (subst (λ n. f < n) is.functions lt) meaning is (laid_out meaning.objects few) (laid_in_order meaning.objects few))
       (objects_of (initial_globals unit)) (sym is.objects) (kept_at (objects unit) kept) (image_of unit fs) refl (words_in_order unit) (image_are_words (objects unit) kept) input are)
 
-  -- on a board with the stack that it takes
+  -- the image follows the program on a board with the stack that the image takes
   pub unit_backed : (mode : Mode) (text : List ℕ) (unit : List External) → IsTyped unit → IsWithinLimits unit → AllKept (objects unit) → (frames : List ℕ) (fs : List (List PieceItem)) → length fs ≡ length (functions unit) → code_words fs ≤ most_code
       → ((f : ℕ) → f < length (functions unit) → AreOf mode unit f (get_or frames f 0) (get_or fs f []))
       → (bytes : ℕ) → need frames fs 1024 (main_of unit) ≤ bytes → bytes ≤ stack_to - stack_from → (input : List ℕ) → AreWords input → Follows (behavior_in mode (source_with text unit) input) (backed_image_behavior bytes (image_of unit fs) input)

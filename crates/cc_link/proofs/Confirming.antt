@@ -1,6 +1,6 @@
--- What is confirmed of a unit that was made again, and is the stored one.
+-- What is confirmed if a unit that was made again is the stored one.
 use Rattle.std.proofs.Common.{◌≡◌, ℕ, List, All, Option, Some, sym, ap, ◌∙◌, subst}
-use Rattle.cc_c_laws.specs.declared.mode.Mode.{Mode}
+use Rattle.cc_c_semantics.specs.declared.mode.Mode.{Mode}
 use Rattle.cc_emit.specs.Piece.{Piece, IsPieceOfUnit}
 use Rattle.cc_ast.specs.Parse.{SpellsText}
 use Rattle.cc_rv32.specs.declared.image.Image.{Image}

@@ -1,5 +1,5 @@
--- The elements of the objects of a spelled unit are what their widths keep: each number that a text spells is a word, what is computed of
--- words is one, and bytes keep eight bits.
+-- The elements of a spelled unit's objects are in the range of their widths: each number that a text spells is a word, what is
+-- computed from words is one, and bytes keep eight bits.
 use Rattle.std.proofs.Common.{◌≡◌, ℕ, zero, suc, ◌+◌, ◌-◌, ◌^◌, ◌<◌, ◌≤◌, Bool, true, false, ◌&&◌, ◌||◌, not, nat_le, ◌==◌, if◌then◌else◌, List, [], ◌∷◌, ◌++◌, length, map, replicate, Option, Some, None, unwrap_or, option_map, refl, sym, subst, arith, ◌%◌, inl, inr}
 use Rattle.std.proofs.lemmas.Bool.{leb-true}
 use Rattle.cc_words.specs.internal.Word.{IsWord}
@@ -265,6 +265,6 @@ unit_kept : (es : List External) (ts : List Measured) → SpellsUnit ts es → H
 unit_kept [] ts h are = absurd h
 unit_kept (e ∷ es) ts h are = externals_are (e ∷ es) ts h are
 
--- the elements of the objects are what their widths keep
+-- the elements of the objects are in the range of their widths
 pub constants_are_kept : (text : List ℕ) (tree : List External) → SpellsText text tree → AllKept (objects tree)
 constants_are_kept text tree h = unit_kept tree h.spelled.0 h.spelled.1 (subst AreNumbersWords (sym h.spelled.3) (text_words text h.tokens h.are))

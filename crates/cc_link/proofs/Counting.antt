@@ -1,4 +1,4 @@
--- From counted steps to Follows, where the second run goes on from itself.
+-- From counted steps to Follows, if the later outcomes of the second run go on from its earlier ones.
 use Rattle.std.proofs.Common.{◌≡◌, ℕ, suc, ◌+◌, ◌-◌, ◌*◌, ◌<◌, ◌≤◌, refl, sym, ap, ◌∙◌, subst, ◌⊎◌, inl, inr, arith}
 use Rattle.std.proofs.Math.Nat.{mul-le-mul_left}
 use Rattle.std.proofs.lemmas.Bool.{cases_lt}
@@ -6,7 +6,7 @@ use Rattle.cc_simulation.specs.Behavior.{Stop, Going, Ended, Wrong, Outcome, IsP
 use Rattle.cc_simulation.specs.Cuts.{StaysBy}
 use Rattle.cc_simulation.proofs.Behaving.{begins_refl, shows_same}
 
--- the second goes on from the first
+-- outcome y goes on from outcome x
 pub record GoesOn {R : Type 0} (x y : Outcome R) : Type 0 where
   pub output : IsPrefixOf x.output y.output
   pub stays : StaysBy x.stop x y

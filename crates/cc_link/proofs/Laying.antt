@@ -1,5 +1,5 @@
--- The objects one behind the other from 0x200000 on, their image, and what the machine loads of it at its start: byte i of the packed words
--- is element i.
+-- The objects one after the other from 0x200000 on, their image, and what the machine loads from it at its start: byte i of the
+-- packed words is element i.
 use Rattle.std.proofs.Common.{◌≡◌, ℕ, zero, suc, ◌+◌, ◌-◌, ◌*◌, ◌/◌, ◌%◌, ◌^◌, ◌<◌, ◌≤◌, ◌⊎◌, inl, inr, Bool, true, false, List, [], ◌∷◌, ◌++◌, length, map, get_or, refl, sym, ap, ap₂, ◌∙◌, subst, arith}
 use Rattle.std.specs.Prelude.{nat_le, ◌&&◌, ◌==◌, if◌then◌else◌, slice_index}
 use Rattle.std.specs.List.{concat}
@@ -23,13 +23,13 @@ use Rattle.cc_emit.proofs.Standing.{size_found}
 abbrev pub object_image : Object → List ℕ
 object_image o = packed o.width o.words
 
--- objects, one behind the other
+-- objects, one after the other
 abbrev pub globals_image : List Object → List ℕ
 globals_image os = concat (map object_image os)
 
 -- ---- bytes in words
 
--- each word is what an element of the width keeps
+-- each word is in the range of an element of the width
 abbrev pub AreKept : Width → List ℕ → Type 0
 AreKept Byte bs = AreBytes bs
 AreKept Word ws = AreWords ws
@@ -76,7 +76,7 @@ pub packed_words : (w : Width) (ws : List ℕ) → AreKept w ws → AreWords (pa
 packed_words Byte ws all = bytes_words ws all
 packed_words Word ws all = all
 
--- ---- objects one behind the other
+-- ---- objects one after the other
 
 abbrev pub total : List Size → ℕ
 total [] = 0
@@ -114,7 +114,7 @@ laid_out objects few = record {
 pub laid_in_order : (objects : List Size) (few : total objects ≤ 65536) → IsInOrder (laid_out objects few)
 laid_in_order objects few = λ g. refl
 
--- ---- what stands there
+-- ---- what is there
 
 in_front : (xs ys : List ℕ) (i : ℕ) → i < length xs → get_or (xs ++ ys) i 0 ≡ get_or xs i 0
 in_front [] ys i lt = absurd (omega arith)
@@ -146,7 +146,7 @@ memory_at globals k =
     ∙ ap (λ b. if b then slice_index globals ((a - globals_from) / 4) else 0) (le-leb globals_from a (omega arith))
     ∙ ap (λ n. get_or globals n 0) f
 
--- an element, where the words of its object stand
+-- an element, if the words of its object are there
 element_by : (w : Width) (ws : List ℕ) (m : ℕ → ℕ) (b i : ℕ) → b % 4 ≡ 0 → AreKept w ws → ((k : ℕ) → k < words_of w (length ws) → m (b + 4 * k) ≡ get_or (packed w ws) k 0) → i < length ws
     → element_at (record { width = w; elements = length ws }) m b i ≡ get_or ws i 0
 element_by Byte ws m b i z all stands lt =
@@ -170,7 +170,7 @@ object_at gs objects is all g i lt =
 
 -- ---- words
 
--- as many words as the objects take
+-- the image has as many words as the objects take
 pub image_long : (os : List Object) → length (globals_image os) ≡ total (map size_of os)
 image_long [] = refl
 image_long (o ∷ os) =

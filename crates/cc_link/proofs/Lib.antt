@@ -4,7 +4,7 @@
 pub mod Counting
 -- runs of the machine
 pub mod Machine
--- the objects in memory, and what is loaded of them
+-- the objects in memory, and what is loaded from the image for them
 pub mod Laying
 -- calls of pieces do what the source's calls do
 pub mod CallsMeet
@@ -12,33 +12,33 @@ pub mod CallsMeet
 pub mod Placing
 -- the image follows the source
 pub mod Image
--- its stack is enough
+-- the stack that an image takes is enough
 pub mod Enough
 -- the objects of a unit, and their elements
 pub mod Sizes
 -- the image agrees with the unit's text
 pub mod Agreeing
--- what linking's answer says of pieces
+-- what linking's answer says about pieces
 pub mod Linked
 -- the code: items that are filled in
 pub mod Filling
 -- elements keep the range of their width
 pub mod Constants
--- the code: from what is seen of pieces to linking's answer
+-- the code: from what is found about pieces to linking's answer
 pub mod Deciding
 -- the names of functions
 pub mod Names
--- one piece of each function is refused for the size alone
+-- one piece of each function is refused only for the size
 pub mod Own
 -- the code: pieces one after the other
 pub mod OneByOne
--- the code: one piece more
+-- the code: one more piece
 pub mod Ordering
 -- the code: what linking answers
 pub mod Answering
 -- a unit defines few functions
 pub mod Few
--- the length of an LTL fits four bytes
+-- the length of an LTL fits in four bytes
 pub mod Short
 -- the certificate of a unit that was made
 pub mod Certified

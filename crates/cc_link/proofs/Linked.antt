@@ -1,4 +1,4 @@
--- What linking's answer tells of pieces, and that the unit which it makes agrees.
+-- What linking's answer says about pieces, and that the unit that they make agrees with its text.
 use Rattle.std.proofs.Common.{◌≡◌, ℕ, zero, suc, ◌+◌, ◌<◌, ◌≤◌, ◌==◌, Bool, true, false, if◌then◌else◌, nat_lt, List, [], ◌∷◌, length, get_or, map, Option, Some, None, is_some, Result, Ok, Err, refl, sym, ap, ◌∙◌, subst, arith}
 use Rattle.std.proofs.Math.Logic.{∥∥₁_elim, ∥∥₁_map, ∥∥₁_map₂, ∥∥₁_prop}
 use Rattle.std.proofs.lemmas.Bool.{ltb-false, eqb-true}
@@ -15,11 +15,11 @@ use Rattle.cc_ast.specs.Limits.{TreesAreOne}
 use Rattle.cc_ast.specs.Parse.{SpellsText}
 use Rattle.cc_types.specs.Limits.{objects}
 use Rattle.cc_link.proofs.Sizes.{AllKept}
-use Rattle.cc_c_laws.specs.declared.mode.Mode.{Mode}
-use Rattle.cc_c_laws.specs.declared.mode.Mode.TheVariants.{Plain, Checked}
-use Rattle.cc_c_laws.specs.Meaning.{functions}
-use Rattle.cc_c_laws.specs.Calls.{TypedUnitsHaveMain, ObjectsAreSized}
-use Rattle.cc_c_laws.specs.Numbered.{TypedUnitsHaveMeanings, ProgramsAreNumbered, CheckedFollows}
+use Rattle.cc_c_semantics.specs.declared.mode.Mode.{Mode}
+use Rattle.cc_c_semantics.specs.declared.mode.Mode.TheVariants.{Plain, Checked}
+use Rattle.cc_c_semantics.specs.Meaning.{functions}
+use Rattle.cc_c_semantics.specs.Calls.{TypedUnitsHaveMain, ObjectsAreSized}
+use Rattle.cc_c_semantics.specs.Numbered.{TypedUnitsHaveMeanings, ProgramsAreNumbered, CheckedFollows}
 use Rattle.cc_unit.specs.declared.unit.StoredUnit.{StoredUnit}
 use Rattle.cc_emit.specs.declared.item.PieceItem.{PieceItem}
 use Rattle.cc_emit.specs.Piece.{Piece, tree_of, AreOf, IsPieceOfUnit}
@@ -85,7 +85,7 @@ module _ (tokens : TokensAreOne) (trees : TreesAreOne) where
 
 -- ---- each function has its piece
 
--- what the first piece of a function is
+-- the first piece of a function is of that function, and is what all the pieces are
 pub found : (Is : Piece → Type 0) (ps : List Piece) (f : ℕ) (p : Piece) → AllByRecursion Is ps → piece_of ps f ≡ Some p → (p.function ≡ f) × Is p
 found Is [] f p all e = absurd (let h : ◌≡◌ {A = Option Piece} None (Some p) = e in cc)
 found Is (q ∷ ps) f p all e = by (q.function == f) (λ d. found Is ps f p all.1 d) refl e
@@ -96,7 +96,7 @@ found Is (q ∷ ps) f p all e = by (q.function == f) (λ d. found Is ps f p all.
         subst (λ (r : Piece). (r.function ≡ f) × Is r) same (eqb-true q.function f is, all.0)
     by false again is e = again e
 
--- pieces of the functions from this one on, one of each
+-- pieces of the functions from this one on, one for each
 abbrev pub EachFrom : (Is : Piece → Type 0) (from : ℕ) → List Piece → Type 0
 EachFrom Is from [] = Unit {0}
 EachFrom Is from (p ∷ ps) = (p.function ≡ from) × Is p × EachFrom Is (suc from) ps
@@ -194,7 +194,7 @@ module _ (tokens : TokensAreOne) (trees : TreesAreOne) (meanings : TypedUnitsHav
   pub units_agree : CheckedFollows → LinkedUnitsAgree
   units_agree law s pieces u spelled checked all e = let h = units_follow Plain s pieces u spelled checked all e in (h.0, agree_in_agree law Plain s.text u.image h.1)
 
-  -- on a board with the stack that it takes
+  -- the image that pieces make follows its program on a board with the stack that the image takes
   pub units_are_backed : LinkedUnitsAreBacked
   units_are_backed mode s pieces u spelled checked all e bytes enough few =
       let n = not_refused (link_refusal mode s pieces) (unit_of s pieces) u e in

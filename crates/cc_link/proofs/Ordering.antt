@@ -1,11 +1,11 @@
--- One piece more that is gone over.
+-- Going over one more piece.
 use Rattle.std.proofs.Common.{◌≡◌, ℕ, zero, suc, ◌+◌, ◌<◌, ◌≤◌, ◌⊎◌, inl, inr, true, if◌then◌else◌, List, [], ◌∷◌, length, get_or, drop, Some, refl, sym, ap, ◌∙◌, subst, arith}
 use Rattle.std.proofs.lemmas.Bool.{cases_lt}
 use Rattle.std.proofs.lemmas.List.{drop_more}
 use Rattle.std.specs.Borrow.{Bor}
 use Rattle.cc_ast.specs.Source.{source}
 use Rattle.cc_ast.specs.declared.unit.Unit as parsed
-use Rattle.cc_c_laws.specs.declared.mode.Mode.{Mode}
+use Rattle.cc_c_semantics.specs.declared.mode.Mode.{Mode}
 use Rattle.cc_ast.specs.Parse.{SpellsText}
 use Rattle.cc_types.specs.Checked.{IsChecked}
 use Rattle.cc_emit.specs.Piece.{Piece, IsPieceOfUnit}
@@ -37,7 +37,7 @@ kept_next Keeps pieces at x lt is piece kept k d low = by (cases_lt k at)
     by (inl less) = kept k d less
     by (inr more) = let e : at ≡ k = omega arith in subst (λ n. Keeps (get_or (lent_pieces pieces) n d)) e (subst Keeps (sym (lent_at pieces at x d lt ∙ ap (λ (b : Bor Piece). b.now) (sym is))) piece)
 
--- a piece of this unit is what its type and that of the unit keep
+-- a piece of this unit has what its type and that of the unit keep
 pub compiled_of : (u : parsed.Unit) (piece : Piece) → piece.unit ≡ u → ∥ SpellsText (source u).text (source u).externals ∥₁ → IsChecked (source u) → IsPieceOfUnit piece → IsCompiled piece
 compiled_of u piece is spelled checked of_unit = record {
   spelled = subst (λ (v : parsed.Unit). ∥ SpellsText (source v).text (source v).externals ∥₁) (sym is) spelled;

@@ -1,4 +1,4 @@
--- Packing four bytes into a word, from the byte behind which all is packed: what one word more adds, and what stays.
+-- Packing bytes into words, four at a time: what one more word adds, and which bytes are then left.
 use Rattle.std.proofs.Common.{◌≡◌, ℕ, zero, suc, ◌+◌, ◌*◌, ◌^◌, ◌<◌, ◌≤◌, List, [], ◌∷◌, ◌++◌, length, get_or, drop, refl, sym, ◌∙◌, ap, arith, append_assoc}
 use Rattle.std.proofs.lemmas.List.{get_or-drop, drop-drop, drop_all, length-drop}
 use Rattle.cc_words.specs.declared.operators.Width.TheVariants.{Byte}
@@ -14,7 +14,7 @@ byte_below [] i h = omega arith
 byte_below (b ∷ bs) zero h = h.0
 byte_below (b ∷ bs) (suc i) h = byte_below bs i h.1
 
--- one word more of what is left
+-- the first word of the bytes that are left, and the rest
 step : (bs : List ℕ) → 0 < length bs
     → packed_bytes bs ≡ word_of_bytes (get_or bs 0 0) (get_or bs 1 0) (get_or bs 2 0) (get_or bs 3 0) ∷ packed_bytes (drop 4 bs)
 step [] some = absurd (omega (arith, some))
@@ -23,7 +23,7 @@ step (a ∷ b ∷ []) some = refl
 step (a ∷ b ∷ c ∷ []) some = refl
 step (a ∷ b ∷ c ∷ d ∷ rest) some = refl
 
--- the same from an index on
+-- the first word of the bytes from an index on, and the rest
 pub step_at : (bs : List ℕ) (n : ℕ) → 4 * n < length bs
     → packed_bytes (drop (4 * n) bs)
     ≡ word_of_bytes (get_or bs (4 * n) 0) (get_or bs (4 * n + 1) 0) (get_or bs (4 * n + 2) 0) (get_or bs (4 * n + 3) 0) ∷ packed_bytes (drop (4 * (n + 1)) bs)
@@ -72,7 +72,7 @@ declaration_apart (Declaration s) es = refl
 declaration_apart (Definition s body) es = refl
 declaration_apart (Objects t os) es = words_apart os (objects es)
 
--- the words of one declaration more
+-- the words of one more declaration
 pub declaration_more : (e : External) (es : List External) (words all : List ℕ) → words ++ image_words (objects (e ∷ es)) ≡ all
     → (words ++ external_image e) ++ image_words (objects es) ≡ all
 declaration_more e es words all so_far =

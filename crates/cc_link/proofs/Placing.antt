@@ -1,4 +1,4 @@
--- Pieces joined in order stand at their places as words, and the call of main does what the source's does.
+-- Pieces joined in order are at their places as words, and the call of main does what the source's does.
 use Rattle.std.proofs.Common.{◌≡◌, ℕ, zero, suc, ◌+◌, ◌-◌, ◌*◌, ◌/◌, ◌%◌, ◌<◌, ◌≤◌, List, [], ◌∷◌, ◌++◌, Some, None, length, get_or, take, option_map, option_and_then, refl, sym, ap, ◌∙◌, subst, ◌⊎◌, inl, inr, arith, append_assoc}
 use Rattle.std.specs.Prelude.{slice_get, nat_le, ◌&&◌, ◌==◌, if◌then◌else◌}
 use Rattle.std.proofs.lemmas.Bool.{le-leb, cases_lt}
@@ -72,7 +72,7 @@ placed_behind stack code places place prefix (x ∷ items) back a e at fit =
       placed_behind stack code places place more items back (a + 4) (e ∙ g) (omega arith) fit.1,
     )
 
--- one piece within all
+-- one piece among all
 record Split (places : ℕ → ℕ) (a : ℕ) (pieces : List (List PieceItem)) (f : ℕ) : Type 0 where
   prefix : List Instr
   back : List Instr
@@ -145,7 +145,7 @@ module _ (meaning : Meaning) (layout : ObjectLayout meaning.objects) (main : ℕ
       let e : k ≡ f = omega arith in
       subst (λ x. PieceMeets meaning layout x (frames x) (a + b) (get_or pieces x [])) e (slower_piece meaning layout k (frames k) b (a + b) (get_or pieces k []) (omega arith) h)
 
-  -- one rate for all
+  -- one rate that is enough for all pieces
   common : (k : ℕ) → ((f : ℕ) → f < k → IsPiece meaning layout f (frames f) (get_or pieces f [])) → (rate : ℕ) × ((f : ℕ) → f < k → PieceMeets meaning layout f (frames f) rate (get_or pieces f []))
   common zero h = (0, λ f lt. absurd (omega arith))
   common (suc k) h =

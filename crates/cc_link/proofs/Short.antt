@@ -1,4 +1,5 @@
--- Four bytes can tell how many bytes the LTL of a function takes: it has at most 4,096 blocks, each of at most 65,535 moves on either side.
+-- Four bytes can state how many bytes the LTL of a function takes: it has at most 4,096 blocks, each with at most 65,535 moves on
+-- either side.
 use Rattle.std.proofs.Common.{◌≡◌, ℕ, ◌*◌, ◌^◌, ◌<◌, ◌≤◌, List, [], ◌∷◌, ◌++◌, length, refl, arith, length-append}
 use Rattle.std.specs.List.{AllByRecursion, flat_map}
 use Rattle.cc_linear_language.specs.Pair.{most_blocks}

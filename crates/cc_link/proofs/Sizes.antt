@@ -1,4 +1,4 @@
--- The objects of a checked unit: how many words they have, which stand in the image, and what their elements are.
+-- The objects of a checked unit: how many words of the image they have, and what their elements are.
 use Rattle.std.proofs.Common.{◌≡◌, ℕ, zero, suc, ◌+◌, ◌≤◌, Bool, true, false, if◌then◌else◌, nat_lt, List, [], ◌∷◌, ◌++◌, length, map, refl, ap, ◌∙◌, arith}
 use Rattle.std.proofs.lemmas.Bool.{ltb-false}
 use Rattle.cc_words.specs.Widths.{words_of}
@@ -7,10 +7,10 @@ use Rattle.cc_types.specs.Types.{object_elements, object_width, object_words, in
 use Rattle.cc_types.specs.Limits.{most_words, too_many, past, function_names, objects, object_name, word_excesses, externals_excesses}
 use Rattle.cc_types.specs.Typed.{IsTyped, IsWithinLimits}
 use Rattle.cc_resolve.specs.Layout.{laid_from}
-use Rattle.cc_c_laws.specs.Meaning.{Global, initial_global, initial_globals}
-use Rattle.cc_c_laws.specs.Calls as calls
-use Rattle.cc_c_laws.specs.Calls.{sizes, laid_sizes, ObjectsAreSized}
-use Rattle.cc_c_laws.specs.Numbered.{objects_of, objects_in}
+use Rattle.cc_c_semantics.specs.Meaning.{Global, initial_global, initial_globals}
+use Rattle.cc_c_semantics.specs.Calls as calls
+use Rattle.cc_c_semantics.specs.Calls.{sizes, laid_sizes, ObjectsAreSized}
+use Rattle.cc_c_semantics.specs.Numbered.{objects_of, objects_in}
 use Rattle.cc_simulation.specs.Behavior.{AreWords}
 use Rattle.cc_simulation.specs.World.{Size, size_of}
 use Rattle.cc_emit.specs.Contract.{size_words}
@@ -81,7 +81,7 @@ few_globals sized unit typed h =
 
 -- ---- what the elements are
 
--- each element of some objects is before the run what its width keeps
+-- before the run each element of these objects is in the range of its width
 abbrev pub AllKept : List Object → Type 0
 AllKept [] = Unit {0}
 AllKept (o ∷ rest) = AreKept (object_width o) (initial_words o) × AllKept rest

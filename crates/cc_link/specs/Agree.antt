@@ -9,13 +9,13 @@ use Rattle.cc_ast.specs.Tree.{External, Source}
 use Rattle.cc_ast.specs.Parse.{SpellsText}
 use Rattle.cc_types.specs.Typed.{IsTyped}
 use Rattle.cc_types.specs.Verdict.{source_with}
-use Rattle.cc_c_laws.specs.Meaning.{source_behavior}
-use Rattle.cc_c_laws.specs.Checked.{behavior}
-use Rattle.cc_c_laws.specs.declared.mode.Mode.{Mode}
-use Rattle.cc_c_laws.specs.Numbered.{without_cause}
+use Rattle.cc_c_semantics.specs.Meaning.{source_behavior}
+use Rattle.cc_c_semantics.specs.Checked.{behavior}
+use Rattle.cc_c_semantics.specs.declared.mode.Mode.{Mode}
+use Rattle.cc_c_semantics.specs.Numbered.{without_cause}
 use Rattle.cc_simulation.specs.Behavior.{AreWords, Stop, Going, Ended, Wrong, Outcome, Follows}
 
--- how a run of the machine stands: an exit ends it with a word, and a trap is a run that went wrong
+-- the outcome of a run of the machine: an exit ends it with a word, and a trap is a run that went wrong
 abbrev pub stop_of : MachineOutcome → Stop ℕ
 stop_of machine.Going = Going
 stop_of (machine.Exited w) = Ended w
@@ -39,18 +39,20 @@ pub record Agreement (text : List ℕ) (image : Image) : Type 0 where
   pub typed : IsTyped tree
   pub follows : (input : List ℕ) → AreWords input → Follows (program_behavior (source_with text tree) input) (image_behavior image input)
 
--- They agree. A typed unit keeps that its text spells its tree, and not in which way (∥ ∥₁); so nothing more is kept here.
+-- The text and the image agree. A typed unit keeps that its text spells its tree, but not in which way (∥ ∥₁), so no more than
+-- that is kept here.
 abbrev pub Agree : List ℕ → Image → Type 0
 Agree text image = ∥ Agreement text image ∥₁
 
 -- ---- in a mode
 
--- what a program shows in a mode on an input, within a number of steps: a plain one what its source does, a checked one `checked_behavior`
+-- what a program shows in a mode on an input, within a number of steps: a plain one shows what its source does, a checked one
+-- `checked_behavior`
 abbrev pub behavior_in : Mode → Source → (input : List ℕ) → ℕ → Outcome ℕ
 behavior_in mode source input n = without_cause (behavior mode source input n)
 
--- the tree of the text, and that the image's run follows what its program shows in the mode: in the checked one that is owed also if the
--- source goes wrong, but not for depth
+-- the tree of the text, and that the image's run follows what its program shows in the mode: in the checked mode that is owed
+-- even if the source goes wrong, unless it goes wrong because of its depth
 pub record AgreementIn (mode : Mode) (text : List ℕ) (image : Image) : Type 0 where
   pub tree : List External
   pub spelled : SpellsText text tree

@@ -1,10 +1,10 @@
--- What an audit says of a text, an image and a certificate, whoever made them, and which of the three it does not confirm.
+-- What an audit says about a text, an image and a certificate, whoever made them, and which of the three it does not confirm.
 use Rattle.std.specs.Prelude.{◌≡◌, ℕ, ◌<◌, ◌⊎◌, List, length, Option, Some, None}
 use Rattle.cc_ast.specs.Tree.{External}
 use Rattle.cc_ast.specs.Parse.{SpellsText}
-use Rattle.cc_c_laws.specs.Meaning.{functions}
-use Rattle.cc_c_laws.specs.declared.mode.Mode.{Mode}
-use Rattle.cc_c_laws.specs.declared.mode.Mode.TheVariants.{Plain}
+use Rattle.cc_c_semantics.specs.Meaning.{functions}
+use Rattle.cc_c_semantics.specs.declared.mode.Mode.{Mode}
+use Rattle.cc_c_semantics.specs.declared.mode.Mode.TheVariants.{Plain}
 use Rattle.cc_rv32.specs.declared.image.Image.{Image}
 use Rattle.cc_link.specs.Agree.{Agree, AgreeIn}
 use Rattle.cc_link.specs.Certificate.{SpellsAll, EachKeepsUpIn}
@@ -18,10 +18,11 @@ use Rattle.cc_link.specs.declared.audit_answer.Audit.TheVariants.{Confirmed, NoC
 use Rattle.cc_link.specs.declared.audit_answer.FailedPart.{FailedPart}
 use Rattle.cc_link.specs.declared.audit_answer.FailedPart.TheVariants as part
 
--- The image agrees with the text. The certificate spells one function of LTL for each function of the text, and the run of each keeps up
--- with its function: so its allocation is one that was shown to be right, and not any LTL beside a right image. And pieces that were
--- compiled in the mode link to the three: the image is of their items, the certificate of their LTL, which keeps up by a piece's type. So the
--- image follows what the program shows in the mode, on every input.
+-- The image agrees with the text. The certificate spells one function of LTL for each function of the text, and the run of each
+-- keeps up with its function: so the certificate has an allocation that was shown to be right, and not just any LTL next to a
+-- right image. And pieces that were compiled in the mode link to the three: the image is made of their items, the certificate of
+-- their LTL, which keeps up because a piece's type says so. So the image follows what the program shows in the mode, on every
+-- input.
 pub record IsConfirmedIn (mode : Mode) (text certificate : List ℕ) (image : Image) : Type 0 where
   pub tree : List External
   pub spelled : ∥ SpellsText text tree ∥₁
@@ -31,14 +32,14 @@ pub record IsConfirmedIn (mode : Mode) (text certificate : List ℕ) (image : Im
   pub keep_up : ∥ EachKeepsUpIn mode tree spells.ltls ∥₁
   pub made : IsMadeIn mode (record { source = text; image = image; certificate = Some certificate })
 
--- an audit reports that the certificate is missing exactly if it is, and confirms only what is so
+-- an audit reports that the certificate is missing exactly if it is, and confirms only what holds
 abbrev pub AuditSaysIn : Mode → (text : List ℕ) → (certificate : Option (List ℕ)) → Image → Audit → Type 0
 AuditSaysIn mode text None image audit = audit ≡ NoCertificate
 AuditSaysIn mode text (Some certificate) image Confirmed = IsConfirmedIn mode text certificate image
 AuditSaysIn mode text (Some certificate) image Unconfirmed = Unit {0}
 AuditSaysIn mode text (Some certificate) image NoCertificate = ⊥
 
--- of plain images
+-- for plain images
 abbrev pub AuditSays : (text : List ℕ) → (certificate : Option (List ℕ)) → Image → Audit → Type 0
 AuditSays text certificate image audit = AuditSaysIn Plain text certificate image audit
 
@@ -54,21 +55,21 @@ pub record IsFunctionAt (mode : Mode) (text : List ℕ) (at count : ℕ) : Type 
   pub name : IsNameAt tree function at count
   pub earlier : (f : ℕ) → f < function → HasPieceIn mode text f
 
--- the text compiles, and the unit has another certificate
+-- the text compiles to a unit with another certificate
 pub record HasOtherCertificate (mode : Mode) (text certificate : List ℕ) : Type 0 where
   pub made : Compilation
   pub whole : IsWholeIn mode text made
   pub other : ¬ (made.unit.certificate ≡ Some certificate)
 
--- the text compiles to a unit with this certificate, which has another image
+-- the text compiles to a unit with this certificate, but with another image
 pub record HasOtherImage (mode : Mode) (text certificate : List ℕ) (image : Image) : Type 0 where
   pub made : Compilation
   pub whole : IsWholeIn mode text made
   pub along : made.unit.certificate ≡ Some certificate
   pub other : ¬ (made.unit.image ≡ image)
 
--- The part that is named: the text as `parse` and `check` refuse it; a function of the program; or the certificate or the image only if another
--- is made of the text.
+-- The part that is named is one that fails: `parse` or `check` refuses the text with this fault (40 is never named); the function
+-- is one of the program; another certificate is made from the text; or another image is made from it, or one that is too large.
 abbrev pub IsFailedPartIn : Mode → (text certificate : List ℕ) → Image → FailedPart → Type 0
 IsFailedPartIn mode text certificate image (part.Text fault) = IsTextRefusal text fault × ¬ (text_fault_number fault ≡ 40)
 IsFailedPartIn mode text certificate image (part.Function at count) = IsFunctionAt mode text at count

@@ -5,9 +5,9 @@ use Rattle.cc_ast.specs.Tree.{Name, External}
 use Rattle.cc_ast.specs.Source.{source}
 use Rattle.cc_types.specs.Limits.{function_names}
 use Rattle.cc_types.specs.Verdict.{source_with}
-use Rattle.cc_c_laws.specs.Meaning.{functions}
-use Rattle.cc_c_laws.specs.declared.mode.Mode.{Mode}
-use Rattle.cc_c_laws.specs.declared.mode.Mode.TheVariants.{Plain}
+use Rattle.cc_c_semantics.specs.Meaning.{functions}
+use Rattle.cc_c_semantics.specs.declared.mode.Mode.{Mode}
+use Rattle.cc_c_semantics.specs.declared.mode.Mode.TheVariants.{Plain}
 use Rattle.cc_mode.specs.Long.{IsLongIn}
 use Rattle.cc_emit.specs.Piece as emit
 use Rattle.cc_link.specs.Fault.{link_fault_number}
@@ -54,8 +54,8 @@ IsPieceRefusal unit f fault = IsPieceRefusalIn Plain unit f fault
 
 -- ---- why a text has no image
 
--- the text is a program's, and the fault names this function of it: one of more than 256 tokens for 22 (177 for a checked piece), any for 24,
--- where nothing says that it has no piece
+-- the text is a program's, and the fault names this function of that program: 22 names one of more than 256 tokens (177 for a
+-- checked piece), 24 may name any; whether the function has a piece is not stated
 pub record IsBlamedIn (mode : Mode) (text : List ℕ) (function : ℕ) (fault : PieceFault) : Type 0 where
   pub tree : List External
   pub is : IsProgramText text tree
@@ -76,8 +76,9 @@ pub record IsFirstWithoutIn (mode : Mode) (text : List ℕ) (fault : PieceFault)
   pub none : IsBlamedIn mode text function fault
   pub earlier : (f : ℕ) → f < function → HasPieceIn mode text f
 
--- One piece of each function of a program, in their order, with what their types keep; together they make an image that is too large. Who made
--- the pieces is not said, and one may be longer than what is emitted for its function: so tests alone show that 25 comes of none but large programs.
+-- One piece for each function of a program, in their order, with what their types keep; together they make an image that is too
+-- large. Who made the pieces is not stated, and one may be longer than what is emitted for its function. So only tests show that
+-- 25 comes for large programs only.
 pub record IsTooLargeIn (mode : Mode) (text : List ℕ) : Type 0 where
   pub tree : List External
   pub is : IsProgramText text tree
@@ -87,8 +88,8 @@ pub record IsTooLargeIn (mode : Mode) (text : List ℕ) : Type 0 where
   pub count : length pieces ≡ length (functions tree)
   pub refused : linked_in mode (source_with text tree) pieces ≡ Err link.ImageTooLarge
 
--- A text that is no program's is refused as one. Only a program has another fault: that of the first function without a piece; or, of
--- linking's refusals, 25 alone, where pieces of all functions are refused so.
+-- A text that is no program's is refused as such. Only a program has another fault: that of the first function without a piece;
+-- or 25, the only one of linking's refusals, if the pieces of all functions are refused with it.
 abbrev pub IsBuildRefusalIn : Mode → List ℕ → BuildFault → Type 0
 IsBuildRefusalIn mode text (Text f) = IsTextRefusal text f
 IsBuildRefusalIn mode text (Piece f) = IsFirstWithoutIn mode text f

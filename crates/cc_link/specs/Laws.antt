@@ -1,11 +1,11 @@
--- What linking promises of definitions alone, each the contract of a function of this crate.
+-- What linking promises just by its definitions. Each law here is the contract of a function of this crate.
 use Rattle.std.specs.Prelude.{◌≡◌, ℕ, List, All, Some, Ok, length}
 use Rattle.cc_ast.specs.Tree.{External, Source}
 use Rattle.cc_ast.specs.Parse.{SpellsText}
 use Rattle.cc_types.specs.Checked.{IsChecked}
-use Rattle.cc_c_laws.specs.Meaning.{functions}
-use Rattle.cc_c_laws.specs.declared.mode.Mode.{Mode}
-use Rattle.cc_c_laws.specs.declared.mode.Mode.TheVariants.{Plain}
+use Rattle.cc_c_semantics.specs.Meaning.{functions}
+use Rattle.cc_c_semantics.specs.declared.mode.Mode.{Mode}
+use Rattle.cc_c_semantics.specs.declared.mode.Mode.TheVariants.{Plain}
 use Rattle.cc_unit.specs.declared.unit.StoredUnit.{StoredUnit}
 use Rattle.cc_emit.specs.Piece.{Piece, IsPieceOfUnit}
 use Rattle.cc_link.specs.Agree.{Agree, AgreeIn}
@@ -19,17 +19,18 @@ abbrev pub LinkedUnitsAgree : Type 0
 LinkedUnitsAgree = (s : Source) (pieces : List Piece) (u : StoredUnit) → ∥ SpellsText s.text s.externals ∥₁ → IsChecked s → All IsPieceOfUnit pieces → linked s pieces ≡ Ok u
     → (u.source ≡ s.text) × Agree s.text u.image
 
--- So in each mode: the unit that pieces make in the mode has its text, and on each input the run of its image follows what its program shows
--- in the mode. Of checked pieces it follows `checked_behavior`.
+-- In each mode: the unit that pieces make for a checked unit in the mode has its text, and on each input the run of its image
+-- follows what its program shows in the mode. For checked pieces that is `checked_behavior`.
 abbrev pub LinkedUnitsFollow : Type 0
 LinkedUnitsFollow = (mode : Mode) (s : Source) (pieces : List Piece) (u : StoredUnit) → ∥ SpellsText s.text s.externals ∥₁ → IsChecked s → All IsPieceOfUnit pieces → linked_in mode s pieces ≡ Ok u
     → (u.source ≡ s.text) × AgreeIn mode s.text u.image
 
--- an image that agrees with its text in a mode agrees with it
+-- an image that agrees with its text in some mode agrees with its text
 abbrev pub AgreeInAgree : Type 0
 AgreeInAgree = (mode : Mode) (text : List ℕ) (image : Image) → AgreeIn mode text image → Agree text image
 
--- the certificate of a unit that was made spells a function of LTL for each function of the unit's text, whose run keeps up with it
+-- the certificate of a unit that was made spells a function of LTL for each function of the unit's text, and the run of that LTL
+-- keeps up with the function
 pub record IsCertifiedIn (mode : Mode) (u : StoredUnit) : Type 0 where
   pub tree : List External
   pub spelled : ∥ SpellsText u.source tree ∥₁

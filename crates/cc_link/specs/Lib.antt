@@ -4,17 +4,17 @@ pub mod Text
 pub mod Agree
 -- the image that pieces make
 pub mod Link
--- the words of objects in it
+-- the words of objects in an image
 pub mod Packed
 -- the certificate that LTL makes
 pub mod Certificate
--- why pieces are refused, and else the unit that they make
+-- why pieces are refused, and otherwise the unit that they make
 pub mod Linked
--- how much stack an image takes, and that it agrees on a board that backs so much
+-- how much stack an image takes, and that it agrees on a board that backs this much
 pub mod Stack
--- that this unit agrees
+-- that the unit agrees with its text
 pub mod Laws
--- whose pieces some pieces are
+-- which text and which functions some pieces belong to
 pub mod Pieces
 -- what a compiled unit was made of
 pub mod Made
@@ -26,7 +26,7 @@ pub mod Audit
 pub mod Fault
 -- why a function has no piece, and why a text has no image
 pub mod Compile
--- no promise rests on these
+-- definitions that no promise rests on
 pub mod internal
--- Pages of crates below that clauses here cite, handed on.
-pub use Rattle.cc_c_laws.specs.Meaning
+-- Pages of lower crates that clauses here cite, re-exported.
+pub use Rattle.cc_c_semantics.specs.Meaning

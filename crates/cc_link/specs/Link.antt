@@ -1,6 +1,6 @@
--- The image that pieces make. Its code is the head, which calls main and exits with its word, and behind it the functions in the order
--- of their definitions; each item is filled in at its address. Its globals are the objects in the order of declaration, each in words
--- of its own (`Packed`).
+-- The image that pieces make. Its code is the head, which calls main and exits with its word, and after it the functions in the
+-- order of their definitions; each item is filled in at its address. Its globals are the objects in the order of declaration,
+-- each in words of its own (`Packed`).
 use Rattle.std.specs.Prelude.{ℕ, ◌+◌, ◌*◌, List, [], ◌∷◌, ◌++◌, length, take, map}
 use Rattle.cc_rv32.specs.declared.instr.Instr.{Instr}
 use Rattle.cc_rv32.specs.declared.instr.Instr.TheVariants.{OpImm, Ecall}
@@ -21,20 +21,20 @@ abbrev pub fill_all : (places : ℕ → ℕ) → (a : ℕ) → List (List PieceI
 fill_all places a [] = []
 fill_all places a (f ∷ fs) = fill places a a f ++ fill_all places (a + 4 * length f) fs
 
--- how many items functions have
+-- how many items the functions have in all
 abbrev pub size_of : List (List PieceItem) → ℕ
 size_of [] = 0
 size_of (f ∷ fs) = length f + size_of fs
 
--- the service that ends a run with the word of x10, by the number that x17 has at an ecall
+-- the service that ends a run with the word of x10, given by the number that x17 has at an ecall
 abbrev pub exit_service : ℕ
 exit_service = 93
 
--- main is called, and its word is the exit's
+-- main is called, and the run exits with its word
 abbrev pub head : (main : ℕ) → List PieceItem
 head main = Call main ∷ Plain (OpImm Addi 17 0 exit_service) ∷ Plain Ecall ∷ []
 
--- where function f stands: behind the head's three words, and behind the functions before it
+-- the place of function f: after the head's three words, and after the functions before it
 unfoldable pub place_of : List (List PieceItem) → (f : ℕ) → ℕ
 place_of functions f = 0x1000c + 4 * size_of (take f functions)
 

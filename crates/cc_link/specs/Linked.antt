@@ -1,4 +1,4 @@
--- What linking comes to: why pieces are refused, and else the unit that they make.
+-- What linking answers: why pieces are refused, and otherwise the unit that they make.
 use Rattle.std.specs.Borrow.{Bor}
 use Rattle.std.specs.Prelude.{ℕ, zero, suc, map, ◌==◌, nat_eq, nat_lt, Bool, true, false, ◌||◌, if◌then◌else◌, List, [], ◌∷◌, ◌++◌, length, Option, Some, None, is_some, Result, Ok, Err}
 use Rattle.std.specs.Option.{option_or}
@@ -7,10 +7,10 @@ use Rattle.cc_ast.specs.Tree.{External, Source}
 use Rattle.cc_ast.specs.Source.{source}
 use Rattle.cc_types.specs.Limits.{objects}
 use Rattle.cc_link.specs.Packed.{image_words}
-use Rattle.cc_c_laws.specs.declared.mode.Mode.{Mode}
-use Rattle.cc_c_laws.specs.declared.mode.Mode.TheVariants.{Plain, Checked}
-use Rattle.cc_c_laws.specs.Meaning.{functions}
-use Rattle.cc_c_laws.specs.Calls.{main_of}
+use Rattle.cc_c_semantics.specs.declared.mode.Mode.{Mode}
+use Rattle.cc_c_semantics.specs.declared.mode.Mode.TheVariants.{Plain, Checked}
+use Rattle.cc_c_semantics.specs.Meaning.{functions}
+use Rattle.cc_c_semantics.specs.Calls.{main_of}
 use Rattle.cc_rv32.specs.declared.image.Image.{Image}
 use Rattle.cc_unit.specs.declared.unit.StoredUnit.{StoredUnit}
 use Rattle.cc_emit.specs.declared.item.PieceItem.{PieceItem}
@@ -41,7 +41,7 @@ same_mode a b = false
 abbrev pub is_own : Mode → (text : List ℕ) → Piece → Bool
 is_own mode text p = if same_mode p.mode mode then same_bytes (source p.unit).text text else false
 
--- 28: the first piece of a unit of another text, or in another mode; the first one of these is at `at` in the list
+-- 28: the first piece of a unit of another text, or in another mode; the first piece of the list has the place `at`
 abbrev pub stranger : Mode → (text : List ℕ) (at : ℕ) → List Piece → Option LinkFault
 stranger mode text at [] = None
 stranger mode text at (p ∷ ps) = if is_own mode text p then stranger mode text (suc at) ps else Some (Stranger p.function at)
@@ -51,7 +51,7 @@ abbrev pub is_among : List ℕ → ℕ → Bool
 is_among [] f = false
 is_among (g ∷ gs) f = (g == f) || is_among gs f
 
--- 27: the first piece of a function that came before it; before the first one of these came pieces of the functions `before`
+-- 27: the first piece whose function came before; pieces of the functions `before` came before the first one of the list
 abbrev pub doubled : (before : List ℕ) (at : ℕ) → List Piece → Option LinkFault
 doubled before at [] = None
 doubled before at (p ∷ ps) = if is_among before p.function then Some (Doubled p.function at) else doubled (before ++ p.function ∷ []) (suc at) ps
@@ -61,22 +61,22 @@ abbrev pub piece_of : List Piece → (function : ℕ) → Option Piece
 piece_of [] f = None
 piece_of (p ∷ ps) f = if p.function == f then Some p else piece_of ps f
 
--- 26: the least function without a piece, of this many from this one on
+-- 26: the least function without a piece, among the `count` functions from `from` on
 abbrev pub missing : List Piece → (from count : ℕ) → Option LinkFault
 missing pieces from zero = None
 missing pieces from (suc count) = if is_some (piece_of pieces from) then missing pieces (suc from) count else Some (Missing from)
 
--- a piece in front of others, where there is one
+-- the piece, if there is one, put before the others
 abbrev pub put_first : Option Piece → List Piece → List Piece
 put_first None ps = ps
 put_first (Some p) ps = p ∷ ps
 
--- the first pieces of this many functions from this one on
+-- the first piece of each of the `count` functions from `from` on
 abbrev pub in_order : List Piece → (from count : ℕ) → List Piece
 in_order pieces from zero = []
 in_order pieces from (suc count) = put_first (piece_of pieces from) (in_order pieces (suc from) count)
 
--- those of a unit's functions, in the order of definitions
+-- the first pieces of a unit's functions, in the order of definitions
 abbrev pub ordered : List External → List Piece → List Piece
 ordered unit pieces = in_order pieces 0 (length (functions unit))
 
@@ -95,15 +95,15 @@ bodies unit pieces = all_items (ordered unit pieces)
 abbrev pub too_large : List (List PieceItem) → Option LinkFault
 too_large fs = if nat_lt most_code (code_words fs) then Some ImageTooLarge else None
 
--- why pieces do not make an image of a unit: 28, else 27, else 26, else 25
+-- why pieces do not make an image of a unit: 28, or else 27, or else 26, or else 25
 abbrev pub link_refusal : Mode → Source → List Piece → Option LinkFault
 link_refusal mode s pieces =
     option_or (stranger mode s.text 0 pieces) (option_or (doubled [] 0 pieces)
     (option_or (missing pieces 0 (length (functions s.externals))) (too_large (bodies s.externals pieces))))
 
--- ---- what they make
+-- ---- what the pieces make
 
--- the image: its code, and the words of the objects one after the other, four bytes in one
+-- the image: its code, and the words of the objects one after the other, with four bytes in each
 abbrev pub image_of : List External → List (List PieceItem) → Image
 image_of unit fs = record { code = encoded (linked_code (main_of unit) fs); globals = image_words (objects unit) }
 
@@ -115,12 +115,12 @@ certified unit pieces = certificate_of (all_ltl (ordered unit pieces))
 abbrev pub unit_of : Source → List Piece → StoredUnit
 unit_of s pieces = record { source = s.text; image = image_of s.externals (bodies s.externals pieces); certificate = Some (certified s.externals pieces) }
 
--- the unit, where nothing is refused
+-- the unit, if nothing is refused
 abbrev pub unless_refused : Option LinkFault → StoredUnit → Result StoredUnit LinkFault
 unless_refused None u = Ok u
 unless_refused (Some fault) u = Err fault
 
--- what linking in a mode comes to
+-- what linking in a mode answers
 abbrev pub linked_in : Mode → Source → List Piece → Result StoredUnit LinkFault
 linked_in mode s pieces = unless_refused (link_refusal mode s pieces) (unit_of s pieces)
 

@@ -4,7 +4,7 @@ use Rattle.cc_ast.specs.Tree.{Source}
 use Rattle.cc_ast.specs.Source.{source}
 use Rattle.cc_ast.specs.Parse.{SpellsText}
 use Rattle.cc_types.specs.Checked.{IsChecked}
-use Rattle.cc_c_laws.specs.declared.mode.Mode.{Mode}
+use Rattle.cc_c_semantics.specs.declared.mode.Mode.{Mode}
 use Rattle.cc_unit.specs.declared.unit.StoredUnit.{StoredUnit}
 use Rattle.cc_emit.specs.Piece.{Piece, IsPieceOfUnit}
 use Rattle.cc_link.specs.Linked.{linked_in}
@@ -15,7 +15,7 @@ pub record IsCompiled (piece : Piece) : Type 0 where
   pub checked : IsChecked (source piece.unit)
   pub of_unit : IsPieceOfUnit piece
 
--- pieces that some calls have made in this mode, in whatever order, link to this unit
+-- pieces that some calls have made in this mode, in any order, link to this unit
 pub record IsMadeIn (mode : Mode) (unit : StoredUnit) : Type 0 where
   pub of : Source
   pub spelled : ∥ SpellsText of.text of.externals ∥₁
@@ -24,6 +24,6 @@ pub record IsMadeIn (mode : Mode) (unit : StoredUnit) : Type 0 where
   pub compiled : All IsCompiled pieces
   pub linked_is : linked_in mode of pieces ≡ Ok unit
 
--- in some mode
+-- pieces in some mode link to this unit
 abbrev pub IsMade : StoredUnit → Type 0
 IsMade unit = (mode : Mode) × IsMadeIn mode unit

@@ -1,5 +1,5 @@
--- The words of objects in an image: an element of an array of `unsigned char` is one of four bytes of a word, the first one the lowest, and
--- past the last one there are zeros.
+-- The words of objects in an image. Four elements of an array of `unsigned char` make one word, with the first one in its lowest
+-- byte; after the last element there are zeros.
 use Rattle.std.specs.Prelude.{ℕ, ◌+◌, ◌*◌, ◌^◌, List, [], ◌∷◌, ◌++◌}
 use Rattle.cc_words.specs.declared.operators.Width.{Width}
 use Rattle.cc_words.specs.declared.operators.Width.TheVariants.{Byte, Word}
@@ -22,7 +22,7 @@ abbrev pub packed : Width → List ℕ → List ℕ
 packed Byte bs = packed_bytes bs
 packed Word ws = ws
 
--- an object before the run, and all objects one behind the other
+-- the words of an object before the run, and those of all objects one after the other
 abbrev pub object_image : Object → List ℕ
 object_image o = packed (object_width o) (initial_words o)
 

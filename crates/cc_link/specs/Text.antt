@@ -25,7 +25,7 @@ text_fault_place (Typing f) = typed.fault_place f
 
 -- ---- a program's text
 
--- the tree of a text, which breaks no rule and passes no limit
+-- the tree of a text, which breaks no rule and exceeds no limit
 pub record IsProgramText (text : List ℕ) (tree : List External) : Type 0 where
   pub spelled : SpellsText text tree
   pub typed : IsTyped tree
@@ -38,7 +38,7 @@ pub record IsRefusedTree (text : List ℕ) (fault : TypeFault) : Type 0 where
   pub spelled : SpellsText text tree
   pub refused : IsTypeRefusal (source_with text tree) fault
 
--- why a text is no program's: 1 to 7 and 11 to 21 exactly as `parse` and then `check` have them, 40 set aside
+-- why a text is no program's: 1 to 7 and 11 to 21 exactly as `parse` and then `check` refuse it, apart from 40
 abbrev pub IsTextRefusal : List ℕ → TextFault → Type 0
 IsTextRefusal text (Syntax f) = IsParseRefusal text f
 IsTextRefusal text (Typing f) = (f ≡ typing.OutOfMemory) ⊎ IsRefusedTree text f

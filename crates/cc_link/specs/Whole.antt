@@ -2,7 +2,7 @@
 use Rattle.std.specs.Prelude.{◌≡◌, ℕ, List, All, Ok}
 use Rattle.std.specs.Arc.{arc_value}
 use Rattle.cc_ast.specs.Source.{source}
-use Rattle.cc_c_laws.specs.declared.mode.Mode.{Mode}
+use Rattle.cc_c_semantics.specs.declared.mode.Mode.{Mode}
 use Rattle.cc_link.specs.Agree.{AgreeIn}
 use Rattle.cc_link.specs.Linked.{linked_in}
 use Rattle.cc_link.specs.Made.{IsCompiled, IsMadeIn}

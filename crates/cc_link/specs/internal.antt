@@ -2,5 +2,5 @@
 pub mod Filling
 -- pieces that are lent
 pub mod Lent
--- the words of some objects
+-- the words of objects
 pub mod Packing

@@ -1,21 +1,21 @@
-// From where the allocations of a unit's functions come, in the order of definitions.
+// The origin of the allocations of a unit's functions, in the order of definitions.
 
 use crate::certificate::{first_ltl, number_at};
 use crate::watching::Allocation;
 use cc_ltl::{LtlFault, read_ltl};
 use std::alloc::{AllocError, Global};
 
-/// The allocations of a function and of those after it.
+/// The allocations of a function and of the functions after it.
 #[derive(Clone, Copy)]
 pub(crate) enum Allocations<'a> {
-    /// Each is chosen.
+    /// Each allocation is chosen.
     Chosen,
     /// These bytes of a certificate spell them.
     Spelled(&'a [u8]),
 }
 
 impl<'a> Allocations<'a> {
-    /// Those that a certificate spells, whatever number it begins with.
+    /// The allocations that a certificate spells, whatever number it begins with.
     pub(crate) fn of(certificate: &'a [u8]) -> Allocations<'a> {
         match number_at(certificate) {
             Some((_, rest)) => Allocations::Spelled(rest),
@@ -23,7 +23,7 @@ impl<'a> Allocations<'a> {
         }
     }
 
-    /// The allocation of the function; none if the bytes spell none.
+    /// The allocation of the first function; none if the bytes spell none.
     pub(crate) fn first(self, alloc: Global) -> Result<Option<Allocation>, AllocError> {
         match self {
             Allocations::Chosen => Ok(Some(Allocation::Chosen)),
@@ -34,7 +34,7 @@ impl<'a> Allocations<'a> {
         }
     }
 
-    /// Those of the functions after it.
+    /// The allocations of the functions after the first one.
     pub(crate) fn rest(self) -> Allocations<'a> {
         match self {
             Allocations::Chosen => Allocations::Chosen,

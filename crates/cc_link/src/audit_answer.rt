@@ -5,15 +5,15 @@ use crate::text::TextFault;
 /// What an audit says.
 #[derive(Clone, Copy)]
 pub enum Audit {
-    /// The image agrees with the text, and the certificate has the allocation of each function by which that was shown.
+    /// The image agrees with the text, and the certificate has, for each function, the allocation by which that was shown.
     Confirmed,
     /// There is no certificate.
     NoCertificate,
-    /// The certificate does not show it.
+    /// The certificate does not show that the image agrees with the text.
     Unconfirmed,
 }
 
-/// The part of a stored unit that is not what this compiler makes: the first, in this order.
+/// The first part of a stored unit, in this order, that is not what this compiler makes.
 #[derive(Debug, Drop)]
 pub enum FailedPart {
     /// The text: it is no program's.
@@ -23,6 +23,6 @@ pub enum FailedPart {
     Function { at: usize, length: usize },
     /// The certificate as a whole: it has another number of functions, or bytes that are left over.
     Certificate,
-    /// The image: another one is made along the certificate, or one that is too large.
+    /// The image: compiling with the certificate makes another one, or one that is too large.
     Image,
 }

@@ -1,13 +1,13 @@
-// Whether a stored unit is what this compiler makes of its text along its certificate: it is compiled again, by the allocations that are read
-// from the certificate.
+// Whether a stored unit is what this compiler makes from its text with its certificate: the text is compiled again, with the
+// allocations that are read from the certificate.
 //
-// Nothing is believed of the three parts. The unit is made anew from the text and the functions of LTL that are read, and is then the
-// stored one or not: since a function of LTL has one spelling, no byte of the certificate can be left over, or be another. What a unit that
-// was made is right in belongs to its type.
+// Nothing is believed about the three parts. The unit is made anew from the text and the functions of LTL that are read, and is
+// then compared with the stored one. Since a function of LTL has only one spelling, no byte of the certificate can be left over
+// or differ. The type of a unit that was made keeps what is right about it.
 
 ghost use Rattle.std.specs.Prelude.{◌≡◌, ◌↔◌, ℕ, List, Some, MatchOption, IfOk, IfErr, IfSome, IsTrue};
 ghost use Rattle.std.specs.Option.{option_map};
-ghost use Rattle.cc_c_laws.specs.declared.mode.Mode.{Mode};
+ghost use Rattle.cc_c_semantics.specs.declared.mode.Mode.{Mode};
 ghost use Rattle.cc_rv32.specs.declared.image.Image.{Image};
 ghost use Rattle.cc_link.specs.Audit.{AuditSays, AuditSaysIn, IsConfirmedIn, IsFailedPartIn};
 ghost use Rattle.cc_link.specs.Compile.{IsBuildRefusalIn, IsFirstWithoutIn};
@@ -21,7 +21,7 @@ use crate::compiling::compile_by;
 use crate::fault::LinkFault;
 use crate::laws::linked_units_follow;
 use crate::piece_fault::PieceFault;
-use cc_c_laws::Mode;
+use cc_c_semantics::Mode;
 use cc_rv32::image::Image;
 use cc_unit::StoredUnit;
 use std::alloc::{AllocError, Global};
@@ -38,11 +38,11 @@ pub fn audit(
     audit_in(alloc, Mode::Plain, source, certificate, image)
 }
 
-/// Audits a unit in a mode: whether its certificate shows that its image follows what the program of its source shows in the mode. Whoever
-/// made the three, nothing is believed of them.
+/// Audits a unit in a mode: whether its certificate shows that its image follows what the program of its source shows in the
+/// mode. Nothing is believed about these three parts, whoever made them.
 ///
-/// `NoCertificate` exactly if there is none. `Confirmed` only if the image follows the program so, and the certificate spells the
-/// LTL of each of its functions; else `Unconfirmed`. It fails only if memory ran out (40).
+/// `NoCertificate` exactly if there is none. `Confirmed` only if the image follows the program in this way, and the certificate
+/// spells the LTL of each of its functions; else `Unconfirmed`. It fails only if memory ran out (40).
 pub fn audit_in(
     alloc: Global,
     mode: Mode,
@@ -61,8 +61,8 @@ pub fn audit_in(
     }
 }
 
-/// Why `audit_in` does not confirm a unit that has a certificate: the first part of it that fails; none if it is confirmed. It fails only if
-/// memory ran out (40).
+/// Why `audit_in` does not confirm a unit that has a certificate: the first part of it that fails; none if the unit is confirmed.
+/// It fails only if memory ran out (40).
 pub fn failed_part_in(
     alloc: Global,
     mode: Mode,
@@ -83,8 +83,8 @@ pub fn failed_part_in(
     }
 }
 
-/// What a text compiles to in a mode along a certificate, with the pieces, if that is the unit of these three parts: just if `audit_in`
-/// confirms it. It fails only if memory ran out.
+/// What a text compiles to in a mode with the allocations of a certificate, with the pieces, if that is the unit of these three
+/// parts, which it is exactly if `audit_in` confirms it. It fails only if memory ran out.
 pub fn compile_along_in(
     alloc: Global,
     mode: Mode,
@@ -101,7 +101,8 @@ pub fn compile_along_in(
     }
 }
 
-// What a text compiles to in a mode along a certificate, if that is the unit of these three parts, or the first part that fails.
+// What a text compiles to in a mode with the allocations of a certificate, if that is the unit of these three parts; else the
+// first part that fails.
 fn made_along(
     alloc: Global,
     mode: Mode,
@@ -126,7 +127,7 @@ fn made_along(
     Ok(Ok(made))
 }
 
-// The part that fails if a text does not compile along a certificate.
+// The part that fails if a text does not compile with the allocations of a certificate.
 fn refused_part(fault: BuildFault) -> Result<FailedPart, AllocError>
     ensures { IfOk result (λ failed. (mode : Mode) (text certificate : List ℕ) (image : Image) → IsBuildRefusalIn mode text fault → IsFailedPartIn mode text certificate image failed) }
 {
@@ -145,7 +146,7 @@ fn refused_part(fault: BuildFault) -> Result<FailedPart, AllocError>
     }
 }
 
-// The part that fails if a function has no piece along a certificate.
+// The part that fails if a function has no piece with its allocation in a certificate.
 fn function_part(fault: PieceFault) -> Result<FailedPart, AllocError>
     ensures { IfOk result (λ failed. (mode : Mode) (text certificate : List ℕ) (image : Image) → IsFirstWithoutIn mode text fault → IsFailedPartIn mode text certificate image failed) }
 {

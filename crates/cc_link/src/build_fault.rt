@@ -35,7 +35,7 @@ impl BuildFault {
         }
     }
 
-    /// The place in the text of the fault, for 1 to 6 and 11 to 21.
+    /// The place of the fault in the text, for 1 to 6 and 11 to 21.
     pub fn place(&self) -> Option<Place>
         ensures { result ≡ build_fault_place self.now }
     {

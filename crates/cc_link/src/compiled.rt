@@ -11,13 +11,14 @@ use cc_unit::StoredUnit;
 use std::marker::Model;
 use std::sync::Arc;
 
-/// A unit whose image agrees with its source: the source spells a program, and on every input the image's run follows the program's.
-/// That, and that pieces which were compiled link to it, belongs to the type, so nobody holds another unit. Contracts see the unit as it is stored.
+/// A unit whose image agrees with its source: the source spells a program, and on every input the image's run follows the
+/// program's. The type keeps that, and that pieces which were compiled link to it, so every value of this type is such a unit.
+/// Contracts see the unit as it is stored.
 pub struct CompiledUnit {
     stored: Arc<StoredUnit>,
 }
 
-// By hand, so that crates above call it and do not prove anew how each part is dropped.
+// Written by hand, so that crates above call it and need not prove again how each part is dropped.
 impl Drop for CompiledUnit {
     fn drop(self) {
         let CompiledUnit { stored } = self;
@@ -67,7 +68,7 @@ pub struct Compilation {
     pub unit: CompiledUnit,
 }
 
-// By hand, as above.
+// Written by hand, for the same reason as that of `CompiledUnit`.
 impl Drop for Compilation {
     fn drop(self) {
         let Compilation {
@@ -79,7 +80,7 @@ impl Drop for Compilation {
 }
 
 impl Compilation {
-    /// The unit alone.
+    /// The unit, without what it was made of.
     pub fn into_unit(self) -> CompiledUnit
         ensures { result ≡ self.unit }
     {

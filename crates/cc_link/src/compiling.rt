@@ -4,8 +4,8 @@ ghost use Rattle.std.specs.Prelude.{◌≡◌, ◌<◌, ℕ, List, length, All, 
 ghost use Rattle.std.specs.Arc.{arc_value};
 ghost use Rattle.cc_ast.specs.Source.{source};
 ghost use Rattle.cc_ast.specs.Tree.{External};
-ghost use Rattle.cc_c_laws.specs.Meaning.{functions};
-ghost use Rattle.cc_c_laws.specs.declared.mode.Mode.TheVariants.{Plain};
+ghost use Rattle.cc_c_semantics.specs.Meaning.{functions};
+ghost use Rattle.cc_c_semantics.specs.declared.mode.Mode.TheVariants.{Plain};
 ghost use Rattle.cc_link.specs.Agree.{Agree, AgreeIn};
 ghost use Rattle.cc_link.specs.Compile.{IsPieceRefusalIn, IsBuildRefusal, IsBuildRefusalIn, HasPieceIn};
 ghost use Rattle.cc_link.specs.Made.{IsCompiled, IsMadeIn};
@@ -21,13 +21,14 @@ use crate::laws::linked_units_follow;
 use crate::linking::link_all_in;
 use crate::piece_fault::PieceFault;
 use crate::text::typed_unit;
-use cc_c_laws::Mode;
+use cc_c_semantics::Mode;
 use cc_emit::Piece;
 use cc_types::TypedUnit;
 use std::alloc::Global;
 use std::sync::Arc;
 
-/// The pieces of a unit's functions in a mode, in their order: `compile_function_in` of each. The fault is that of the first one that has none.
+/// The pieces of a unit's functions in a mode, in their order: what `compile_function_in` answers for each. The fault is that of
+/// the first function that has no piece.
 pub fn compile_functions_in(
     alloc: Global,
     mode: Mode,
@@ -42,7 +43,7 @@ pub fn compile_functions_in(
     pieces_by(alloc, mode, unit, Allocations::Chosen)
 }
 
-// The same by these allocations.
+// The pieces of a unit's functions in a mode, in their order, made with these allocations.
 fn pieces_by(
     alloc: Global,
     mode: Mode,
@@ -73,7 +74,7 @@ fn pieces_by(
     Ok(pieces)
 }
 
-// A program compiled in a mode by these allocations, whose tree this is.
+// A program with this tree, compiled in a mode with these allocations.
 fn compile_unit(
     alloc: Global,
     mode: Mode,
@@ -98,7 +99,8 @@ fn compile_unit(
     }
 }
 
-/// Compiles a text in a mode by these allocations, and hands out with the unit what it was made of. It answers what `compile_in` does.
+/// Compiles a text in a mode with these allocations, and returns the unit together with what it was made of. It answers what
+/// `compile_in` does.
 pub(crate) fn compile_by(
     alloc: Global,
     mode: Mode,
@@ -114,7 +116,7 @@ pub(crate) fn compile_by(
     }
 }
 
-/// Compiles a text in a mode, and hands out with the unit what it was made of. It answers what `compile_in` does.
+/// Compiles a text in a mode, and returns the unit together with what it was made of. It answers what `compile_in` does.
 pub fn compile_whole_in(alloc: Global, mode: Mode, text: &[u8]) -> Result<Compilation, BuildFault>
     ensures whole { IfOk result (IsWholeIn mode text.now) }
     ensures refused { IfErr result (λ fault. IsBuildRefusalIn mode text.now fault) }
@@ -122,11 +124,12 @@ pub fn compile_whole_in(alloc: Global, mode: Mode, text: &[u8]) -> Result<Compil
     compile_by(alloc, mode, text, Allocations::Chosen)
 }
 
-/// Compiles a text in a mode: its source is the text, its image agrees with it, and on every input the run of the image follows what the
-/// program shows in the mode.
+/// Compiles a text in a mode: its source is the text, its image agrees with it, and on every input the run of the image follows
+/// what the program shows in the mode.
 ///
-/// Refusals: 1 to 7 and 11 to 21 exactly those of `typed_unit`; for a text without these 22 or 24 for the first function that has one, with
-/// its name, if each function before it has a piece; 25 if `link_in` refuses the pieces so; 40 if memory ran out.
+/// Refusals: 1 to 7 and 11 to 21 exactly as `typed_unit` has them; for a text without these, 22 or 24 for the first function that
+/// has one, with its name, if each function before it has a piece; 25 if `link_in` refuses the pieces with it; 40 if memory ran
+/// out.
 pub fn compile_in(alloc: Global, mode: Mode, text: &[u8]) -> Result<CompiledUnit, BuildFault>
     ensures source { IfOk result (λ unit. unit.source ≡ text.now) }
     ensures agrees { IfOk result (λ unit. Agree text.now unit.image) }

@@ -3,7 +3,6 @@
 ghost use Rattle.std.specs.Prelude.{◌≡◌};
 ghost use Rattle.cc_link.specs.Fault.{link_fault_number};
 
-use std::alloc::AllocError;
 use thiserror::Error;
 
 /// Why pieces make no unit. A place in the list of pieces counts from 0.
@@ -38,15 +37,5 @@ impl LinkFault {
             LinkFault::Stranger { .. } => 28,
             LinkFault::OutOfMemory => 40,
         }
-    }
-}
-
-impl From<AllocError> for LinkFault {
-    ghost use Rattle.cc_link.specs.declared.fault.LinkFault.TheVariants.{OutOfMemory};
-
-    ghost from_gives = { λ _ fault. fault ≡ OutOfMemory };
-
-    fn from(_: AllocError) -> LinkFault {
-        LinkFault::OutOfMemory
     }
 }

@@ -4,14 +4,14 @@ ghost use Rattle.std.specs.Prelude.{◌≡◌, ◌<◌, length, IfOk, IfErr};
 ghost use Rattle.std.specs.Arc.{arc_value};
 ghost use Rattle.cc_ast.specs.Source.{source};
 ghost use Rattle.cc_types.specs.Typed.{defined_names};
-ghost use Rattle.cc_c_laws.specs.declared.mode.Mode.TheVariants.{Plain};
+ghost use Rattle.cc_c_semantics.specs.declared.mode.Mode.TheVariants.{Plain};
 ghost use Rattle.cc_link.specs.Compile.{IsNameAt, IsPieceRefusal, IsPieceRefusalIn};
 
 use crate::allocations::Allocations;
 use crate::passes::{finished, prepared};
 use crate::piece_fault::PieceFault;
 use crate::watching::{Allocation, Unwatched, Watch};
-use cc_c_laws::Mode;
+use cc_c_semantics::Mode;
 use cc_emit::Piece;
 use cc_rtl::RtlFault;
 use cc_types::TypedUnit;
@@ -28,13 +28,14 @@ fn name_of(unit: &TypedUnit, function: usize) -> (usize, usize)
     (name.at, name.bytes.len())
 }
 
-/// The piece of the function with a number in a mode, through Cminor, which has guards if it is checked, RTL, validated LTL, Linear and
-/// selected steps to its code. `watch` sees each of them. Functions are numbered from 0 in the order of their definitions. The piece's type
-/// keeps that the code does what the function does in the mode, whatever the allocation and whoever watches.
+/// The piece of the function with this number in a mode. It is made through Cminor (with guards in the checked mode), RTL,
+/// validated LTL, Linear and selected steps. `watch` sees each of them. Functions are numbered from 0 in the order of their
+/// definitions. The piece's type keeps that the code does what the function does in the mode, whatever the allocation and whoever
+/// watches.
 ///
-/// Refusals, the first two with the bytes of the function's name: 22 if it would have more than 4,096 nodes of RTL or its guards would
-/// set more than 2,048 variables, which needs more than 256 tokens, or 177 for a checked piece; 24 if the validator refuses the
-/// allocation; 40 if memory ran out, or `watch` refused.
+/// Refusals, the first two with the bytes of the function's name: 22 if it would have more than 4,096 nodes of RTL or its guards
+/// would set more than 2,048 variables, which needs more than 256 tokens, or 177 for a checked piece; 24 if the validator refuses
+/// the allocation; 40 if memory ran out, or `watch` refused.
 pub fn compile_watched_in<W: Watch>(
     alloc: Global,
     mode: Mode,
@@ -70,8 +71,9 @@ pub fn compile_watched_in<W: Watch>(
     }
 }
 
-/// The piece of the function with a number in a mode by the first of these allocations, while nobody watches. It answers what
-/// `compile_watched_in` does; if there is no allocation, then 24: nothing shows that code does what the function does, from label 0 on.
+/// The piece of the function with this number in a mode, with the first of these allocations; nobody watches. It answers what
+/// `compile_watched_in` does, or 24 at label 0 if there is no allocation, since then nothing shows that the code does what the
+/// function does.
 pub(crate) fn compile_first_in(
     alloc: Global,
     mode: Mode,
@@ -103,8 +105,8 @@ pub(crate) fn compile_first_in(
     }
 }
 
-/// The piece of the function with a number in a mode, by registers, or with a slot for each value if the validator refuses these.
-/// Nobody watches. It answers what `compile_watched_in` does.
+/// The piece of the function with this number in a mode, with values in registers, or with a slot for each value if the validator
+/// refuses that. Nobody watches. It answers what `compile_watched_in` does.
 pub fn compile_function_in(
     alloc: Global,
     mode: Mode,
@@ -127,7 +129,7 @@ pub fn compile_function_in(
     )
 }
 
-/// The plain piece of the function with a number. It answers what `compile_function_in` does.
+/// The plain piece of the function with this number. It answers what `compile_function_in` does.
 pub fn compile_function(
     alloc: Global,
     unit: &Arc<TypedUnit>,

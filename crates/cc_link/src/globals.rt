@@ -11,7 +11,7 @@ use cc_syntax::{External, Object};
 use cc_words::Width;
 use std::alloc::{AllocError, Global};
 
-// A byte; past the last one 0.
+// The byte at `at`, or 0 past the last one.
 #[tactic(auto, using(crate::proofs::Packing::byte_below))]
 fn byte_at(bytes: &[u32], at: usize) -> u32
     requires { AreBytes bytes.now }

@@ -1,13 +1,13 @@
-// What holds of linking by its definition alone, and the laws of lower crates that it rests on.
+// What holds for linking just by its definition, and the laws of lower crates that it rests on.
 
 ghost use Rattle.cc_tokens.specs.Tokens.{TokensAreOne};
 ghost use Rattle.cc_ast.specs.Limits.{TreesAreOne};
-ghost use Rattle.cc_c_laws.specs.Calls.{ObjectsAreSized, TypedUnitsHaveMain};
-ghost use Rattle.cc_c_laws.specs.Numbered.{CheckedFollows, ProgramsAreNumbered, TypedUnitsHaveMeanings};
+ghost use Rattle.cc_c_semantics.specs.Calls.{ObjectsAreSized, TypedUnitsHaveMain};
+ghost use Rattle.cc_c_semantics.specs.Numbered.{CheckedFollows, ProgramsAreNumbered, TypedUnitsHaveMeanings};
 ghost use Rattle.cc_link.specs.Laws.{AgreeInAgree, LinkedUnitsAgree, LinkedUnitsFollow, MadeUnitsAreCertified, UnitsAreCertifiedIn};
 ghost use Rattle.cc_link.specs.Stack.{LinkedUnitsAreBacked};
 
-use cc_c_laws::{
+use cc_c_semantics::{
     names_have_numbers, programs_are_checked, programs_call_main, units_have_meanings,
 };
 use cc_syntax::trees_are_determined;

@@ -1,12 +1,12 @@
 // From the pieces of a unit's functions to the unit that the library keeps.
 //
-// Pieces come in any order. First it is seen that there is one of each function, and that all are of this text. Then all places depend on
-// nothing but the functions' items in the order of definitions.
+// Pieces come in any order. First it is checked that there is one of each function, and that all are of this text. From then on
+// all places depend only on the functions' items in the order of definitions.
 
 ghost use Rattle.std.specs.Prelude.{◌≡◌, ◌⊎◌, ◌≤◌, ◌<◌, ◌^◌, Some, Ok, Err, All, length, IfOk, IfErr};
 ghost use Rattle.std.specs.Arc.{arc_value};
 ghost use Rattle.cc_ast.specs.Source.{source};
-ghost use Rattle.cc_c_laws.specs.Meaning.{functions};
+ghost use Rattle.cc_c_semantics.specs.Meaning.{functions};
 ghost use Rattle.cc_link.specs.declared.fault.LinkFault.TheVariants.{OutOfMemory};
 ghost use Rattle.cc_link.specs.Agree.{Agree, AgreeIn};
 ghost use Rattle.cc_link.specs.Made.{IsCompiled, IsMadeIn};
@@ -23,7 +23,7 @@ use crate::globals::image_words;
 use crate::laws::{linked_units_are_backed, linked_units_follow, unit_laws};
 use crate::order::{all_items, doubled, in_order, stranger};
 use crate::words::{code, fits};
-use cc_c_laws::Mode;
+use cc_c_semantics::Mode;
 use cc_emit::{Piece, PieceItem};
 use cc_resolve::lay_out;
 use cc_rv32::image::{Globals, Image};
@@ -66,7 +66,7 @@ fn image(alloc: Global, unit: &TypedUnit, bodies: &[&[PieceItem]]) -> Result<Ima
     Ok(Image { code, globals })
 }
 
-// What the library keeps of a unit and its functions, whose pieces these are.
+// What the library keeps of a unit whose functions have these pieces.
 fn stored(
     alloc: Global,
     unit: &TypedUnit,
@@ -90,7 +90,7 @@ fn stored(
     Ok(Arc::new(alloc, unit)?)
 }
 
-// The unit that the pieces of a unit in a mode make, lent in any order.
+// The unit that these pieces of a unit's functions in a mode make. They are lent, in any order.
 fn made_in(
     alloc: Global,
     mode: Mode,
@@ -127,8 +127,11 @@ fn made_in(
     linked_units_follow();
     linked_units_are_backed();
     let _kept = unit.externals();
-    let made = stored(alloc, unit, bodies.as_slice(), ordered.as_slice());
-    Ok(made?)
+    let made = match stored(alloc, unit, bodies.as_slice(), ordered.as_slice()) {
+        Ok(made) => made,
+        Err(_) => return Err(LinkFault::OutOfMemory),
+    };
+    Ok(made)
 }
 
 /// Links the pieces of a unit in a mode, lent in any order: its source is the unit's text, its certificate has the LTL of each function, and on
@@ -198,7 +201,7 @@ pub fn link_pieces_in(
     link_all_in(alloc, mode, unit, pieces.as_slice())
 }
 
-/// Links the pieces of a unit in a mode that lie one after the other. It answers what `link_in` does.
+/// Links the pieces of a unit in a mode, which lie one after the other. It answers what `link_in` does.
 pub(crate) fn link_all_in(
     alloc: Global,
     mode: Mode,
@@ -212,16 +215,16 @@ pub(crate) fn link_all_in(
     ensures backed { IfOk result (λ unit'. IsBackedFrom mode unit'.source (stack_of (source (arc_value unit.now)).externals pieces.now) unit'.image) }
     ensures refused { IfErr result (λ fault. (fault ≡ OutOfMemory) ⊎ (linked_in mode (source (arc_value unit.now)) pieces.now ≡ Err fault)) }
 {
-    let lent = match lent(alloc, pieces) {
+    let lent = match lend(alloc, pieces) {
         Ok(lent) => lent,
         Err(_) => return Err(LinkFault::OutOfMemory),
     };
     link_in(alloc, mode, unit, lent.as_slice())
 }
 
-// References to pieces, in their order.
-fn lent(alloc: Global, pieces: &[Piece]) -> Result<Vec<&Piece>, AllocError>
-    ensures { IfOk result (λ lent. lent_pieces lent.items ≡ pieces.now) }
+/// References to pieces, in their order. `AllocError` if memory runs out.
+pub fn lend(alloc: Global, pieces: &[Piece]) -> Result<Vec<&Piece>, AllocError>
+    ensures { IfOk result (λ all. lent_pieces all.items ≡ pieces.now) }
 {
     let mut lent = Vec::with_capacity(alloc, pieces.len())?;
     for piece in pieces {

@@ -1,6 +1,6 @@
 // The piece of each function: the refusals 28, 27 and 26, and the functions' pieces in the order of definitions.
 //
-// There are at most 64 functions, so a piece that is looked for is found by going over all of them.
+// There are at most 64 functions, so a piece is found by going over all of them.
 
 ghost use Rattle.std.specs.Prelude.{◌≡◌, ◌⊎◌, [], None, Some, All, IfOk, IfErr, IfNone, MatchOption};
 ghost use Rattle.cc_emit.specs.Piece.{IsPieceOfUnit};
@@ -11,7 +11,7 @@ ghost use Rattle.cc_link.specs.internal.Filling.{lent};
 ghost use Rattle.cc_link.specs.internal.Lent.{functions_of};
 
 use crate::fault::LinkFault;
-use cc_c_laws::Mode;
+use cc_c_semantics::Mode;
 use cc_emit::{Piece, PieceItem};
 use cc_types::TypedUnit;
 use std::alloc::{AllocError, Global};
@@ -44,7 +44,7 @@ fn is_own(mode: Mode, text: &[u8], piece: &Piece) -> bool
     }
 }
 
-/// 28 for the first piece of a unit of another text, or in another mode. If there is none, each piece is what its type keeps.
+/// 28 for the first piece of a unit of another text, or in another mode. If there is none, each piece has what its type keeps.
 pub(crate) fn stranger(mode: Mode, text: &[u8], pieces: &[&Piece]) -> Option<LinkFault>
     ensures answer { result ≡ stranger mode text.now 0 (lent_pieces pieces.now) }
     ensures kept { IfNone result (All IsPieceOfUnit (lent_pieces pieces.now)) }
@@ -99,7 +99,7 @@ fn piece_of<'a>(pieces: &'a [&'a Piece], function: usize) -> Option<&'a Piece>
     None
 }
 
-/// The first pieces of this many functions in their order, and 26 for the least without one.
+/// The first pieces of this many functions, in the functions' order; or 26 for the least function without one.
 pub fn in_order<'a>(
     alloc: Global,
     functions: usize,

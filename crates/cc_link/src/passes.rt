@@ -5,13 +5,13 @@ ghost use Rattle.std.specs.Arc.{arc_value};
 ghost use Rattle.cc_ast.specs.Source.{source};
 ghost use Rattle.cc_types.specs.Typed.{defined_names};
 ghost use Rattle.cc_cminor.specs.Pair.{code_of};
+ghost use Rattle.cc_cminor.specs.declared.fault.CodeFault.TheVariants.{FunctionTooLarge, OutOfMemory};
 ghost use Rattle.cc_mode.specs.Long.{IsLongIn};
 ghost use Rattle.cc_rtl_language.specs.Rtl.{most_nodes};
 ghost use Rattle.cc_rtl.specs.Size.{function_nodes};
-ghost use Rattle.cc_rtl.specs.declared.fault.RtlFault.TheVariants.{FunctionTooLarge, OutOfMemory};
 
 use crate::watching::{Allocation, Allocator, Seen, Watch};
-use cc_c_laws::Mode;
+use cc_c_semantics::Mode;
 use cc_cminor::{CminorPair, to_cminor};
 use cc_colour::{colour, spill_all};
 use cc_emit::{Piece, emit};
@@ -34,7 +34,7 @@ pub(crate) struct Colourable {
 }
 
 impl Colourable {
-    // The RTL alone.
+    // The RTL without the live sets.
     fn into_rtl(self) -> RtlPair
         ensures { result ≡ self.rtl }
     {
@@ -69,7 +69,7 @@ fn lowered<W: Watch>(
     }
 }
 
-// What of Cminor in a mode is seen anew.
+// Shows the Cminor with guards of a checked function. A plain one has none.
 fn show_guarded<W: Watch>(mode: Mode, pair: &CminorPair, watch: &mut W) -> Result<(), AllocError> {
     match mode {
         Mode::Plain => Ok(()),
@@ -138,7 +138,7 @@ pub(crate) fn prepared<W: Watch>(
     }
 }
 
-// The fault of LTL that was refused, once that was seen.
+// Shows that LTL was refused, and returns the fault.
 fn told<W: Watch>(fault: ValidateFault, watch: &mut W) -> ValidateFault {
     match fault {
         ValidateFault::Unvalidated { label } => match watch.see(Seen::Refused(label)) {
@@ -177,7 +177,7 @@ fn judged<W: Watch>(
     }
 }
 
-// LTL that comes of one allocator alone.
+// LTL that is made by this allocator or by none.
 fn accepted<W: Watch>(
     alloc: Global,
     pair: RtlPair,
@@ -207,12 +207,12 @@ fn spilled<W: Watch>(alloc: Global, pair: RtlPair, watch: &mut W) -> Result<LtlP
     }
 }
 
-// LTL by registers, with these live sets.
+// LTL with values in registers, given these live sets.
 fn coloured(alloc: Global, rtl: &Rtl, live: Liveness) -> Result<Ltl, AllocError> {
     colour(alloc, rtl, &live)
 }
 
-// LTL by registers, and with a slot for each value only if the validator refuses that.
+// LTL with values in registers, or with a slot for each value if the validator refuses that.
 fn chosen<W: Watch>(
     alloc: Global,
     colourable: Colourable,

@@ -1,5 +1,5 @@
-// From a text to its program: the one door by which every text comes in, be it checked, run, compiled, audited or shown;
-// and that a text comes to one program or one fault.
+// From a text to its program: the one way in for every text, whether it is checked, run, compiled, audited or shown. A text leads
+// to one program or one fault.
 
 ghost use Rattle.std.specs.Prelude.{◌≡◌, ◌≤◌, length, IfOk, IfErr};
 ghost use Rattle.std.specs.Arc.{arc_value};
@@ -37,7 +37,7 @@ impl TextFault {
         }
     }
 
-    /// The place in the text of the fault, for 1 to 6 and 11 to 21.
+    /// The place of the fault in the text, for 1 to 6 and 11 to 21.
     pub fn place(&self) -> Option<Place>
         ensures { result ≡ text_fault_place self.now }
     {
@@ -48,7 +48,7 @@ impl TextFault {
     }
 }
 
-/// The program of a text: the text with the tree that it spells, which breaks no rule and passes no limit.
+/// The program of a text: the text with the tree that it spells, which breaks no rule and exceeds no limit.
 ///
 /// Refusals: those of `parse`, 1 to 7, and for a text that has a tree those of `check`, 11 to 21; 40 if memory ran out.
 pub fn typed_unit(alloc: Global, text: &[u8]) -> Result<Arc<TypedUnit>, TextFault>
@@ -71,7 +71,7 @@ pub fn typed_unit(alloc: Global, text: &[u8]) -> Result<Arc<TypedUnit>, TextFaul
     }
 }
 
-/// What `parse` and then `check` answer is a function of the text, lack of memory set aside.
+/// What `parse` and then `check` answer is a function of the text, apart from lack of memory.
 pub fn verdicts_are_determined()
     ensures one_verdict { VerdictsAreOne }
     ensures some_verdict { TextsHaveVerdicts }

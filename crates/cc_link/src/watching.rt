@@ -1,4 +1,4 @@
-// The source of a function's allocation, and who watches the function go through the passes.
+// The source of a function's allocation, and the watcher of a function on its way through the passes.
 
 use cc_cminor::CminorPair;
 use cc_linear_language::LinearPair;
@@ -7,25 +7,25 @@ use cc_rtl::Rtl;
 use cc_select::SelectedPair;
 use std::alloc::AllocError;
 
-/// The source of a function's allocation. Nothing is believed of any: the validator judges each.
+/// The source of a function's allocation. Nothing is believed about any of them: the validator judges each.
 #[derive(Drop)]
 pub enum Allocation {
-    /// Registers, and a slot for each value if the validator refuses these.
+    /// Registers, or a slot for each value if the validator refuses those.
     Chosen,
     /// A slot for each value.
     Spilled,
-    /// This one, as the certificate of a stored unit has it.
+    /// This allocation, as the certificate of a stored unit has it.
     Given(Ltl),
 }
 
-/// Who made LTL.
+/// Who made an LTL function.
 #[derive(Clone, Copy)]
 pub enum Allocator {
-    /// It has values in registers.
+    /// An allocator with values in registers.
     Colour,
-    /// It has a slot for each value.
+    /// An allocator with a slot for each value.
     Spill,
-    /// It was given.
+    /// The LTL was given.
     Given,
 }
 
@@ -34,7 +34,7 @@ pub enum Allocator {
 pub enum Seen<'a> {
     /// Cminor.
     Cminor(&'a CminorPair),
-    /// Cminor with guards, of a checked function alone.
+    /// Cminor with guards, only for a checked function.
     Guarded(&'a CminorPair),
     /// RTL as it is generated.
     Rtl(&'a Rtl),
@@ -42,9 +42,9 @@ pub enum Seen<'a> {
     Pruned(&'a Rtl),
     /// LTL that the validator has not judged.
     Allocated(Allocator, &'a Ltl),
-    /// The validator refuses it, at this label.
+    /// The validator refuses the LTL, at this label.
     Refused(u32),
-    /// The validator accepts it.
+    /// The validator accepts the LTL.
     Validated(&'a Ltl),
     /// Linear.
     Linear(&'a LinearPair),
@@ -52,7 +52,7 @@ pub enum Seen<'a> {
     Selected(&'a SelectedPair),
 }
 
-/// Who watches a function go through the passes.
+/// Watches a function on its way through the passes.
 pub trait Watch {
     /// Sees what a pass made. After an `Err` the function goes no further, and is refused as if memory had run out (40).
     fn see(&mut self, seen: Seen<'_>) -> Result<(), AllocError>;

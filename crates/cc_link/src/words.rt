@@ -1,7 +1,7 @@
 // The words of an image's code: each item is filled in at its address.
 //
-// A function's items become words one after the other. Only the distances of calls and jumps depend on the function's place, and all lies so
-// near that every distance fits a jump.
+// A function's items become words one after the other. Only the distances of calls and jumps depend on the function's place, and
+// the code is so short that every distance fits in a jump.
 
 ghost use Rattle.std.specs.Prelude.{◌≡◌, ◌+◌, ◌-◌, ◌%◌, ◌^◌, ◌<◌, ◌≤◌, ◌++◌, ◌↔◌, length, slice_index, IsTrue, IfOk, OnOk};
 ghost use Rattle.cc_emit.specs.Contract.{IsPlace, filled};
@@ -133,7 +133,7 @@ fn add_head(words: &mut Vec<u32>, places: &[u32], main: usize) -> Result<(), All
     Ok(())
 }
 
-// How many words the code of the functions takes, the head with it. Nothing but the memory that is taken at once depends on it.
+// How many words the code of the functions takes, including the head. It only decides how much memory is taken at once.
 fn room(bodies: &[&[PieceItem]]) -> usize {
     let mut words = HEAD_WORDS;
     for items in bodies {
@@ -142,7 +142,7 @@ fn room(bodies: &[&[PieceItem]]) -> usize {
     words
 }
 
-/// The code of the functions; that with number `main` is called first.
+/// The code of the functions. The one with the number `main` is called first.
 pub(crate) fn code(alloc: Global, main: usize, bodies: &[&[PieceItem]]) -> Result<Code, AllocError>
     requires main { main < length bodies.now }
     requires few { code_words (lent bodies.now) ≤ most_code }

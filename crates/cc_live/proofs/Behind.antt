@@ -1,4 +1,5 @@
--- What is live after a node by some live sets and by larger ones; and whether a result is read, by a row that holds the same.
+-- What is live after a node according to some live sets and according to larger ones; and whether a result is read, according to
+-- a row that holds the same.
 use Rattle.std.proofs.Common.{◌≡◌, ℕ, zero, suc, List, [], ◌∷◌, refl, ap, ◌∙◌, Bool, true, false, ◌&&◌, not, IsTrue, arith, inl, inr, Contains}
 use Rattle.std.specs.Prelude.{Option, Some, None}
 use Rattle.std.proofs.lemmas.Bool.{or_cases, or_left, or_right}
@@ -33,7 +34,7 @@ not_less : (a b : Bool) → (IsTrue a → IsTrue b) → not a ≡ false → not 
 not_less true b h e = ap not (h refl)
 not_less false b h e = absurd cc
 
--- a result that was read stays read if more is held
+-- a result that was read is still read if more is live
 pub read_behind_less : (live other : Sets) (n : Node) → ((r : ℕ) → IsTrue (live_behind live n r) → IsTrue (live_behind other n r)) → is_dead live n ≡ false → is_dead other n ≡ false
 read_behind_less live other n h = go (pure_result n)
   where
@@ -49,7 +50,7 @@ read_less row other n true h e = go (pure_result n) e
     go None f = refl
     go (Some to) f = not_less (holds row to) (live_behind other n to) (h to) f
 
--- the same if the same is held
+-- the row and the live sets agree on whether a result is read, if they hold the same after the node
 pub read_same : (row : List ℕ) (live : Sets) (n : Node) → ((r : ℕ) → holds row r ≡ live_behind live n r) → is_unread row (pure_result n) ≡ is_dead live n
 read_same row live n h = go (pure_result n)
   where

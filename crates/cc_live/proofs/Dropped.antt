@@ -1,5 +1,5 @@
--- A function whose dead nodes became nops: its live sets, the labels of these nodes, and that by the least strongly live sets no node is
--- dead any more.
+-- A function whose dead nodes became nops: its live sets, the labels of these nodes, and why no node is dead any more if the sets
+-- were the least strongly live ones.
 use Rattle.std.proofs.Common.{◌≡◌, ◌≢◌, ℕ, zero, suc, ◌<◌, List, [], ◌∷◌, get_or, refl, sym, ap, ◌∙◌, subst, Bool, true, false, ◌==◌, ◌&&◌, ◌||◌, not, if◌then◌else◌, IsTrue, arith, inl, inr, Contains, All}
 use Rattle.std.specs.Prelude.{Some, None, IsSome}
 use Rattle.std.proofs.lemmas.Bool.{or_cases, or_right, not-true, and_parts, and_from, ne_eqb, eq-eqb}
@@ -26,10 +26,10 @@ dead live label node = is_dead live node
 pub are_strongly : (ns : List Labelled) (live : Sets) → AreLive ns live → AreStronglyLive ns live
 are_strongly ns live h label node e = let c = h label node e in record { needed = λ stays. c.needed; inherited = c.inherited }
 
--- ---- strongly live sets are live where the dead nodes are nops
+-- ---- strongly live sets are live sets once the dead nodes are nops
 
 module _ (live : Sets) (own : ℕ → Bool) where
-  -- a nop in place of a node whose result is not live after it
+  -- a nop can replace a node whose result is not live after it
   nop_carries : (to next : ℕ) → IsTrue (not (in_some live (next ∷ []) to)) → ((r : ℕ) → IsTrue (in_some live (next ∷ []) r) → Some to ≢ Some r → IsTrue (own r)) → Carries live (Nop next) own
   nop_carries to next unread inherited = record {
     needed = λ r i. absurd (let l = i.1 in omega arith);
@@ -79,7 +79,7 @@ none_among live l (m ∷ ns) b a = go (is_dead live m.node) (none_among live l n
     go true rest = ap (λ x. x || among (dead_labels live ns) l) (ne_eqb m.label l (λ e. let f : l < m.label = b in absurd (omega arith))) ∙ rest
     go false rest = rest
 
--- a node's label is among them exactly if the node is dead
+-- a node's label is among those of the dead nodes exactly if the node is dead
 pub among_dead : (live : Sets) (ns : List Labelled) (n : Labelled) → Ascend ns → Contains ns n → among (dead_labels live ns) n.label ≡ is_dead live n.node
 among_dead live [] n a (k, lt, e) = absurd (omega arith)
 among_dead live (m ∷ ns) n a (zero, lt, e) = subst (λ (x : Labelled). among (dead_labels live (m ∷ ns)) x.label ≡ is_dead live x.node) e (go (is_dead live m.node))
@@ -119,7 +119,7 @@ may_go live ns a h = record {
       or_right (is_nop node) (is_dead live node) (sym d ∙ i);
 }
 
--- ---- what is left without all that nobody needs
+-- ---- what is left without the nodes that nobody needs
 
 none_apart : (r : ℕ) → None ≢ Some r
 none_apart r e = absurd (let z : None ≡ Some r = e in cc)
@@ -186,14 +186,14 @@ is_without_faint old new live h e = record {
   least = subst (λ (r : Rtl). AreLeastLive r.nodes live) (sym e) (least_without old.nodes live (least_strongly old.nodes live h));
 }
 
--- ---- its live sets as rows
+-- ---- the live sets of what is left, as rows
 
--- nodes that become nops keep their positions
+-- nodes keep their positions when some become nops
 position_without : (which : Which) (ns : List Labelled) (label : ℕ) → position_of (with_nops which ns) label ≡ position_of ns label
 position_without which [] label = refl
 position_without which (n ∷ ns) label = ap (λ p. if n.label == label then 0 else suc p) (position_without which ns label)
 
--- sets that hold the same as least live ones are least live
+-- sets that hold the same as the least live sets are least live sets
 same_least : (ns : List Labelled) (live same : Sets) → LieWithin live same → LieWithin same live → AreLeastLive ns live → AreLeastLive ns same
 same_least ns live same there back h = record {
   are_live = λ label node e. let c = h.are_live label node e in record {
@@ -203,7 +203,7 @@ same_least ns live same there back h = record {
   least = λ other after label r held. h.least other after label r (back label r held);
 }
 
--- the rows of the strongly live sets, beside the nodes that are left
+-- the rows of the strongly live sets are the least live sets of the nodes that are left
 pub least_rows : (old new : Rtl) (rows : List (List ℕ)) → AreLeastAs true old.nodes (rows_at old.nodes rows) → new ≡ without_dead (rows_at old.nodes rows) old → AreLeastLive new.nodes (rows_at new.nodes rows)
 least_rows old new rows h e = subst (λ (r : Rtl). AreLeastLive r.nodes (rows_at r.nodes rows)) (sym e) (same_least left live (rows_at left rows) (λ label r i. at label r ∙ i) (λ label r i. sym (at label r) ∙ i) (least_without old.nodes live (least_strongly old.nodes live h)))
   where
@@ -216,7 +216,7 @@ least_rows old new rows h e = subst (λ (r : Rtl). AreLeastLive r.nodes (rows_at
     at : (label r : ℕ) → rows_at left rows label r ≡ live label r
     at label r = ap (λ p. holds (get_or rows p []) r) (position_without (dead live) old.nodes label)
 
--- no node of it is dead
+-- no node of what is left is dead
 pub nothing_dead : (old new : Rtl) → IsWithoutFaint old new → NothingIsDead new
 nothing_dead old new h other are label node e =
     let from = turned_from (dead h.live) old.nodes label node (subst (λ (r : Rtl). node_at r.nodes label ≡ Some node) h.is e) in

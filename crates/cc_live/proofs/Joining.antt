@@ -1,5 +1,5 @@
--- A row that holds what either of two rows holds is their join. If one lies within the other, the join is the other; else the join lacks
--- less.
+-- A row that holds what either of two rows holds is their join. If one lies within the other, the join is the other; otherwise
+-- the join lacks less.
 use Rattle.std.proofs.Common.{◌≡◌, ◌∙◌, ℕ, ◌*◌, ◌<◌, ◌≤◌, List, length, sym, ◌||◌, IsTrue, IsFalse, arith}
 use Rattle.std.proofs.lemmas.Bool.{or_left, or_right}
 use Rattle.cc_flow.specs.Lattice.{Equivalent}
@@ -9,7 +9,7 @@ use Rattle.cc_live.specs.internal.Holding.{holds-either}
 use Rattle.cc_live.specs.internal.Laws.{laws, same_rows}
 use Rattle.cc_live.specs.internal.Room.{room, most_words, room_falls}
 
--- it holds what either holds
+-- the row holds what either of the two holds
 abbrev pub HoldsEither : (made x y : List ℕ) → Type 0
 HoldsEither made x y = (r : ℕ) → holds made r ≡ (holds x r || holds y r)
 
@@ -19,7 +19,7 @@ join_stays x y h = (laws.first x y, laws.within x y x (laws.reflexive x) h)
 pub join_made : (made x y : List ℕ) → HoldsEither made x y → Equivalent Below made (either x y)
 join_made made x y h = same_rows made (either x y) (λ r. h r ∙ sym (holds-either x y r))
 
--- a register of the second that the first does not hold
+-- a register that the second row holds and the first does not
 abbrev pub OneMore : (x y : List ℕ) → Type 0
 OneMore x y = (r : ℕ) × (r < 64 * length y) × IsTrue (holds y r) × IsFalse (holds x r)
 

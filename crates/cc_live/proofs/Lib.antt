@@ -6,11 +6,11 @@
 pub mod Joining
 -- What is live after a node.
 pub mod Behind
--- The nodes by their positions.
+-- The nodes, by their positions.
 pub mod Nodes
 -- The solution as live sets.
 pub mod Solved
--- Dead nodes made nops.
+-- Dead nodes that were made nops.
 pub mod Dropped
--- The labels of dead nodes as the code lists them.
+-- The labels of dead nodes, as the code lists them.
 pub mod Listing

@@ -1,4 +1,5 @@
--- The nodes as the code walks over them: each leads to nodes, and the labels of the dead ones are listed in their order.
+-- The nodes as the code walks over them: each node leads to existing nodes, and the labels of the dead ones are listed in their
+-- order.
 use Rattle.std.proofs.Common.{◌≡◌, ℕ, ◌+◌, ◌<◌, List, [], ◌∷◌, ◌++◌, length, take, get_or, sym, ap, ◌∙◌, subst, Bool, true, false, if◌then◌else◌, All}
 use Rattle.std.specs.Prelude.{Some, IsSome, slice_get}
 use Rattle.std.proofs.lemmas.Option.{slice_get_within, get_or_from_slice_get}

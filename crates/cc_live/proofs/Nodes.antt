@@ -1,4 +1,4 @@
--- The nodes by their positions: the step at a position, its row of the graph, its label, and what the nodes read.
+-- The nodes, by their positions: the step at a position, its row of the graph, its label, and what the nodes read.
 use Rattle.std.proofs.Common.{◌≡◌, ℕ, zero, suc, ◌≤◌, List, [], ◌∷◌, ◌++◌, length, map, get_or, refl, sym, ap, ◌∙◌, subst, arith, Contains, Bool, IsTrue, ◌↔◌, Result, Ok, Err, IfOk}
 use Rattle.std.specs.Prelude.{Some, IsSome, slice_get}
 use Rattle.std.proofs.lemmas.Option.{same_Some, slice_get_within, get_or_from_slice_get}
@@ -31,7 +31,7 @@ row_at ns i n e =
     get_or-map (λ (m : Labelled). map (position_of ns) (successors m.node)) ns i n [] (slice_get_within ns i n e)
     ∙ ap (λ (m : Labelled). map (position_of ns) (successors m.node)) (get_or_from_slice_get ns i n n e)
 
--- ---- what was made, if it was made
+-- ---- the result of a call, if it succeeded
 
 pub least_same : {E : Type 0} (r : Result (List ℕ) E) → IfOk r (λ made. made ≡ nothing) → IfOk r (λ made. Equivalent Below made nothing)
 least_same (Ok made) e = subst (λ x. Equivalent Below x nothing) (sym e) (laws.reflexive nothing, laws.reflexive nothing)
@@ -41,7 +41,7 @@ pub same_both_ways : {E : Type 0} (r : Result (List ℕ) E) (row : List ℕ) →
 same_both_ways (Ok made) row h = (λ x. (h x).0, λ x. (h x).1)
 same_both_ways (Err e) row h = h
 
--- ---- the label of a position
+-- ---- the label at a position
 
 abbrev pub label_at : List Labelled → ℕ → ℕ
 label_at ns i = (get_or ns i nobody).label

@@ -1,5 +1,5 @@
--- The solution that lies below every other one is the least live sets: what arrives at a node is what the node reads and what is live after
--- it. And other live sets, cut down to the registers that some node reads, are a solution too.
+-- The solution that lies below every other one is the least live sets: what comes back to a node is what the node reads and what
+-- is live after it, except its result. Other live sets, cut down to the registers that some node reads, are a solution too.
 use Rattle.std.proofs.Common.{◌≡◌, ℕ, ◌<◌, List, [], ◌∷◌, length, map, get_or, refl, sym, ap, ◌∙◌, subst, Bool, true, false, ◌&&◌, ◌||◌, IsTrue, arith, inl, inr}
 use Rattle.std.specs.Prelude.{Option, Some, None, IsSome, slice_get}
 use Rattle.std.proofs.lemmas.Option.{slice_get_within, slice_get-get_or}
@@ -22,7 +22,7 @@ use Rattle.cc_live.proofs.Nodes.{nobody, carries_at, row_at, label_at, label_of_
 abbrev by_label : (facts : ℕ → List ℕ) → List Labelled → Sets
 by_label facts ns label = holds (facts (position_of ns label))
 
--- the join of the facts of labels holds what some of them hold
+-- the join of the facts at some labels holds what one of them holds
 holds-joined : (facts : ℕ → List ℕ) (ns : List Labelled) (labels : List ℕ) (r : ℕ) → holds (joined nothing either facts (map (position_of ns) labels)) r ≡ in_some (by_label facts ns) labels r
 holds-joined facts ns [] r = holds-nothing r
 holds-joined facts ns (s ∷ ss) r =
@@ -32,7 +32,7 @@ holds-joined facts ns (s ∷ ss) r =
 abbrev SolvesBy : Bool → List Labelled → (ℕ → List ℕ) → Type 0
 SolvesBy strong ns facts = Solves Below nothing either (carries strong ns) (graph_of ns) facts
 
--- the join after a position
+-- the join of what a position's successors have
 abbrev behind : List Labelled → (ℕ → List ℕ) → (position : ℕ) → List ℕ
 behind ns facts i = joined nothing either facts (successors_of (graph_of ns) i)
 
@@ -42,7 +42,7 @@ behind_is ns facts i n e r = ap (λ row. holds (joined nothing either facts row)
 pub graph_length : (ns : List Labelled) → length (graph_of ns) ≡ length ns
 graph_length ns = length-map ns (λ (n : Labelled). map (position_of ns) (successors n.node))
 
--- ---- a solution is live sets
+-- ---- a solution gives live sets
 
 pub solved : (strong : Bool) (ns : List Labelled) (rows : List (List ℕ)) → SolvesBy strong ns (facts_at nothing rows) → AreLiveAs strong ns (rows_at ns rows)
 solved strong ns rows solves label node e =
@@ -67,7 +67,7 @@ cut : List Labelled → Sets → ℕ → List ℕ
 cut ns other i = those (other (label_at ns i)) (bound ns)
 
 module _ (strong : Bool) (rtl : Rtl) (is : IsRtl rtl) (other : Sets) (live : AreLiveAs strong rtl.nodes other) where
-  -- what these sets have after a node is live after it, and is read by some node
+  -- what the sets that were cut down have after a node is live after it, and is read by some node
   held : (i : ℕ) (n : Labelled) → slice_get rtl.nodes i ≡ Some n → node_at rtl.nodes n.label ≡ Some n.node → (r : ℕ) → IsTrue (holds (behind rtl.nodes (cut rtl.nodes other) i) r) → IsTrue (live_behind other n.node r) × IsTrue (holds (bound rtl.nodes) r)
   unfolding cut
   held i n e here r h =
@@ -91,7 +91,7 @@ module _ (strong : Bool) (rtl : Rtl) (is : IsRtl rtl) (other : Sets) (live : Are
         | inr (after, d) ↦ (let b = held i n e here r after in those_in (other n.label) (bound rtl.nodes) r b.1 (own.inherited r b.0 d))
       ]
 
-  -- so what lies below each solution lies within them
+  -- so what lies below every solution lies within the other live sets
   pub within_other : (rows : List (List ℕ)) → length rows ≡ length rtl.nodes → ((facts : ℕ → List ℕ) → SolvesBy strong rtl.nodes facts → LiesUnder Below (facts_at nothing rows) facts) → LieWithin (rows_at rtl.nodes rows) other
   unfolding cut
   within_other rows long under label r h = go (node_at rtl.nodes label) refl
@@ -106,7 +106,7 @@ module _ (strong : Bool) (rtl : Rtl) (is : IsRtl rtl) (other : Sets) (live : Are
           let both = in_those (other (label_at rtl.nodes (position_of rtl.nodes label))) (bound rtl.nodes) r (under (cut rtl.nodes other) cut_solves (position_of rtl.nodes label) r h) in
           subst (λ l. IsTrue (other l r)) (label_of_position rtl.nodes label (subst IsSome (sym e) refl)) both.1
 
--- the solution that lies below every other
+-- the solution that lies below every other gives the least live sets
 pub least_solved : (strong : Bool) (rtl : Rtl) → IsRtl rtl → (rows : List (List ℕ)) → length rows ≡ length rtl.nodes → SolvesBy strong rtl.nodes (facts_at nothing rows)
     → ((facts : ℕ → List ℕ) → SolvesBy strong rtl.nodes facts → LiesUnder Below (facts_at nothing rows) facts) → AreLeastAs strong rtl.nodes (rows_at rtl.nodes rows)
 least_solved strong rtl is rows long solves under = record {

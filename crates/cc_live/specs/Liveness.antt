@@ -1,9 +1,10 @@
--- The least live sets of a function; strongly live sets, in which what only dead nodes read is not live; and a function without dead nodes.
+-- The least live sets of a function; strongly live sets, in which what only dead nodes read is not live; and a function without
+-- dead nodes.
 use Rattle.std.specs.Prelude.{◌≡◌, ◌≢◌, ℕ, List, Contains, Bool, false, IsTrue, Some}
 use Rattle.cc_rtl_language.specs.Rtl.{Rtl, Labelled, Node, node_at}
 use Rattle.cc_rtl_language.specs.Live.{Sets, AreLive, reads, result, live_behind, is_dead, with_nops}
 
--- the first sets hold no more than the second
+-- at each label the first set lies within the second
 abbrev pub LieWithin : (live other : Sets) → Type 0
 LieWithin live other = (label r : ℕ) → IsTrue (live label r) → IsTrue (other label r)
 
@@ -32,14 +33,14 @@ pub record AreLeastStronglyLive (nodes : List Labelled) (live : Sets) : Type 0 w
 abbrev pub without_dead : Sets → Rtl → Rtl
 without_dead live rtl = record rtl { nodes = with_nops (λ label node. is_dead live node) rtl.nodes }
 
--- What is left of a function without all that nobody needs: its nodes that are dead by its least strongly live sets, and only those, are
--- nops. These sets are then the least live sets of what is left.
+-- What is left of a function without all the nodes that nobody needs: those nodes that are dead by its least strongly live sets
+-- are nops, and only those. These sets are then the least live sets of what is left.
 pub record IsWithoutFaint (old new : Rtl) : Type 0 where
   pub live : Sets
   pub strongly : AreLeastStronglyLive old.nodes live
   pub is : new ≡ without_dead live old
   pub least : AreLeastLive new.nodes live
 
--- no node is dead, by any live sets
+-- no node is dead, whatever the live sets
 abbrev pub NothingIsDead : Rtl → Type 0
 NothingIsDead rtl = (live : Sets) → AreLive rtl.nodes live → (label : ℕ) (node : Node) → node_at rtl.nodes label ≡ Some node → is_dead live node ≡ false

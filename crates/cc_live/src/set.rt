@@ -29,14 +29,14 @@ impl Model for RegisterSet {
 }
 
 impl RegisterSet {
-    /// Its words: register r is bit r % 64 of word r / 64. No register past their end is in the set.
+    /// The words of the set: register r is bit r % 64 of word r / 64. No register past their end is in the set.
     pub fn words(&self) -> &[u64]
         ensures { result.now ≡ self.now }
     {
         self.row.words()
     }
 
-    /// Whether a register is in it.
+    /// Whether a register is in the set.
     pub fn contains(&self, register: u32) -> bool
         ensures { result ≡ holds self.now register }
     {
@@ -74,7 +74,7 @@ pub struct Liveness {
     sets: Vec<RegisterSet>,
 }
 
-// Written by hand, so that crates above call it and need not prove again how each part is dropped.
+// Written by hand, so that crates above use this proof and need not show again how each part is dropped.
 impl Drop for Liveness {
     fn drop(self) {
         let Liveness { sets } = self;

@@ -1,4 +1,5 @@
-// The step from the registers that are live after a node to those before it, and what the solver makes of it.
+// The step from the registers that are live after a node to those that are live before it, and the solver's answer with this
+// step.
 
 ghost use Rattle.std.specs.Prelude.{◌≡◌, ℕ, ◌||◌, ◌&&◌, ◌↔◌, not, length, IsTrue, IfOk};
 ghost use Rattle.cc_rtl_language.specs.Code.{node_of};
@@ -38,7 +39,7 @@ impl<'a> Transfer<RegisterSet> for Code<'a> {
     ghost monotone = { λ c. carries_up c.strong c.rtl.now.nodes };
 }
 
-/// What is live before a node, from what is live after it.
+/// What is live before a node, given what is live after it.
 fn live_before(
     alloc: Global,
     strong: bool,
@@ -65,7 +66,7 @@ fn drop_result(before: &mut RegisterSet, node: &Node)
     }
 }
 
-/// Whether a node needs nothing of what it reads: with `strong`, a pure one whose result is not live after it.
+/// Whether a node needs nothing of what it reads: with `strong`, that is a pure node whose result is not live after it.
 fn is_left_out(strong: bool, node: &Node, behind: &RegisterSet) -> bool
     ensures { result ≡ (strong && is_unread behind.now (pure_result_of (node_of node.now))) }
 {

@@ -3,7 +3,7 @@ use Rattle.std.proofs.Common.{◌≡◌, ℕ, zero, suc, ◌+◌, ◌<◌, List,
 use Rattle.std.specs.FinMap.{empty}
 use Rattle.std.specs.Prelude.{Result, Ok, Err, IfOk, IfErr}
 use Rattle.std.proofs.lemmas.List.{take_more}
-use Rattle.cc_library.specs.declared.command.LibraryCommand.{LibraryCommand}
+use Rattle.cc_library.specs.Change.{LibraryCommand}
 use Rattle.cc_library.specs.declared.fault.LibraryFault.{LibraryFault}
 use Rattle.cc_library.specs.declared.fault.LibraryFault.TheVariants.{Exists, Absent, Full, DiskFault, Closed, Damaged, NotALibrary, OutOfMemory}
 use Rattle.cc_library.specs.Apply.{Units, AreAccepted}
@@ -14,14 +14,14 @@ use Rattle.cc_library.proofs.Commands.{one_command}
 use Rattle.cc_log.specs.Commands.{AreRead}
 use Rattle.cc_log.specs.internal.Reading.{IsUnread}
 
--- one more at the end
+-- bodies and commands with one more of each at the end
 pub spelled_push : (bodies : List (List ℕ)) (commands : List LibraryCommand) (body : List ℕ) (command : LibraryCommand) → AreSpelled bodies commands → Spells body command → AreSpelled (bodies ++ body ∷ []) (commands ++ command ∷ [])
 spelled_push [] [] body command spelled one = (one, tt)
 spelled_push [] (c ∷ commands) body command spelled one = absurd spelled
 spelled_push (b ∷ bodies) [] body command spelled one = absurd spelled
 spelled_push (b ∷ bodies) (c ∷ commands) body command spelled one = (spelled.0, spelled_push bodies commands body command spelled.1 one)
 
--- one more body of a list
+-- one more body of a list spells one more command
 pub spelled_more : (bodies : List (List ℕ)) (i : ℕ) (body : List ℕ) (commands : List LibraryCommand) (command : LibraryCommand) → i < length bodies → body ≡ get_or bodies i body
     → AreSpelled (take i bodies) commands → Spells body command → AreSpelled (take (i + 1) bodies) (commands ++ command ∷ [])
 spelled_more bodies i body commands command within is so_far one =
@@ -67,12 +67,12 @@ unread_stand bodies Absent why = why
 unread_stand bodies Full why = why
 unread_stand bodies Closed why = why
 
--- a claim about each answer
+-- a claim about a result's answer follows from another one
 pub of_ok : {A F : Type 0} {P Q : A → Type 0} → ((a : A) → P a → Q a) → (r : Result A F) → IfOk r P → IfOk r Q
 of_ok step (Ok a) p = step a p
 of_ok step (Err f) p = tt
 
--- and one about each refusal
+-- a claim about a result's refusal follows from another one
 pub of_err : {A F : Type 0} {P Q : F → Type 0} → ((f : F) → P f → Q f) → (r : Result A F) → IfErr r P → IfErr r Q
 of_err step (Ok a) p = tt
 of_err step (Err f) p = step f p

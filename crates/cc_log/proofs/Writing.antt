@@ -1,12 +1,12 @@
--- The lines of commands that follow one another.
+-- The lines for commands that follow one another.
 use Rattle.std.proofs.Common.{◌≡◌, ℕ, ◌+◌, ◌<◌, List, [], ◌∷◌, ◌++◌, length, take, get_or, Option, sym, ap, subst, ◌∙◌, append_assoc, append-nil, length-take, arith}
 use Rattle.std.proofs.KnownBytes.{Appends-trans}
 use Rattle.std.proofs.lemmas.List.{take_more}
 use Rattle.std.specs.Io.KnownBytes.{Appends}
-use Rattle.cc_library.specs.declared.command.LibraryCommand.{LibraryCommand}
+use Rattle.cc_library.specs.Change.{LibraryCommand}
 use Rattle.cc_log.specs.Written.{line_text, lines_after, log_text}
 
--- one more command at the end
+-- the lines for commands with one more at the end
 lines_push : (name : Option (List ℕ)) (k : ℕ) (commands : List LibraryCommand) (command : LibraryCommand)
     → lines_after name k (commands ++ command ∷ []) ≡ lines_after name k commands ++ line_text name (k + length commands + 1) command
 lines_push name k [] command =
@@ -17,7 +17,7 @@ lines_push name k (c ∷ commands) command =
     ap (λ l. line_text name (k + 1) c ++ l) (lines_push name (k + 1) commands command ∙ ap (λ (n : ℕ). lines_after name (k + 1) commands ++ line_text name n command) same)
     ∙ sym (append_assoc (line_text name (k + 1) c) (lines_after name (k + 1) commands) (line_text name (k + length (c ∷ commands) + 1) command))
 
--- the lines of one more command
+-- the line for one more command is written
 pub one_more : (name : Option (List ℕ)) (a b c : Option (List ℕ)) (commands : List LibraryCommand) (i : ℕ) (command : LibraryCommand) → i < length commands → command ≡ get_or commands i command
     → Appends a b (log_text name (take i commands)) → Appends b c (line_text name (i + 1) command) → Appends a c (log_text name (take (i + 1) commands))
 one_more name a b c commands i command within is one two =

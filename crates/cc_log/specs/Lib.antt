@@ -1,6 +1,6 @@
--- The commands whose records a disk has, and what each stored.
+-- The commands whose records are on a disk, and what each stored.
 pub mod Commands
--- The lines that are written for them.
+-- The lines that are written for commands.
 pub mod Written
 -- Definitions for private contracts.
 pub mod internal

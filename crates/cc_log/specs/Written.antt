@@ -3,8 +3,8 @@ use Rattle.std.specs.Prelude.{ℕ, ◌+◌, Bool, true, List, [], ◌∷◌, ◌
 use Rattle.std.specs.Str.{bytes_eq}
 use Rattle.std.specs.Fmt.{decimal}
 use Rattle.cc_unit.specs.declared.unit.StoredUnit.{StoredUnit}
-use Rattle.cc_library.specs.declared.command.LibraryCommand.{LibraryCommand}
-use Rattle.cc_library.specs.declared.command.LibraryCommand.TheVariants.{Add, Replace, Withdraw}
+use Rattle.cc_library.specs.Change.{LibraryCommand}
+use Rattle.cc_library.specs.declared.command.Change.TheVariants.{Add, Replace, Withdraw}
 
 -- the name that a command is about
 abbrev pub name_of : LibraryCommand → List ℕ
@@ -12,12 +12,12 @@ name_of (Add name unit) = name
 name_of (Replace name unit) = name
 name_of (Withdraw name) = name
 
--- each command is wanted, or those about one name
+-- the command was asked for: every command is, or those about one name are
 abbrev pub is_asked : Option (List ℕ) → LibraryCommand → Bool
 is_asked None command = true
 is_asked (Some name) command = bytes_eq (name_of command) name
 
--- a name, the bytes of its source and the words of its code
+-- a name, the number of bytes of its unit's source, and the number of words of its unit's code
 abbrev pub unit_text : (name : List ℕ) → StoredUnit → List ℕ
 unit_text name unit = name ++ (codes " " ++ (decimal (length unit.source) ++ (codes " " ++ (decimal (length unit.image.code) ++ codes "\n"))))
 
@@ -27,15 +27,15 @@ command_text (Add name unit) = codes " add " ++ unit_text name unit
 command_text (Replace name unit) = codes " replace " ++ unit_text name unit
 command_text (Withdraw name) = codes " withdraw " ++ (name ++ codes "\n")
 
--- the line of the command with a given number, if it is wanted
+-- the line for the command with this number, if that command was asked for
 abbrev pub line_text : Option (List ℕ) → (number : ℕ) → LibraryCommand → List ℕ
 line_text name number command = if is_asked name command then decimal number ++ command_text command else []
 
--- the lines of commands, the first of which has the number after this one
+-- the lines for commands, the first of which has the number after this one
 abbrev pub lines_after : Option (List ℕ) → ℕ → List LibraryCommand → List ℕ
 lines_after name number [] = []
 lines_after name number (command ∷ commands) = line_text name (number + 1) command ++ lines_after name (number + 1) commands
 
--- the lines of all: line K is that of the K-th command
+-- the lines for all commands that were asked for: the line with the number K is for the K-th command
 abbrev pub log_text : Option (List ℕ) → List LibraryCommand → List ℕ
 log_text name commands = lines_after name 0 commands

@@ -28,7 +28,7 @@ fn spelled(alloc: Global, bodies: &[Body]) -> Result<Vec<LibraryCommand>, Librar
     Ok(commands)
 }
 
-// The commands that these bodies spell, if each is accepted in its turn.
+// The commands that these bodies spell, if the library accepts each in its turn.
 fn accepted(alloc: Global, bodies: &[Body]) -> Result<Vec<LibraryCommand>, LibraryFault>
     ensures commands { IfOk result (λ commands. AreRead bodies.now commands.items) }
     ensures refused { IfErr result (λ fault. ReplayFaults bodies.now fault) }
@@ -40,15 +40,15 @@ fn accepted(alloc: Global, bodies: &[Body]) -> Result<Vec<LibraryCommand>, Libra
     spelled(alloc, bodies)
 }
 
-/// The commands whose records a disk has, the oldest first. Each was accepted by the map that those before it made. The disk is handed
-/// back, and nothing is written to it.
+/// The commands whose records are on a disk, the oldest first. Each was accepted by the map that those before it made. The disk
+/// is handed back, and nothing is written to it.
 ///
-/// Refusals: those of `Library::open`, 35, 38, 37 and 40.
+/// Refusals: those of `Library::open`, which are 35, 38, 37 and 40.
 pub fn commands_on<D: Disk + Drop>(
     alloc: Global,
     disk: D,
 ) -> (Result<Vec<LibraryCommand>, LibraryFault>, D)
-    // On an honest disk.
+    // This holds if the disk is honest.
     ensures commands { IfOk result.0 (λ commands. IsTrue D.honest → HasCommands (D.seen disk) commands.items) }
     ensures refused { IfErr result.0 (λ fault. OpenFaults D.honest (D.seen disk) (D.failures disk) (D.failures result.1) fault) }
     ensures sound { OnOk result.0 (D.failures result.1 ≡ D.failures disk) }

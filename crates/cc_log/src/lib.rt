@@ -1,7 +1,7 @@
-//! The commands whose records a library's disk has: what was added, replaced and withdrawn since the last compaction.
+//! The commands whose records are on a library's disk: what was added, replaced and withdrawn since the last compaction.
 //!
-//! `commands` reads them, `stored` says what the command with a given number stored, `written` writes their lines. The crate hands out
-//! `commands_on`, `stored_at`, `write_log`, and the definitions that their contracts cite (`specs/`).
+//! `commands` reads them, `stored` says what the command with a given number stored, and `written` writes their lines. The
+//! crate exports `commands_on`, `stored_at`, `write_log`, and the definitions that their contracts cite (`specs/`).
 #![tactic(auto)]
 
 mod commands;

@@ -5,7 +5,7 @@ ghost use Rattle.cc_log.specs.Commands.{stored_at, stored_by};
 
 use cc_library::{LibraryCommand, Name, SharedUnit};
 
-// The unit that a command stored with this name, if it did.
+// The unit that a command stored under this name; `None` if it stored none under it.
 fn stored_by<'a>(command: &'a LibraryCommand, name: &Name) -> Option<&'a SharedUnit>
     ensures { option_map (λ unit. unit.now) result ≡ stored_by command.now name.now }
 {
@@ -21,7 +21,8 @@ fn stored_by<'a>(command: &'a LibraryCommand, name: &Name) -> Option<&'a SharedU
     }
 }
 
-/// The unit that the command with this number stored with this name, if it did. The first command has the number 1.
+/// The unit that the command with this number stored under this name; `None` if it stored none under it. The first command has
+/// the number 1.
 pub fn stored_at<'a>(
     commands: &'a [LibraryCommand],
     name: &Name,

@@ -18,7 +18,7 @@ fn name_of(command: &LibraryCommand) -> &Name
     }
 }
 
-// Whether the line of a command is wanted: each, or those about one name.
+// Whether the line for a command was asked for: every line, or those for commands about one name.
 fn is_asked(name: Option<&Name>, command: &LibraryCommand) -> bool
     ensures { result ≡ is_asked (option_map (λ n. n.now) name.entry) command.now }
 {
@@ -28,7 +28,7 @@ fn is_asked(name: Option<&Name>, command: &LibraryCommand) -> bool
     }
 }
 
-// Writes a name, the number of bytes of its source, and the number of words of its code.
+// Writes the name of a unit, the number of bytes of its source, and the number of words of its code.
 #[tactic(auto, using(cc_answers::proofs::Writing::written_on))]
 fn write_unit<W: Write>(name: &Name, unit: &SharedUnit, writer: &mut W) -> io::Result<()>
     ensures { OnOk result (Appends (W.contents writer.old) (W.contents writer.new) (unit_text name.now unit.now)) }
@@ -62,7 +62,7 @@ fn write_command<W: Write>(command: &LibraryCommand, writer: &mut W) -> io::Resu
     }
 }
 
-// Writes the line of a command, if it is wanted.
+// Writes the line for a command, if that command was asked for.
 #[tactic(auto, using(cc_answers::proofs::Writing::written_on))]
 fn write_line<W: Write>(
     number: usize,
@@ -79,8 +79,9 @@ fn write_line<W: Write>(
     write_command(command, writer)
 }
 
-/// Writes the line of each command, or of each that is about this name: its number from 1 on, what it does, and for a unit the number of
-/// bytes of its source and the number of words of its code. Err: the writer failed.
+/// Writes a line for each command, or, if a name is given, for each command about that name. A line has the command's number,
+/// counted from 1; what the command does; and for a unit the number of bytes of its source and the number of words of its code.
+/// Fails if the writer failed.
 pub fn write_log<W: Write>(
     commands: &[LibraryCommand],
     name: Option<&Name>,

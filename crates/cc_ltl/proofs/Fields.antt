@@ -1,5 +1,5 @@
--- What is read is what was written, and what was written is read again: for each kind of field, up to the whole function. Fields are
--- combined by `both` and `mapped`, so that each move and each operation is one line.
+-- What is read is what was written, and what was written is read again: this is shown for each kind of field, up to the whole
+-- function. Fields are combined with `both` and `mapped`, so that each move and each operation takes one line.
 use Rattle.std.proofs.Common.{◌≡◌, ℕ, zero, suc, ◌+◌, ◌^◌, ◌<◌, ◌≤◌, Bool, true, false, ◌&&◌, cond, ltb, eqb, List, [], ◌∷◌, ◌++◌, length, get_or, map, take, drop, Option, Some, None, refl, sym, ap, subst, ◌∙◌, append_assoc, arith, ◌⊎◌, inl, inr}
 use Rattle.std.specs.Prelude.{nat_le, slice_get, option_map}
 use Rattle.std.specs.List.{flat_map, AllByRecursion}
@@ -22,26 +22,26 @@ use Rattle.cc_ltl.specs.internal.Reading.{◌>>=◌, Reader, both, mapped, times
 
 -- ---- tools
 
--- each is a byte
+-- each number in the list is a byte
 abbrev pub AreBytes : List ℕ → Type 0
 AreBytes bytes = AllByRecursion (λ b. b < 256) bytes
 
--- the value of a step that found something
+-- if two steps found something, the first one did, and the second one did with its value
 pub bind_some : {A B : Type 0} (o : Option A) (f : A → Option B) (y : B) → (o >>= f) ≡ Some y → (x : A) × (o ≡ Some x) × (f x ≡ Some y)
 bind_some (Some x) f y e = (x, refl, e)
 bind_some None f y e = absurd (none-some y e)
 
--- which of two
+-- which of two options gave the value
 pub which : {A : Type 0} (b : Bool) (x y : Option A) (z : A) → cond b x y ≡ Some z → ((b ≡ true) × (x ≡ Some z)) ⊎ ((b ≡ false) × (y ≡ Some z))
 which true x y z e = inl (refl, e)
 which false x y z e = inr (refl, e)
 
--- a test that had to hold
+-- if there is a value, the test held
 pub when_some : {A : Type 0} (b : Bool) (o : Option A) (y : A) → cond b o None ≡ Some y → (b ≡ true) × (o ≡ Some y)
 when_some true o y e = (refl, e)
 when_some false o y e = absurd (none-some y e)
 
--- a test that had to fail
+-- if there is a value, the test failed
 unless_some : {A : Type 0} (b : Bool) (x y : A) → cond b None (Some x) ≡ Some y → (b ≡ false) × (x ≡ y)
 unless_some true x y e = absurd (none-some y e)
 unless_some false x y e = (refl, same_Some x y e)
@@ -65,7 +65,7 @@ drop-bytes zero bytes are = are
 drop-bytes (suc k) [] are = tt
 drop-bytes (suc k) (b ∷ bytes) are = drop-bytes k bytes are.1
 
--- what a reader took from the start
+-- the reader took `text` from the start of the bytes, and left `rest`
 pub record Takes (bytes text rest : List ℕ) : Type 0 where
   pub parts : bytes ≡ text ++ rest
   pub are : AreBytes rest
@@ -73,7 +73,7 @@ pub record Takes (bytes text rest : List ℕ) : Type 0 where
 Takes-then : (a x b y c : List ℕ) → Takes a x b → Takes b y c → Takes a (x ++ y) c
 Takes-then a x b y c p q = record { parts = p.parts ∙ ap (λ (t : List ℕ). x ++ t) q.parts ∙ sym (append_assoc x y c); are = q.are }
 
--- reading takes what writing gives, and reads again each good value that was written
+-- a field: reading takes what writing gives, and each good value that was written is read again
 pub record IsField {X : Type 0} (read : Reader X) (write : X → List ℕ) (Good : X → Type 0) : Type 0 where
   pub takes : (bytes : List ℕ) (x : X) (rest : List ℕ) → AreBytes bytes → read bytes ≡ Some (x, rest) → Takes bytes (write x) rest
   pub again : (x : X) (rest : List ℕ) → Good x → read (write x ++ rest) ≡ Some (x, rest)
@@ -105,7 +105,7 @@ mapped_takes {A} {B} f s P p make bytes y rest are e =
 pub mapped_again : {A B : Type 0} (f : Reader A) (s : A → List ℕ) (P : A → Type 0) → IsField f s P → (make : A → B) (a : A) (rest : List ℕ) → P a → mapped make f (s a ++ rest) ≡ Some (make a, rest)
 mapped_again f s P p make a rest good = rw (p.again a rest good) refl
 
--- a field a number of times
+-- a field that comes n times
 
 times_take : {A : Type 0} (f : Reader A) (s : A → List ℕ) (P : A → Type 0) → IsField f s P → (n : ℕ) (bytes : List ℕ) (xs : List A) (rest : List ℕ) → AreBytes bytes
     → times f n bytes ≡ Some (xs, rest) → Takes bytes (flat_map s xs) rest × (length xs ≡ n)
@@ -128,7 +128,7 @@ times_again {A} f s P p (x ∷ xs) rest good =
     let regrouped : flat_map s (x ∷ xs) ++ rest ≡ s x ++ (flat_map s xs ++ rest) = ap (λ (t : List ℕ). t ++ rest) (flat_map-cons s x xs) ∙ append_assoc (s x) (flat_map s xs) rest in
     ap (times f (suc (length xs))) regrouped ∙ rw (p.again x (flat_map s xs ++ rest) good.0, times_again f s P p xs rest good.1) refl
 
--- a number, and what is read that many times
+-- a number, followed by what is read that many times
 abbrev counted : {A : Type 0} → Reader ℕ → Reader A → Reader (List A)
 counted count f bytes = count bytes >>= λ n. times f n.0 n.1
 
@@ -157,7 +157,7 @@ pub byte_takes : (bytes : List ℕ) (b : ℕ) (rest : List ℕ) → AreBytes byt
 byte_takes [] b rest are e = absurd (none-some (b, rest) e)
 byte_takes (a ∷ bytes) b rest are e = subst (λ (y : ℕ × List ℕ). Takes (a ∷ bytes) (y.0 ∷ []) y.1) (same_Some (a, bytes) (b, rest) e) (record { parts = refl; are = are.1 })
 
--- k bytes that spell a number below a limit
+-- k bytes spell a number below the limit
 record IsWide (w : Width) (k limit : ℕ) : Type 0 where
   len : (n : ℕ) → length (to_le_bytes w n) ≡ k
   back : (bytes : List ℕ) (n : ℕ) → length bytes ≡ k → AreBytes bytes → n ≡ from_le_bytes w bytes → to_le_bytes w n ≡ bytes
@@ -240,7 +240,7 @@ number_at zero a k m e = absurd (none-some m e)
 number_at (suc n) a zero m e = sym (same_Some a m e) ∙ omega arith
 number_at (suc n) a (suc k) m e = number_at n (suc a) k m e ∙ omega arith
 
--- one of a list in which each element's number is its position
+-- an element of a list in which each element's number is its position
 one_of_field : {A : Type 0} (xs : List A) (number : A → ℕ) (n : ℕ) → map number xs ≡ numbers_from 0 n → ((x : A) → slice_get xs (number x) ≡ Some x) → IsField (one_of xs) (λ x. number x ∷ []) (λ x. Unit {0})
 one_of_field {A} xs number n all at = record {
   takes = λ bytes x rest are e.

@@ -15,7 +15,7 @@ use Rattle.cc_ltl.specs.declared.block.Block.{Block}
 use Rattle.cc_ltl.specs.declared.location.Location.TheVariants.{Register}
 use Rattle.cc_ltl.specs.Ltl.{Ltl, Configuration, Locations, operate, moved, block_at, ltl_move, ltl_output}
 
--- a move that goes on, or calls, was made from something
+-- a move that goes on, or that calls, was made from a value that is there
 tried_goes : {C X : Type 0} (x : Option X) (go : X → Moving C) (d : C) → tried x go ≡ Goes d → (y : X) × (x ≡ Some y) × (go y ≡ Goes d)
 tried_goes (Some y) go d e = (y, refl, e)
 tried_goes None go d e = absurd cc
@@ -30,7 +30,7 @@ GrowsTo world d = IsPrefixOf world.output d.world.output
 same_goes : (c d : Configuration) → Goes c ≡ Goes d → c ≡ d
 same_goes c d e = cc
 
--- the output stays
+-- a move that leaves the output as it was does not shorten it
 keeps : (world : World) (c d : Configuration) → c.world.output ≡ world.output → Goes c ≡ Goes d → GrowsTo world d
 keeps world c d same e = subst (GrowsTo world) (same_goes c d e) ([], rw same (append-nil world.output))
 
@@ -57,7 +57,7 @@ operate_grows arity (Write next) after at world words d e = subst (GrowsTo world
 operate_grows arity (Branch from if_nonzero if_zero) after at world words d e = keeps world _ d refl e
 operate_grows arity Return after at world words d e = absurd cc
 
--- what a call hands over, and the output after its answer
+-- a call hands over the output so far, and after its answer the output is the answer's
 abbrev CallsWith : World → Question → (Answer → Configuration) → Type 0
 CallsWith world q resume = (q.world.output ≡ world.output) × ((a : Answer) → (resume a).world.output ≡ a.world.output)
 

@@ -1,4 +1,4 @@
--- Testing a list from its start: the rest has the property exactly if the whole list has it.
+-- Testing a list from its start: if all tests so far held, the rest has the property exactly if the whole list has it.
 pub mod Checking
 -- Reading a number of values one after the other, as a loop does.
 pub mod Times

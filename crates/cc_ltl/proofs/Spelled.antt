@@ -21,9 +21,9 @@ use Rattle.cc_ltl.specs.internal.Reading.{◌>>=◌, Reader, both, mapped, nothi
 use Rattle.cc_ltl.proofs.Times.{IsFault}
 use Rattle.cc_ltl.proofs.Fields.{AreBytes, bind_some, which, when_some, Takes, IsField, both_field, mapped_takes, mapped_again, counted_field, nothing_field, half_field, word_field, register_field, slot_field, slots_field, unary_field, binary_field, width_field}
 
--- ---- a number in front of the fields
+-- ---- a number before the fields
 
--- what a kind reads is spelled after its number
+-- what the reader of a kind reads is spelled after the kind's number
 abbrev IsKind : {B : Type 0} → (B → List ℕ) → ℕ × Reader B → Type 0
 IsKind {B} spell kind = (bytes : List ℕ) (y : B) (rest : List ℕ) → AreBytes bytes → kind.1 bytes ≡ Some (y, rest) → Takes (kind.0 ∷ bytes) (spell y) rest
 
@@ -42,7 +42,7 @@ chosen_takes spell (kind ∷ kinds) all number bytes y rest are e =
       | inr p ↦ chosen_takes spell kinds all.1 number bytes y rest are p.1
     ]
 
--- a number, and the reader that belongs to it
+-- a number, followed by what the reader that belongs to it reads
 numbered_takes : {B : Type 0} (spell : B → List ℕ) (kinds : List (ℕ × Reader B)) → AllByRecursion (IsKind spell) kinds → (bytes : List ℕ) (y : B) (rest : List ℕ) → AreBytes bytes
     → (byte_in bytes >>= λ k. chosen kinds k.0 k.1) ≡ Some (y, rest) → Takes bytes (spell y) rest
 numbered_takes spell kinds all [] y rest are e = absurd (none-some (y, rest) e)
@@ -184,7 +184,7 @@ operation_field = record { takes = numbered_takes operation_bytes operation_kind
 
 -- ---- blocks
 
--- a value made from fields, from which the fields can be taken back
+-- a value that is made from fields, and from which the fields can be taken back, is a field
 remade_field : {A B : Type 0} (f : Reader A) (s : A → List ℕ) (P : A → Type 0) → IsField f s P → (make : A → B) (back : B → A) → ((b : B) → make (back b) ≡ b) → (spell : B → List ℕ) → ((a : A) → spell (make a) ≡ s a)
     → IsField (mapped make f) spell (λ b. P (back b))
 remade_field {A} {B} f s P p make back same spell spelled = record {
@@ -232,7 +232,7 @@ function_field most few =
     remade_field (both slots_in (both word_in blocks_in)) (λ x. word_bytes x.0 ++ (word_bytes x.1.0 ++ blocks_bytes x.1.1)) (λ x. (x.0 ≤ most_slots) × (IsWord x.1.0 × AreBlocks most x.1.1)) all
     (λ x. record { slots = x.0; entry = x.1.0; blocks = x.1.1 }) (λ l. (l.slots, (l.entry, l.blocks))) (λ l. refl) ltl_bytes (λ a. refl)
 
--- what is read is spelled
+-- if a function is read from bytes, the bytes are its spelling
 pub parts_take : (bytes : List ℕ) (l : Ltl) → AreBytes bytes → parts_in bytes ≡ Some l → bytes ≡ ltl_bytes l
 unfolding parts_in
 parts_take bytes l are e =
@@ -247,7 +247,7 @@ each_fits : (slots : ℕ) (blocks : List Block) → AllByRecursion (IsBlock slot
 each_fits slots [] are = tt
 each_fits slots (b ∷ blocks) are = ((are.0.label, (are.0.before, (are.0.operation, are.0.after))), each_fits slots blocks are.1)
 
--- what is spelled is read
+-- if bytes spell a function, it is read from them
 pub parts_again : (bytes : List ℕ) (l : Ltl) → Spells bytes l → parts_in bytes ≡ Some l
 unfolding parts_in
 parts_again bytes l spells =
@@ -263,15 +263,15 @@ one_function bytes l m p q = same_Some l m (sym (parts_again bytes l p) ∙ part
 
 -- ---- what reading answers
 
--- the parts fit each other
+-- if the parts that were read make a function, the bytes spell it
 pub is_read : (bytes : List ℕ) (l m : Ltl) → AreBytes bytes → parts_in bytes ≡ Some m → IsLtl m → l ≡ m → Spells bytes l
 is_read bytes l m are e is same = subst (Spells bytes) (sym same) (record { spelled = parts_take bytes m are e; is_ltl = is })
 
--- they don't
+-- if the parts that were read make no function, the bytes spell none
 pub is_refused : (bytes : List ℕ) (m : Ltl) → parts_in bytes ≡ Some m → (IsLtl m → ⊥) → (l : Ltl) → Spells bytes l → ⊥
 is_refused bytes m e is_not l spells = is_not (subst IsLtl (same_Some l m (sym (parts_again bytes l spells) ∙ e)) spells.is_ltl)
 
--- there are no parts
+-- if no parts are read, the bytes spell no function
 pub is_fault : (bytes : List ℕ) (fault : LtlFault) → IsFault fault (parts_in bytes) → ReadAnswers bytes (Err fault)
 is_fault bytes Damaged none = λ l spells. none-some l (sym none ∙ parts_again bytes l spells)
 is_fault bytes OutOfMemory none = tt

@@ -1,11 +1,12 @@
--- Reading a number of values one after the other, as a loop does: what was read comes before what is still to be read.
+-- Reading a number of values one after the other, as a loop does: the values read so far come before those that are still to be
+-- read.
 use Rattle.std.proofs.Common.{◌≡◌, ℕ, suc, ◌-◌, ◌+◌, ◌≤◌, ◌<◌, List, [], ◌∷◌, ◌++◌, Option, Some, None, refl, sym, ap, ◌∙◌, append_assoc, arith}
 use Rattle.std.proofs.lemmas.List.{append-nil}
 use Rattle.cc_ltl.specs.declared.fault.LtlFault.{LtlFault}
 use Rattle.cc_ltl.specs.declared.fault.LtlFault.TheVariants.{Damaged, OutOfMemory}
 use Rattle.cc_ltl.specs.internal.Reading.{◌>>=◌, Reader, times}
 
--- what an error says about what is read
+-- what an error says about what the definition reads
 abbrev pub IsFault : {Y : Type 0} → LtlFault → Option Y → Type 0
 IsFault Damaged read = read ≡ None
 IsFault OutOfMemory read = Unit {0}

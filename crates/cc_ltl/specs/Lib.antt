@@ -1,4 +1,4 @@
--- the registers to which code may be allocated, and the most slots
+-- the registers that the allocator may use, and the largest number of slots
 pub mod Registers
 -- the functions of LTL, and what one block does
 pub mod Ltl
@@ -8,7 +8,7 @@ pub mod Bytes
 pub mod Fault
 -- a function as text
 pub mod Listing
--- for proofs and private contracts only
+-- definitions for proofs and private contracts only
 pub mod internal
--- Worked examples, each by computation. No contract depends on them.
+-- Worked examples, computed. No contract depends on them.
 pub mod rows

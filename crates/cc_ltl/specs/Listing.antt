@@ -1,4 +1,4 @@
--- A function as text: its slots and its entry, and a line for each block.
+-- A function as text: a line with its slots and its entry, and a line for each block.
 use Rattle.std.specs.Prelude.{ℕ, List, [], ◌++◌, codes}
 use Rattle.std.specs.List.{flat_map}
 use Rattle.std.specs.Fmt.{decimal}
@@ -18,7 +18,7 @@ register_text r = codes "x" ++ decimal r
 abbrev pub slot_text : ℕ → List ℕ
 slot_text i = codes "slot" ++ decimal i
 
--- the target, and what is put there
+-- the target, then what is put there
 abbrev pub assigned : (to from : List ℕ) → List ℕ
 assigned to from = to ++ codes " = " ++ from
 
@@ -27,7 +27,7 @@ move_text (Between to from) = assigned (register_text to) (register_text from)
 move_text (Reload to slot) = assigned (register_text to) (slot_text slot)
 move_text (Spill slot from) = assigned (slot_text slot) (register_text from)
 
--- an element of an object, with `byte` in front if it is a byte
+-- an element of an object, with the word `byte` before it if the elements are bytes
 abbrev pub element_text : Width → (object index : ℕ) → List ℕ
 element_text width object index = width_text width ++ codes "object" ++ decimal object ++ codes "[" ++ register_text index ++ codes "]"
 
@@ -45,7 +45,7 @@ operation_text (Write next) = codes "write"
 operation_text (Branch from if_nonzero if_zero) = codes "branch " ++ register_text from
 operation_text Return = codes "return"
 
--- the blocks that come next; after a branch, the one for a word that is not zero, then the one for zero
+-- the labels of the blocks that come next; after a branch, first the one for a word that is not zero, then the one for zero
 abbrev pub next_text : Operation → List ℕ
 next_text (Nop next) = codes " -> " ++ decimal next
 next_text (Const to word next) = codes " -> " ++ decimal next
@@ -59,7 +59,7 @@ next_text (Write next) = codes " -> " ++ decimal next
 next_text (Branch from if_nonzero if_zero) = codes " -> " ++ decimal if_nonzero ++ codes ", " ++ decimal if_zero
 next_text Return = []
 
--- a block: its label, what it does in order, where it goes
+-- a block: its label, what it does, in order, and where it goes
 unfoldable pub block_text : Block → List ℕ
 block_text block =
     decimal block.label ++ codes ": " ++ flat_map (λ (m : Move). move_text m ++ codes "; ") block.before ++ operation_text block.operation

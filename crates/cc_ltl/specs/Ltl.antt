@@ -14,7 +14,7 @@ use Rattle.cc_ltl.specs.declared.operation.Operation.{Operation}
 use Rattle.cc_ltl.specs.declared.operation.Operation.TheVariants.{Nop, Const, Unary, Binary, Load, Store, Call, Read, Write, Branch, Return}
 use Rattle.cc_ltl.specs.declared.block.Block.{Block}
 
--- a function: its number of slots, the label of its first block, its blocks
+-- a function: its number of slots, the label of its first block, and its blocks
 pub record Ltl : Type 0 where
   pub slots : ℕ
   pub entry : ℕ
@@ -26,7 +26,7 @@ pub record Ltl : Type 0 where
 abbrev pub IsWord : ℕ → Type 0
 IsWord n = n < 2 ^ 32
 
--- a move of a function with this many slots
+-- this is a move of a function with this many slots
 abbrev pub IsMove : (slots : ℕ) → Move → Type 0
 IsMove slots (Between to from) = IsAllocatable to × IsAllocatable from
 IsMove slots (Reload to slot) = IsAllocatable to × (slot < slots)
@@ -48,13 +48,13 @@ IsOperation (Write next) = IsWord next
 IsOperation (Branch from if_nonzero if_zero) = IsAllocatable from × IsWord if_nonzero × IsWord if_zero
 IsOperation Return = Unit {0}
 
--- it has exactly one next block: it is no branch and no return
+-- the operation has exactly one next block: it is no branch and no return
 abbrev pub goes_on : Operation → Bool
 goes_on (Branch from if_nonzero if_zero) = false
 goes_on Return = false
 goes_on operation = true
 
--- no move comes after a branch or a return
+-- a block of a function with this many slots; no move comes after a branch or a return
 pub record IsBlock (slots : ℕ) (block : Block) : Type 0 where
   pub label : IsWord block.label
   pub before : AreMoves slots block.before
@@ -62,7 +62,7 @@ pub record IsBlock (slots : ℕ) (block : Block) : Type 0 where
   pub after : AreMoves slots block.after
   pub nothing_behind : goes_on block.operation ≡ false → block.after ≡ []
 
--- the labels ascend
+-- the labels of the blocks ascend
 abbrev pub IsBelowFirst : (label : ℕ) → List Block → Type 0
 IsBelowFirst label [] = Unit {0}
 IsBelowFirst label (block ∷ blocks) = label < block.label
@@ -71,7 +71,7 @@ abbrev pub Ascend : List Block → Type 0
 Ascend [] = Unit {0}
 Ascend (block ∷ blocks) = IsBelowFirst block.label blocks × Ascend blocks
 
--- the functions of LTL: those that the Rust type holds, and that bytes can spell
+-- the functions of LTL: those that are values of the Rust type, and that bytes can spell
 pub record IsLtl (ltl : Ltl) : Type 0 where
   pub slots : ltl.slots ≤ most_slots
   pub entry : IsWord ltl.entry
@@ -85,8 +85,8 @@ pub record IsLtl (ltl : Ltl) : Type 0 where
 abbrev pub Locations : Type 0
 Locations = Location → ℕ
 
--- the state of a run: the label of the next block, the words of the locations, the shared world, and the words that unknown locations will
--- hold
+-- the state of a run: the label of the next block, the words of the locations, the shared world, and the words that will come
+-- in locations whose word is unknown
 pub record Configuration : Type 0 where
   pub label : ℕ
   pub locations : Locations
@@ -113,12 +113,12 @@ source (Between to from) = Register from
 source (Reload to slot) = Slot slot
 source (Spill slot from) = Register from
 
--- moves, one after the other
+-- the locations after moves, made one after the other
 abbrev pub moved : List Move → Locations → Locations
 moved [] at = at
 moved (m ∷ ms) at = moved ms (put (target m) (at (source m)) at)
 
--- arguments are in x10 and up, a result is in x10; a read and a write destroy x17
+-- arguments are in x10 and the registers after it, and a result is in x10; a read and a write destroy x17
 abbrev pub first_argument : ℕ
 first_argument = 10
 
@@ -133,20 +133,20 @@ abbrev pub words_from : (register n : ℕ) → Locations → List ℕ
 words_from register zero at = []
 words_from register (suc n) at = at (Register register) ∷ words_from (suc register) n at
 
--- each location after a call, except the result's
+-- each location after a call, before the result is put in its place
 abbrev pub after_call : (words : List ℕ) → Locations → Locations
 after_call words at (Register r) = register_after_call words r (at (Register r))
 after_call words at (Slot i) = at (Slot i)
 
--- going on to a block, through the moves after the operation
+-- the run goes on to a block, through the moves after the operation
 abbrev pub to_block : (label : ℕ) → (after : List Move) → Locations → World → (words : List ℕ) → Configuration
 to_block label after at world words = record { label = label; locations = moved after at; world = world; words = words }
 
--- after a call's answer: what the call destroys is unknown, and its value is the result
+-- the run after a call's answer: what the call destroys is unknown, and the call's value is in the place of the result
 abbrev pub block_after_answer : (next : ℕ) → (after : List Move) → Locations → (words : List ℕ) → Answer → Configuration
 block_after_answer next after at words a = to_block next after (put result_location a.value (after_call words at)) a.world (left_after_call words)
 
--- an operation and the moves after it; `arity` says how many parameters each function has
+-- what an operation and the moves after it do; `arity` says how many parameters each function has
 abbrev pub operate : (arity : ℕ → ℕ) → Operation → (after : List Move) → Locations → World → (words : List ℕ) → Moving Configuration
 operate arity (Nop next) after at world words = Goes (to_block next after at world words)
 operate arity (Const to word next) after at world words = Goes (to_block next after (put (Register to) word at) world words)
@@ -167,12 +167,12 @@ operate arity (Write next) after at world words =
 operate arity (Branch from if_nonzero if_zero) after at world words = Goes (to_block (if at (Register from) == 0 then if_zero else if_nonzero) after at world words)
 operate arity Return after at world words = Returns (record { value = at result_location; world = world })
 
--- the block of a label
+-- the block with this label
 abbrev pub block_at : List Block → (label : ℕ) → Option Block
 block_at [] label = None
 block_at (block ∷ blocks) label = if block.label == label then Some block else block_at blocks label
 
--- one block is one move of the run: the moves before, the operation, the moves after
+-- one block is one move of the run: the moves before, the operation, and the moves after
 abbrev pub ltl_move : (arity : ℕ → ℕ) → Ltl → Configuration → Moving Configuration
 ltl_move arity ltl c =
     tried (block_at ltl.blocks c.label) (λ (block : Block). operate arity block.operation block.after (moved block.before c.locations) c.world c.words)
@@ -181,7 +181,7 @@ ltl_move arity ltl c =
 abbrev pub ltl_output : Configuration → List ℕ
 ltl_output c = c.world.output
 
--- at entry x(10+i) holds argument i, if there is one; all else is unknown
+-- at entry x(10+i) holds argument i, if there is one; everything else is unknown
 abbrev pub at_entry : (slots : ℕ) → (words arguments : List ℕ) → Locations
 at_entry slots words arguments (Register r) = if nat_le first_argument r then get_or arguments (r - first_argument) (unknown_register words r) else unknown_register words r
 at_entry slots words arguments (Slot i) = unknown_slot slots words i

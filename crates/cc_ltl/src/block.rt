@@ -1,19 +1,19 @@
-// A block: moves, one operation, moves.
+// A block: moves, then one operation, then moves.
 
 ghost use Rattle.std.specs.Prelude.{◌≡◌, ◌<◌, ◌^◌, ◌↔◌, length, IsOk, MatchResult};
 
 use crate::operation::{Move, Operation};
 use std::marker::Model;
 
-/// At most this many moves are before an operation, and at most as many after it.
+/// A block has at most this many moves before its operation, and at most this many after it.
 pub const MOST_MOVES: usize = 65_535;
 
-/// At most 65,535 moves, made one after the other. Contracts see their list.
+/// At most 65,535 moves, which are made one after the other. Contracts see the list of moves.
 pub struct Moves {
     moves: Vec<Move>,
 }
 
-// Written by hand, so that crates above call it and need not prove again how each part is dropped.
+// Written by hand, so that crates above can call it and need not prove again how each part is dropped.
 impl Drop for Moves {
     fn drop(self) {
         let Moves { moves } = self;
@@ -32,7 +32,7 @@ impl Model for Moves {
 }
 
 impl Moves {
-    /// These moves. Err: the moves back, if there are more than 65,535. It takes no memory.
+    /// Makes a list of these moves. If there are more than 65,535, it fails and hands the moves back. It takes no memory.
     pub fn new(moves: Vec<Move>) -> Result<Self, Vec<Move>>
         ensures fits { IsOk result ↔ (length moves.items < 2 ^ 16) }
         ensures hands_back { MatchResult result (λ made. made ≡ moves.items) (λ back. back ≡ moves) }
@@ -52,7 +52,7 @@ impl Moves {
     }
 }
 
-/// One step of a function: the moves before, the operation, the moves after.
+/// One step of a function: the moves before, the operation, and the moves after.
 #[derive(Drop)]
 pub struct Block {
     pub label: u32,

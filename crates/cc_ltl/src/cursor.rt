@@ -1,5 +1,5 @@
-// The bytes of a function that are still to be read. Each step reads one field off their front and leaves the bytes after it, or finds no
-// field.
+// The bytes of a function that are still to be read. Each step reads one field from their front and leaves the bytes after it,
+// or finds no field there.
 
 ghost use Rattle.std.specs.Prelude.{◌≡◌, ◌==◌, length};
 ghost use Rattle.cc_ltl.specs.internal.Reading.{Reads, binary_in, byte_in, half_in, register_in, slot_in, unary_in, width_in, word_in};
@@ -9,7 +9,7 @@ use cc_words::{Binary, Unary, Width};
 use std::marker::Model;
 
 // ORDER Unary
-// The operators, in the order of their numbers.
+// The operators of one operand and of two, each list in the order of their numbers.
 const UNARY: [Unary; 3] = [Unary::Neg, Unary::Complement, Unary::IsZero];
 
 // ORDER Binary

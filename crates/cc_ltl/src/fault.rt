@@ -1,14 +1,14 @@
-// Why bytes are not a function.
+// Why bytes do not spell a function.
 
 ghost use Rattle.std.specs.Prelude.{◌≡◌};
 
 use std::alloc::{AllocError, AllocFailed};
 use thiserror::Error;
 
-/// Why bytes are not a function of LTL.
+/// Why bytes do not spell a function of LTL.
 #[derive(Clone, Copy, Debug, Error)]
 pub enum LtlFault {
-    /// 37: the bytes are not exactly one function.
+    /// 37: the bytes spell no function.
     #[error("Damaged")]
     Damaged,
     /// 40: memory ran out.

@@ -11,8 +11,8 @@ pub fn spellings_are_determined()
     ensures one_spelling { (a b : List ℕ) (l : Function) → Spells a l → Spells b l → a ≡ b }
 {}
 
-/// The blocks of a function are moves of a layer: output only grows, and a call hands over the output so far and goes on with the output of
-/// its answer.
+/// The blocks of a function are moves of a layer: output only grows; a call hands over the output so far, and the run goes on
+/// with the output of the call's answer.
 pub fn ltl_is_a_layer()
     ensures { (arity : ℕ → ℕ) (l : Function) → IsLayer (ltl_move arity l) ltl_output }
 {}

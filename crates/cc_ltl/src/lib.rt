@@ -1,9 +1,10 @@
-//! LTL: the code of a function over machine registers and slots. One block represents one node of RTL: moves, one operation on registers,
-//! moves. Its functions come from sources that are not trusted: an allocator, or bytes. Whether a function does what the RTL does is for
-//! the validator to check.
+//! LTL: the code of a function over machine registers and slots. One block represents one node of RTL: moves, one operation on
+//! registers, moves. LTL functions come from sources that are not trusted: an allocator, or bytes. The validator checks whether
+//! a function does what the RTL does.
 //!
-//! `location` is where a word can be, `operation` and `block` what a block does, `ltl` the functions, `writing` and `reading` (by a
-//! `cursor`) their bytes, `listing` their text, `laws` the laws of the definitions. `specs/Ltl.antt` defines what a block does.
+//! `location` is where a word can be, `operation` and `block` are what a block does, and `ltl` has the functions. `writing`
+//! makes their bytes, `reading` reads them (with a `cursor`), and `listing` makes their text. `laws` has the laws of the
+//! definitions. `specs/Ltl.antt` defines what a block does.
 #![tactic(auto)]
 
 mod block;

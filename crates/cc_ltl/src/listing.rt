@@ -1,4 +1,4 @@
-// A function as text: its slots and its entry, and a line for each block.
+// A function as text: a line with its slots and its entry, and a line for each block.
 
 ghost use Rattle.std.specs.Prelude.{Some};
 ghost use Rattle.cc_ltl.specs.Listing.{register_text, slot_text, move_text, operation_text, next_text, block_text, ltl_text};
@@ -27,7 +27,7 @@ impl fmt::Display for Slot {
     }
 }
 
-/// The target, and what is put there: `x8 = slot0`.
+/// The target, then what is put there: `x8 = slot0`.
 impl fmt::Display for Move {
     ghost output = { λ m. Some (move_text m) };
 
@@ -96,7 +96,7 @@ impl fmt::Display for Operation {
     }
 }
 
-// The blocks that come next.
+// The labels of the blocks that come next.
 #[derive(Clone, Copy)]
 struct Next(Operation);
 
@@ -124,7 +124,8 @@ impl fmt::Display for Next {
     }
 }
 
-/// The label, the moves and the operation in their order, and the blocks that come next: `3: x7 = slot0; x7 = neg x7; slot1 = x7 -> 4`.
+/// The label, then the moves and the operation in their order, then the blocks that come next: `3: x7 = slot0; x7 = neg x7;
+/// slot1 = x7 -> 4`.
 impl fmt::Display for Block {
     ghost output = { λ b. Some (block_text b) };
 

@@ -5,8 +5,8 @@ ghost use Rattle.cc_ltl.specs.Registers.{IsAllocatable, most_slots};
 
 use std::marker::Model;
 
-/// A register to which code may be allocated: `x7` to `x31`. The emitter keeps `x5` and `x6` for itself, and `x0` to `x4` have uses of
-/// their own. Contracts see its number.
+/// A register that the allocator may use: `x7` to `x31`. The emitter keeps `x5` and `x6` for itself, and `x0` to `x4` have uses
+/// of their own. Contracts see its number.
 #[derive(Clone, Copy, PartialEq, Eq)]
 pub struct Register {
     number: u8,
@@ -26,7 +26,7 @@ impl Model for Register {
 }
 
 impl Register {
-    /// The register with this number, or `None` if it is not allocatable (below 7 or above 31).
+    /// The register with this number; `None` if that is not allocatable (below 7 or above 31).
     pub fn new(number: u8) -> Option<Self>
         ensures allocatable { IsSome result ↔ IsAllocatable number }
         ensures answer { IfSome result (λ register. register ≡ number) }
@@ -38,7 +38,7 @@ impl Register {
         }
     }
 
-    /// Its number, 7 to 31.
+    /// The register's number, 7 to 31.
     pub fn number(self) -> u8
         ensures number { result ≡ self }
         ensures allocatable { IsAllocatable self }
@@ -70,7 +70,7 @@ impl Model for Slot {
 }
 
 impl Slot {
-    /// The slot with this number, or `None` if it is 495 or more.
+    /// The slot with this number; `None` if it is 495 or more.
     pub fn new(number: u16) -> Option<Self>
         ensures few { IsSome result ↔ (number < most_slots) }
         ensures answer { IfSome result (λ slot. slot ≡ number) }
@@ -82,7 +82,7 @@ impl Slot {
         }
     }
 
-    /// Its number, 0 to 494.
+    /// The slot's number, 0 to 494.
     pub fn number(self) -> u16
         ensures number { result ≡ self }
         ensures few { self < most_slots }

@@ -12,8 +12,8 @@ pub enum Move {
     Spill { slot: Slot, from: Register },
 }
 
-/// The operation of a block, and the label of the next block. A call takes its arguments in `x10` and up and puts its result in `x10`. A
-/// read puts its word in `x10`; a write and a return take theirs from there.
+/// The operation of a block, and the label of the next block. A call takes its arguments in `x10` and the registers after it,
+/// and puts its result in `x10`. A read puts its word in `x10`; a write and a return take theirs from there.
 #[derive(Clone, Copy)]
 pub enum Operation {
     Nop {

@@ -1,5 +1,5 @@
-// Reads the function that bytes spell, from left to right. No memory is reserved for a number that the bytes state. A list grows by what
-// was read, so bytes that lie about their length cost no more than the bytes that are there.
+// Reads the function that bytes spell, from left to right. No memory is reserved because of a number in the bytes. A list grows
+// only by what was read, so bytes that state a false length cost no more than the bytes that are there.
 
 ghost use Rattle.std.specs.Prelude.{◌≡◌, length, IfOk};
 ghost use Rattle.cc_ltl.specs.Bytes.{ReadAnswers};
@@ -13,11 +13,12 @@ use crate::ltl::Ltl;
 use crate::operation::{Move, Operation};
 use std::alloc::Global;
 
-/// The function that all these bytes together spell.
+/// Returns the function that all these bytes together spell.
 ///
-/// 37 `Damaged` exactly if they spell no function: a register that is not allocatable, a slot that is not below the number of slots, more
-/// than 495 slots, an unknown number of a move, of an operation or of an operator, a width other than 1 and 4, moves after a branch or a
-/// return, labels that do not ascend, missing bytes, or bytes left over. 40 `OutOfMemory` if memory ran out.
+/// Fails with 37 `Damaged` exactly if they spell no function. The reasons: a register that is not allocatable, a slot that is
+/// not below the number of slots, more than 495 slots, an unknown number of a move, of an operation or of an operator, a width
+/// other than 1 and 4, moves after a branch or a return, labels that do not ascend, missing bytes, or bytes left over. Fails
+/// with 40 `OutOfMemory` if memory ran out.
 pub fn read_ltl(alloc: Global, bytes: &[u8]) -> Result<Ltl, LtlFault>
     ensures answers { ReadAnswers bytes.now result }
 {
@@ -28,7 +29,7 @@ pub fn read_ltl(alloc: Global, bytes: &[u8]) -> Result<Ltl, LtlFault>
     }
 }
 
-// The parts of a function. Whether they fit each other is not checked here.
+// The parts of a function. Whether the parts go together is not checked here.
 #[derive(Drop)]
 struct Parts {
     slots: u16,
@@ -54,7 +55,7 @@ fn parts_of(alloc: Global, bytes: &[u8]) -> Result<Parts, LtlFault>
     })
 }
 
-// Blocks and functions.
+// Reading blocks and functions.
 impl<'a> Cursor<'a> {
     // Reads the number of slots of a function.
     #[tactic(auto, unfolding(crate::specs::internal::Reading::slots_in))]
@@ -107,7 +108,7 @@ impl<'a> Cursor<'a> {
     }
 }
 
-// Moves.
+// Reading moves.
 impl<'a> Cursor<'a> {
     // Reads the number of moves, and the moves.
     #[tactic(auto, unfolding(crate::specs::internal::Reading::moves_in))]
@@ -180,7 +181,7 @@ impl<'a> Cursor<'a> {
     }
 }
 
-// Operations.
+// Reading operations.
 impl<'a> Cursor<'a> {
     #[tactic(auto, unfolding(crate::specs::internal::Reading::operation_in, crate::specs::internal::Reading::return_in))]
     fn operation(&mut self) -> Option<Operation>

@@ -9,9 +9,9 @@ use crate::operation::{Move, Operation};
 use cc_words::{Binary, Unary};
 use std::alloc::{AllocError, Global};
 
-/// The bytes that spell the function: three numbers of four bytes, lowest byte first (slots, entry, number of blocks), and the blocks in
-/// the order of their labels. A block is its label, the moves before, the operation, and the moves after; the number of moves comes before
-/// each list of them, in two bytes. See docs/FORMATS.md. Err: memory ran out.
+/// The bytes that spell the function: three numbers of four bytes, lowest byte first (the number of slots, the entry, the
+/// number of blocks), and the blocks in the order of their labels. A block is its label, the moves before, the operation, and
+/// the moves after. Before each list of moves, their number comes in two bytes. See docs/FORMATS.md. Fails if memory ran out.
 pub fn write_ltl(alloc: Global, ltl: &Ltl) -> Result<Vec<u8>, AllocError>
     ensures spelled { IfOk result (λ bytes. Spells bytes.items ltl.now) }
 {
@@ -143,7 +143,7 @@ fn put_operation(bytes: &mut Vec<u8>, operation: &Operation) -> Result<(), Alloc
     }
 }
 
-// Writes some bytes, and a number of four bytes.
+// Writes the bytes `prefix`, and a number of four bytes.
 fn put(bytes: &mut Vec<u8>, prefix: &[u8], number: u32) -> Result<(), AllocError>
     ensures { OnOk result (bytes.new.items ≡ bytes.old.items ++ (prefix.now ++ word_bytes number)) }
 {

@@ -14,18 +14,18 @@ use Rattle.cc_meaning.specs.internal.Form.{FormTree, store_of, store_element_of,
 use Rattle.cc_resolve.specs.Environment.{Environment, number_in}
 use Rattle.cc_resolve.specs.Layout.{extent_of}
 use Rattle.cc_resolve.specs.Operations.{operation}
-use Rattle.cc_c_laws.specs.Outcome as outcome
-use Rattle.cc_c_laws.specs.declared.cause.Cause.TheVariants.{Index}
-use Rattle.cc_c_laws.specs.Meaning as meaning
-use Rattle.cc_c_laws.specs.Meaning.{State, Run, Gives, Wrong, Flow, Falls, then_do, global_words, with_element, variable_word, stored, write_element, cause_of, given, ToVariable, ToElement, write, new_value}
-use Rattle.cc_c_laws.specs.Resolved.{IsOneWord}
+use Rattle.cc_c_semantics.specs.Outcome as outcome
+use Rattle.cc_c_semantics.specs.declared.cause.Cause.TheVariants.{Index}
+use Rattle.cc_c_semantics.specs.Meaning as meaning
+use Rattle.cc_c_semantics.specs.Meaning.{State, Run, Gives, Wrong, Flow, Falls, then_do, global_words, with_element, variable_word, stored, write_element, cause_of, given, ToVariable, ToElement, write, new_value}
+use Rattle.cc_c_semantics.specs.Resolved.{IsOneWord}
 use Rattle.cc_meaning.specs.internal.FormMeaning.{Activation, Configuration, Move, Goes, Stops, instruction_move, binary_result, cause_of_operation, only_if, with_word, operated}
-use Rattle.cc_c_laws.proofs.Named.{there}
-use Rattle.cc_c_laws.proofs.Held.{reads_local, no_local, all_of, get_past}
+use Rattle.cc_c_semantics.proofs.Named.{there}
+use Rattle.cc_c_semantics.proofs.Held.{reads_local, no_local, all_of, get_past}
 use Rattle.cc_meaning.proofs.Moves.{Leads, leads_then, conf, Meets, meets_after, meets_same, instructed, instructed_last}
 use Rattle.cc_meaning.proofs.Plain.{IsPlain, IsPlainIfAny}
 use Rattle.cc_meaning.proofs.Fits.{Fits, found_object, Sets, sets_local, Puts, puts_element, stored_object}
-use Rattle.cc_c_laws.proofs.Scoped.{Readable}
+use Rattle.cc_c_semantics.proofs.Scoped.{Readable}
 
 -- an action falls through, and leaves no operand
 pub record Acted (form : FormTree) (cs : List Activation) (total : ℕ) (c : Configuration) (v : Environment) (most q : ℕ) (flow : Flow) (t : State) : Type 0 where
@@ -41,7 +41,7 @@ option_same : (o : Option ℕ) (z : Move) (f g : ℕ → Move) → ((w : ℕ) �
 option_same None z f g h = refl
 option_same (Some w) z f g h = h w
 
--- the operation's move, by the operator's value
+-- the move of an operation, depending on the operator's value
 operated_is : (op : BinaryOperator) (t : Scalar) (a b : ℕ) (o : Option ℕ) (go : ℕ → Move) → IsPlain op → binary_word op t a b ≡ o
     → operated (operation op t) a b go ≡ elim o [ None ↦ Stops (outcome.Wrong (cause_of op)) | Some w ↦ go w ]
 operated_is op t a b o go plain e =
@@ -148,7 +148,7 @@ module _ (form : FormTree) (cs : List Activation) (total : ℕ) where
 
   -- ---- elements
 
-  -- an array and an index that is in it or not
+  -- a write to an element, whether or not the index is in the array
   element_set_by : (v : Environment) (most : ℕ) (vs : List ℕ) (x : List ℕ) (i p w : ℕ) (s : State) (b : Bool) → nat_lt i (extent_of v.layout.objects x).length ≡ b → Fits v total most vs s
       → slice_get form.code p ≡ Some (instruction.SetElement (extent_of v.layout.objects x)) → (b ≡ true → Puts v total most vs s x i w)
       → Meets form (conf p vs (w ∷ i ∷ []) cs s) (Acted form cs total (conf p vs (w ∷ i ∷ []) cs s) v most (p + 1)) (if b then Gives Falls (record s { globals = with_element x i w s.globals }) else Wrong Index s.output)
@@ -170,7 +170,7 @@ module _ (form : FormTree) (cs : List Activation) (total : ℕ) where
       let move : Move = only_if (nat_lt (ext.offset + i) (length (all_of s.globals))) (Goes (record (conf (p + 1) vs [] cs s) { globals = slice_set (all_of s.globals) (ext.offset + i) (kept ext.width w) })) in
       instructed_last form (instruction.SetElement ext) p vs (w ∷ i ∷ []) cs s (outcome.Wrong Index) e (ap (λ b. if b then move else Stops (outcome.Wrong Index)) is)
 
-  -- the index is in the array in both
+  -- the source and the form agree on whether the index is in the array
   size_is : (v : Environment) (most : ℕ) (vs : List ℕ) (x : List ℕ) (i : ℕ) (s : State) → Fits v total most vs s → nat_lt i (length (global_words s.globals x)) ≡ nat_lt i (extent_of v.layout.objects x).length
   size_is v most vs x i s h = ap (nat_lt i) (sym (found_object v total most vs s x h).size)
 

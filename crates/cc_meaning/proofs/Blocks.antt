@@ -5,21 +5,21 @@ use Rattle.cc_meaning.specs.declared.form.Instruction.TheVariants as instruction
 use Rattle.cc_meaning.specs.internal.Form.{FormTree}
 use Rattle.cc_resolve.specs.Environment.{Environment}
 use Rattle.cc_resolve.specs.Layout.{Layout}
-use Rattle.cc_c_laws.specs.Meaning.{Local, State, Run, Gives, Flow, Falls, Breaks, Continues, Returns, left_scope, in_block}
+use Rattle.cc_c_semantics.specs.Meaning.{Local, State, Run, Gives, Flow, Falls, Breaks, Continues, Returns, left_scope, in_block}
 use Rattle.cc_meaning.specs.internal.FormMeaning.{Activation, Configuration}
-use Rattle.cc_c_laws.proofs.Held.{names_of, words_in, layout_from}
+use Rattle.cc_c_semantics.proofs.Held.{names_of, words_in, layout_from}
 use Rattle.cc_meaning.proofs.Moves.{Leads, leads_then, conf, Meets, meets_after, meets_then}
 use Rattle.cc_meaning.proofs.Fits.{Fits}
 
 -- ---- environments
 
--- the same with further locals before the others
+-- an environment with further locals before its own
 abbrev pub over : List (List ℕ) → Environment → Environment
 over extra v = record v { locals = extra ++ v.locals }
 
 -- ---- configurations
 
--- another way to write an environment
+-- what fits an environment also fits one with the same locals and layout
 pub fits_env : (v w : Environment) (total most : ℕ) (vs : List ℕ) (s : State) → v.locals ≡ w.locals → v.layout ≡ w.layout → Fits v total most vs s → Fits w total most vs s
 fits_env v w total most vs s e f h = record {
   names = h.names ∙ e;
@@ -30,7 +30,7 @@ fits_env v w total most vs s e f h = record {
   steps = h.steps;
 }
 
--- more steps may be left
+-- the bound on the steps left may be raised
 pub fits_most : (v : Environment) (total most more : ℕ) (vs : List ℕ) (s : State) → most ≤ more → Fits v total most vs s → Fits v total more vs s
 fits_most v total most more vs s le h = record { names = h.names; laid = h.laid; junk = h.junk; holds = h.holds; room = h.room; steps = (let k = h.steps in omega arith) }
 
@@ -39,7 +39,7 @@ names_drop zero ls = refl
 names_drop (suc d) [] = refl
 names_drop (suc d) (l ∷ ls) = names_drop d ls
 
--- after a scope, whose locals no name refers to any more
+-- after a scope, when no name refers to its locals any more
 pub fits_left : (v : Environment) (extra : List (List ℕ)) (total most before : ℕ) (vs : List ℕ) (t : State) → before ≡ length v.locals → Fits (over extra v) total most vs t → Fits v total most vs (left_scope before t)
 fits_left v extra total most before vs t e h =
     let ls : List Local = t.locals in
@@ -84,7 +84,7 @@ module _ (form : FormTree) (cs : List Activation) (total : ℕ) where
     pub laid : layout_from 0 t.globals ≡ layout.objects
     pub steps : t.steps ≤ most
 
-  -- how a statement ends: it falls through, breaks, continues or returns, each as these say
+  -- how a statement ends: it falls through, breaks, continues or returns, each as its parameter says
   abbrev pub Done : Layout → Configuration → ℕ → (falls breaks continues : State → Type 0) → Flow → State → Type 0
   Done layout c most falls breaks continues Falls t = falls t
   Done layout c most falls breaks continues Breaks t = breaks t
@@ -109,7 +109,7 @@ module _ (form : FormTree) (cs : List Activation) (total : ℕ) where
   done_by layout c d most more f b k f' b' k' p le x y z Continues t h = z t h
   done_by layout c d most more f b k f' b' k' p le x y z (Returns w) t h = brings_after layout c d most more w t p le h
 
-  -- a part after some moves, with the same ways to end
+  -- a part that begins after some moves ends in the same ways
   pub done_after : (layout : Layout) (c d : Configuration) (most more : ℕ) (f b k f' b' k' : State → Type 0) (r : Run Flow) → Leads form c d → most ≤ more
       → ((t : State) → f t → f' t) → ((t : State) → b t → b' t) → ((t : State) → k t → k' t) → Meets form d (Done layout d most f b k) r → Meets form c (Done layout c more f' b' k') r
   done_after layout c d most more f b k f' b' k' r p le x y z h =
@@ -122,7 +122,7 @@ module _ (form : FormTree) (cs : List Activation) (total : ℕ) where
     leads = leads_then form c d (conf q' h.variables [] cs t) p (subst (λ k. Leads form d (conf k h.variables [] cs t)) at h.leads);
   }
 
-  -- some locals of v are added to those of w
+  -- leaving v for w also drops the locals that v has in addition to those of w
   pub leaves_after : (c d : Configuration) (v w : Environment) (extra : List (List ℕ)) (most more q q' : ℕ) (t : State) → Leads form c d → v.locals ≡ extra ++ w.locals → v.layout ≡ w.layout → most ≤ more → q ≡ q'
       → Leaves d v most q t → Leaves c w more q' t
   leaves_after c d v w extra most more q q' t p e f le at h = record {

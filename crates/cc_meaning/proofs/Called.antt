@@ -14,20 +14,20 @@ use Rattle.cc_meaning.specs.internal.Form.{FormTree, call_to, call_of, statement
 use Rattle.cc_resolve.specs.declared.layout.Callee.TheVariants as leads
 use Rattle.cc_resolve.specs.Environment.{Environment, parameter_names}
 use Rattle.cc_resolve.specs.Layout.{Layout, names_before}
-use Rattle.cc_c_laws.specs.Outcome as outcome
-use Rattle.cc_c_laws.specs.declared.cause.Cause.TheVariants.{Depth}
-use Rattle.cc_c_laws.specs.Meaning.{Local, State, Gives, Wrong, Flow, Falls, Breaks, Continues, Returns, Calls, spend_of, Function, text_of, function_named, bound, result_of, run_body, run_optional, read_input, most_open, calls, execute_all}
+use Rattle.cc_c_semantics.specs.Outcome as outcome
+use Rattle.cc_c_semantics.specs.declared.cause.Cause.TheVariants.{Depth}
+use Rattle.cc_c_semantics.specs.Meaning.{Local, State, Gives, Wrong, Flow, Falls, Breaks, Continues, Returns, Calls, spend_of, Function, text_of, function_named, bound, result_of, run_body, run_optional, read_input, most_open, calls, execute_all}
 use Rattle.cc_meaning.specs.internal.FormMeaning.{Activation, Configuration, Move, Goes, Stops, instruction_move, call_move, stepped, entered, only_if, read_move}
-use Rattle.cc_c_laws.proofs.Named.{same_name_symm, call_begins}
-use Rattle.cc_c_laws.proofs.Steps.{begun, body_part}
-use Rattle.cc_c_laws.proofs.Held.{names_of, words_in, newest_last, layout_from}
+use Rattle.cc_c_semantics.proofs.Named.{same_name_symm, call_begins}
+use Rattle.cc_c_semantics.proofs.Steps.{begun, body_part}
+use Rattle.cc_c_semantics.proofs.Held.{names_of, words_in, newest_last, layout_from}
 use Rattle.cc_meaning.proofs.Moves.{Halts, Leads, leads_refl, leads_then, conf, Meets, meets_then, meets_after, meets_same, Stands, stands_end, stands_left, stands_right, instructed, instructed_last}
 use Rattle.cc_meaning.proofs.Fits.{Fits}
 use Rattle.cc_meaning.proofs.Expressions.{Value, CallsMeet}
 use Rattle.cc_meaning.proofs.Blocks.{Leaves, Done}
 use Rattle.cc_meaning.proofs.Executes.{execute_all_meets}
-use Rattle.cc_c_laws.proofs.Scoped.{Scoped}
-use Rattle.cc_c_laws.proofs.Bodies.{Takes, Writes, Reads, Enters}
+use Rattle.cc_c_semantics.proofs.Scoped.{Scoped}
+use Rattle.cc_c_semantics.proofs.Bodies.{Takes, Writes, Reads, Enters}
 
 -- ---- parameters
 
@@ -194,7 +194,7 @@ module _ (form : FormTree) (layout : Layout) (defined : List (List ℕ)) (fs : L
 
   -- ---- functions
 
-  -- a frame is made of the arguments
+  -- a frame is made from the arguments
   entering : (start variables left p : ℕ) (ws vs ops : List ℕ) (cs : List Activation) (s : State) (count : ℕ) → count ≡ length ws
       → entered (record { start = start; parameters = count; variables = variables }) left (conf p vs (reverse ws ++ ops) cs s)
       ≡ Goes (conf start (ws ++ replicate variables 0) [] (record { next = p; variables = vs; operands = ops } ∷ cs) (record s { steps = left }))

@@ -10,15 +10,15 @@ use Rattle.cc_meaning.specs.declared.form.Instruction.TheVariants as instruction
 use Rattle.cc_meaning.specs.internal.Form.{FormTree, unary_code, load, call_of, expression_code, arguments_code}
 use Rattle.cc_resolve.specs.Environment.{Environment, types_in}
 use Rattle.cc_resolve.specs.Layout.{Layout, extent_of}
-use Rattle.cc_c_laws.specs.Meaning.{State, Gives, then_do, Calls, variable_word, read_element, evaluate, evaluate_all}
+use Rattle.cc_c_semantics.specs.Meaning.{State, Gives, then_do, Calls, variable_word, read_element, evaluate, evaluate_all}
 use Rattle.cc_meaning.specs.internal.FormMeaning.{Activation}
-use Rattle.cc_c_laws.proofs.Errors.{nil_left, nil_right, defined_left, defined_right, is_defined, variable_found, function_found}
-use Rattle.cc_c_laws.proofs.Held.{newest_last}
+use Rattle.cc_c_semantics.proofs.Errors.{nil_left, nil_right, defined_left, defined_right, is_defined, variable_found, function_found}
+use Rattle.cc_c_semantics.proofs.Held.{newest_last}
 use Rattle.cc_meaning.proofs.Moves.{Leads, leads_refl, leads_then, conf, Meets, meets_then, meets_after, Stands, stands_left, stands_right}
 use Rattle.cc_meaning.proofs.Plain.{kind_of}
 use Rattle.cc_meaning.proofs.Fits.{Fits, load_move}
 use Rattle.cc_meaning.proofs.Expressions.{Value, Values, CallsMeet, Part, value_after, pushes, element_meets, unary_leads, binary_meets, conditional_meets}
-use Rattle.cc_c_laws.proofs.Scoped.{Scoped}
+use Rattle.cc_c_semantics.proofs.Scoped.{Scoped}
 
 module _ (form : FormTree) (cs : List Activation) (total : ℕ) (layout : Layout) (defined : List (List ℕ)) (Takes : List ℕ → ℕ → Type 0) (n : ℕ) (call : Calls) (calls_meet : CallsMeet form layout Takes cs total n call) where
   -- arguments, one after another

@@ -13,9 +13,9 @@ use Rattle.cc_meaning.specs.declared.form.Instruction.TheVariants as instruction
 use Rattle.cc_meaning.specs.internal.Form.{FormTree, expression_code, optional_action_code, Exits, further, declared_code, beginning_code, value_code, condition_code, turns_code, loop_code, exits_of_body, statement_code, statements_code}
 use Rattle.cc_resolve.specs.Environment.{Environment, types_in, inner, with_locals, behind, behind_beginning}
 use Rattle.cc_resolve.specs.Layout.{Layout}
-use Rattle.cc_c_laws.specs.Meaning.{State, Run, Gives, Flow, Falls, Breaks, Continues, Returns, then_do, choose, Calls, behind_flow, begin_body, turns, evaluate, evaluate_or, perform_optional, declare, start, in_block, return, execute, execute_all}
+use Rattle.cc_c_semantics.specs.Meaning.{State, Run, Gives, Flow, Falls, Breaks, Continues, Returns, then_do, choose, Calls, behind_flow, begin_body, turns, evaluate, evaluate_or, perform_optional, declare, start, in_block, return, execute, execute_all}
 use Rattle.cc_meaning.specs.internal.FormMeaning.{Activation, Configuration}
-use Rattle.cc_c_laws.proofs.Errors.{nil_left, nil_right, defined_left, defined_right}
+use Rattle.cc_c_semantics.proofs.Errors.{nil_left, nil_right, defined_left, defined_right}
 use Rattle.cc_meaning.proofs.Moves.{Leads, leads_refl, leads_then, conf, Meets, meets_then, meets_after, Stands, stands_end, stands_left, stands_right, jumps}
 use Rattle.cc_meaning.proofs.Fits.{Fits}
 use Rattle.cc_meaning.proofs.Expressions.{Value, CallsMeet, Part, pushes, branches, passes}
@@ -24,7 +24,7 @@ use Rattle.cc_meaning.proofs.Actions.{Acted}
 use Rattle.cc_meaning.proofs.Performs.{optional_meets, declare_meets}
 use Rattle.cc_meaning.proofs.Blocks.{over, fits_env, Reaches, Leaves, Done, done_after, reaches_after, leaves_after, reaches_leaves, block_meets}
 use Rattle.cc_meaning.proofs.Loops.{Loop, turns_length, loop_stands, turns_meet, begins_meet}
-use Rattle.cc_c_laws.proofs.Scoped.{Scoped, scoped_inner, with_locals_visible, with_locals_layout, with_locals_length, with_locals_over, scoped_locals, behind_is}
+use Rattle.cc_c_semantics.proofs.Scoped.{Scoped, scoped_inner, with_locals_visible, with_locals_layout, with_locals_length, with_locals_over, scoped_locals, behind_is}
 
 -- after the first part of a `for` header
 record BehindBeginning (layout : Layout) (defined : List (List ℕ)) (Takes : List ℕ → ℕ → Type 0) (s : Beginning) (v : Environment) : Type 0 where
@@ -75,7 +75,7 @@ module _ (form : FormTree) (cs : List Activation) (total : ℕ) (layout : Layout
   abbrev ListDoes : Environment → Exits → ℕ → List Instruction → (State → Run Flow) → Type 0
   ListDoes v x most code part = Does (λ c q t. Leaves form cs total c v most q t) v x most code part
 
-  -- a part in a scope of its own: every way to end leaves the earlier locals
+  -- a part in a scope of its own: however it ends, the earlier locals are left
   abbrev BlockDoes : Environment → Exits → ℕ → List Instruction → (State → Run Flow) → Type 0
   BlockDoes v x most code part =
       (p b k : ℕ) (vs : List ℕ) (t : State) → b ≡ p + length code + x.breaks → k ≡ p + length code + x.continues → b ≤ length form.code → k ≤ length form.code → Stands form.code p code → Fits v total most vs t

@@ -17,12 +17,12 @@ use Rattle.cc_meaning.specs.internal.Form.{FormTree, unary_code, call_of, joined
 use Rattle.cc_resolve.specs.Environment.{Environment}
 use Rattle.cc_resolve.specs.Layout.{Layout, extent_of}
 use Rattle.cc_resolve.specs.Operations.{operation}
-use Rattle.cc_c_laws.specs.Outcome as outcome
-use Rattle.cc_c_laws.specs.declared.cause.Cause.TheVariants.{Index}
-use Rattle.cc_c_laws.specs.Meaning.{State, Run, Gives, Wrong, then_do, choose, Calls, global_words, read_element, cause_of, given, unless_decided}
+use Rattle.cc_c_semantics.specs.Outcome as outcome
+use Rattle.cc_c_semantics.specs.declared.cause.Cause.TheVariants.{Index}
+use Rattle.cc_c_semantics.specs.Meaning.{State, Run, Gives, Wrong, then_do, choose, Calls, global_words, read_element, cause_of, given, unless_decided}
 use Rattle.cc_meaning.specs.internal.FormMeaning.{Activation, Configuration, Move, Goes, Stops, instruction_move, cause_of_operation, with_word}
-use Rattle.cc_c_laws.proofs.Named.{there}
-use Rattle.cc_c_laws.proofs.Held.{all_of, get_past}
+use Rattle.cc_c_semantics.proofs.Named.{there}
+use Rattle.cc_c_semantics.proofs.Held.{all_of, get_past}
 use Rattle.cc_meaning.proofs.Moves.{Leads, leads_refl, leads_then, conf, Meets, meets_then, meets_after, meets_same, Stands, stands_end, stands_left, stands_right, instructed, instructed_last, may_jump, jumps}
 use Rattle.cc_meaning.proofs.Plain.{IsPlain, Kind, IsAnd, IsOr, IsOther}
 use Rattle.cc_meaning.proofs.Fits.{Fits, found_object}
@@ -32,7 +32,7 @@ pub record Value (form : FormTree) (cs : List Activation) (total : ℕ) (c : Con
   pub fits : Fits v total most vs t
   pub leads : Leads form c (conf q vs (w ∷ ops) cs t)
 
--- the same for several words, the last one newest
+-- after some instructions the form has several words above the operands that were there, the last one newest
 pub record Values (form : FormTree) (cs : List Activation) (total : ℕ) (c : Configuration) (v : Environment) (most : ℕ) (vs : List ℕ) (q count : ℕ) (ops : List ℕ) (ws : List ℕ) (t : State) : Type 0 where
   pub fits : Fits v total most vs t
   pub many : length ws ≡ count
@@ -52,7 +52,7 @@ module _ (form : FormTree) (cs : List Activation) (total : ℕ) where
       (p : ℕ) (ops : List ℕ) (s : State) → Stands form.code p code → Fits v total most vs s
       → Meets form (conf p vs ops cs s) (Value form cs total (conf p vs ops cs s) v most vs (p + length code) ops) (part s)
 
-  -- after some moves, and with another way to write the place
+  -- a value that is reached from d is also reached from c, if c leads to d
   pub value_after : (v : Environment) (most : ℕ) (vs ops : List ℕ) (c d : Configuration) (q q' : ℕ) (r : Run ℕ) → Leads form c d → q ≡ q'
       → Meets form d (Value form cs total d v most vs q ops) r → Meets form c (Value form cs total c v most vs q' ops) r
   value_after v most vs ops c d q q' r p e h =
@@ -78,7 +78,7 @@ module _ (form : FormTree) (cs : List Activation) (total : ℕ) where
   element_by v most vs ops p i x s None e h is move = instructed_last form (instruction.Element (extent_of v.layout.objects x)) p vs (i ∷ ops) cs s (outcome.Wrong Index) e move
   element_by v most vs ops p i x s (Some w) e h is move = pushes v most vs (i ∷ ops) ops p (p + 1) w s (instruction.Element (extent_of v.layout.objects x)) e h refl move
 
-  -- what the instruction does, by what is in the array
+  -- what the instruction does, depending on what is in the array
   element_move : (v : Environment) (most : ℕ) (vs ops : List ℕ) (p i : ℕ) (x : List ℕ) (s : State) → Fits v total most vs s
       → instruction_move form (instruction.Element (extent_of v.layout.objects x)) (conf p vs (i ∷ ops) cs s)
       ≡ elim (slice_get (global_words s.globals x) i) [ None ↦ Stops (outcome.Wrong Index) | Some w ↦ Goes (conf p vs (w ∷ ops) cs s) ]
@@ -166,7 +166,7 @@ module _ (form : FormTree) (cs : List Activation) (total : ℕ) where
   true_word : (a : ℕ) → is_true (suc a) ≡ true
   true_word a = ap not (eqb-suc-zero a)
 
-  -- the end of either: the right operand as 0 or 1
+  -- the end of `&&` or `||`: the right operand as 0 or 1
   truth_meets : (v : Environment) (most : ℕ) (vs ops : List ℕ) (p q : ℕ) (right : List Instruction) (second : State → Run ℕ) (op : BinaryOperator) (t : Scalar) (a : ℕ) (s : State)
       → ((b : ℕ) → binary_word op t a b ≡ Some (truth_value (is_true b))) → Part v most vs right second → Stands form.code p right → slice_get form.code (p + length right) ≡ Some instruction.Truth
       → q ≡ p + length right + 1 → Fits v total most vs s

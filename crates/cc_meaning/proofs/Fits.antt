@@ -6,12 +6,12 @@ use Rattle.cc_meaning.specs.declared.form.Instruction.TheVariants as instruction
 use Rattle.cc_meaning.specs.internal.Form.{FormTree, load}
 use Rattle.cc_resolve.specs.Environment.{Environment, number_in}
 use Rattle.cc_resolve.specs.Layout.{extent_of}
-use Rattle.cc_c_laws.specs.Meaning.{State, local_word, global_words, with_local_word, with_element, variable_word, stored}
+use Rattle.cc_c_semantics.specs.Meaning.{State, local_word, global_words, with_local_word, with_element, variable_word, stored}
 use Rattle.cc_meaning.specs.internal.FormMeaning.{Activation, Goes, instruction_move, with_word}
-use Rattle.cc_c_laws.proofs.Named.{there}
-use Rattle.cc_c_laws.proofs.Held.{names_of, words_in, reads_local, no_local, writes_local, all_of, layout_from, Finds, finds, layout_keep, length_slice_set, get_below}
+use Rattle.cc_c_semantics.proofs.Named.{there}
+use Rattle.cc_c_semantics.proofs.Held.{names_of, words_in, reads_local, no_local, writes_local, all_of, layout_from, Finds, finds, layout_keep, length_slice_set, get_below}
 use Rattle.cc_meaning.proofs.Moves.{conf}
-use Rattle.cc_c_laws.proofs.Scoped.{Readable}
+use Rattle.cc_c_semantics.proofs.Scoped.{Readable}
 
 -- the variables are the words of the locals, oldest first, followed by others that no name refers to; the objects are at their
 -- places; at most this many steps are left

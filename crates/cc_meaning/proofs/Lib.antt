@@ -1,4 +1,4 @@
--- How the interpreter is shown to give the meaning. Writing: every clause says that the code is that of the definition, before
+-- How the interpreter is shown to give the meaning of C. Writing: every clause says that the definition's code is put before
 -- what was there already (WritingExpressions to WritingUnits). Running: for each part of the tree, at any place of its code in
 -- the whole, a run from the part's beginning reaches its end with what the meaning says, or stops as the meaning does (Moves;
 -- Expressions, Actions, Blocks, Loops, Called). So the form of a typed unit has the unit's behavior (Units). The interpreter

@@ -6,8 +6,8 @@ use Rattle.cc_meaning.specs.declared.form.Instruction.TheVariants as instruction
 use Rattle.cc_meaning.specs.internal.Form.{FormTree, turns_code}
 use Rattle.cc_resolve.specs.Environment.{Environment}
 use Rattle.cc_resolve.specs.Layout.{Layout}
-use Rattle.cc_c_laws.specs.Outcome as outcome
-use Rattle.cc_c_laws.specs.Meaning.{State, Run, Gives, Flow, Falls, Breaks, Continues, Returns, then_do, choose, spend_of, behind_body, begin_body, turns}
+use Rattle.cc_c_semantics.specs.Outcome as outcome
+use Rattle.cc_c_semantics.specs.Meaning.{State, Run, Gives, Flow, Falls, Breaks, Continues, Returns, then_do, choose, spend_of, behind_body, begin_body, turns}
 use Rattle.cc_meaning.specs.internal.FormMeaning.{Activation, Configuration, Goes, only_if, jump, stepped}
 use Rattle.cc_meaning.proofs.Moves.{Leads, conf, Meets, meets_then, Stands, stands_left, stands_right, instructed, instructed_last, may_jump}
 use Rattle.cc_meaning.proofs.Fits.{Fits}

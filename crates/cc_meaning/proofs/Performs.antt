@@ -16,19 +16,19 @@ use Rattle.cc_meaning.specs.declared.form.Instruction.TheVariants as instruction
 use Rattle.cc_meaning.specs.internal.Form.{FormTree, expression_code, store_of, store_element_of, applied, assignment_code, action_code, optional_action_code, initial_code, declared_code}
 use Rattle.cc_resolve.specs.Environment.{Environment, types_in, with_local, with_locals, number_in}
 use Rattle.cc_resolve.specs.Layout.{Layout, extent_of}
-use Rattle.cc_c_laws.specs.Meaning as meaning
-use Rattle.cc_c_laws.specs.Meaning.{State, Run, Gives, Flow, Falls, then_do, Calls, with_local_word, with_element, stored, evaluate, evaluate_or, Destination, ToVariable, ToElement, write, new_value, perform, perform_optional, declare}
+use Rattle.cc_c_semantics.specs.Meaning as meaning
+use Rattle.cc_c_semantics.specs.Meaning.{State, Run, Gives, Flow, Falls, then_do, Calls, with_local_word, with_element, stored, evaluate, evaluate_or, Destination, ToVariable, ToElement, write, new_value, perform, perform_optional, declare}
 use Rattle.cc_meaning.specs.internal.FormMeaning.{Activation, Configuration, Goes, only_if}
-use Rattle.cc_c_laws.proofs.Errors.{nil_left, nil_right, defined_left, defined_right, variable_found}
-use Rattle.cc_c_laws.proofs.Named.{name_is_itself}
-use Rattle.cc_c_laws.proofs.Held.{words_in, set_right, newest_last, length_slice_set}
+use Rattle.cc_c_semantics.proofs.Errors.{nil_left, nil_right, defined_left, defined_right, variable_found}
+use Rattle.cc_c_semantics.proofs.Named.{name_is_itself}
+use Rattle.cc_c_semantics.proofs.Held.{words_in, set_right, newest_last, length_slice_set}
 use Rattle.cc_meaning.proofs.Moves.{Leads, leads_refl, leads_then, conf, Meets, meets_then, meets_after, meets_same, Stands, stands_left, stands_right, instructed}
 use Rattle.cc_meaning.proofs.Plain.{IsPlainIfAny, applied_is_plain, step_is_plain}
 use Rattle.cc_meaning.proofs.Fits.{Fits}
 use Rattle.cc_meaning.proofs.Expressions.{Value, CallsMeet, Part, pushes}
 use Rattle.cc_meaning.proofs.Evaluates.{expression_meets}
 use Rattle.cc_meaning.proofs.Actions.{Acted, acted_after, stores_local, store_meets, element_store_meets}
-use Rattle.cc_c_laws.proofs.Scoped.{Readable, Scoped, scoped_local}
+use Rattle.cc_c_semantics.proofs.Scoped.{Readable, Scoped, scoped_local}
 
 -- a new variable, which is 0, takes the first word that no name refers to
 cleared_words : (ws junk : List ℕ) → 0 < length junk → slice_set (reverse ws ++ junk) (length ws) 0 ≡ reverse (0 ∷ ws) ++ drop 1 junk

@@ -14,7 +14,7 @@ use Rattle.cc_meaning.specs.internal.Form.{joined}
 use Rattle.cc_resolve.specs.declared.operations.BinaryOperation.{BinaryOperation}
 use Rattle.cc_meaning.specs.declared.form.Instruction.{Instruction}
 use Rattle.cc_meaning.specs.declared.form.Instruction.TheVariants.{Binary}
-use Rattle.cc_c_laws.specs.Meaning.{cause_of}
+use Rattle.cc_c_semantics.specs.Meaning.{cause_of}
 use Rattle.cc_meaning.specs.internal.FormMeaning.{binary_result, cause_of_operation}
 
 -- an operator that needs both its operands, and becomes an operation

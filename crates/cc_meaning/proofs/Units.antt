@@ -14,15 +14,15 @@ use Rattle.cc_meaning.specs.declared.form.Instruction.{Instruction}
 use Rattle.cc_resolve.specs.Layout.{Layout, LaidObject, laid_from, names_before, layout_of, all_words}
 use Rattle.cc_resolve.specs.Environment.{environment_of}
 use Rattle.cc_meaning.specs.internal.Form.{FunctionCode, functions_code, unit_functions, all_code, entries_from, resolved}
-use Rattle.cc_c_laws.specs.Outcome as outcome
-use Rattle.cc_c_laws.specs.Meaning.{State, Run, Gives, Going, Wrong, Function, functions_from, functions, function_named, run_body, run_optional, calls, initial_global, initial_globals, outcome_of, source_behavior}
+use Rattle.cc_c_semantics.specs.Outcome as outcome
+use Rattle.cc_c_semantics.specs.Meaning.{State, Run, Gives, Going, Wrong, Function, functions_from, functions, function_named, run_body, run_optional, calls, initial_global, initial_globals, outcome_of, source_behavior}
 use Rattle.cc_meaning.specs.internal.FormMeaning.{Configuration, form_run, first_configuration, started, form_behavior, FormsMeanTheirUnits}
-use Rattle.cc_c_laws.proofs.Errors.{nil_left, nil_right, defined_left, defined_right}
-use Rattle.cc_c_laws.proofs.Held.{all_of, layout_from, get_right}
+use Rattle.cc_c_semantics.proofs.Errors.{nil_left, nil_right, defined_left, defined_right}
+use Rattle.cc_c_semantics.proofs.Held.{all_of, layout_from, get_right}
 use Rattle.cc_meaning.proofs.Moves.{Halts, conf, Meets, Stands}
-use Rattle.cc_c_laws.proofs.Scopes.{AllFit, all_fit}
+use Rattle.cc_c_semantics.proofs.Scopes.{AllFit, all_fit}
 use Rattle.cc_meaning.proofs.Called.{Defined, Entered, main_meets}
-use Rattle.cc_c_laws.proofs.Bodies.{Takes, final_scope, names_in, body_scoped, main_named, main_parameters}
+use Rattle.cc_c_semantics.proofs.Bodies.{Takes, final_scope, names_in, body_scoped, main_named, main_parameters}
 
 -- ---- what the whole code has at a place
 
@@ -94,7 +94,7 @@ module _ (unit : List External) (typed : IsTyped unit) where
   matched (Objects t os ∷ rest) f o d whole =
       matched rest (with_objects t os f) (nil_right (external_errors (Objects t os) f) (externals_errors rest (with_objects t os f)) o) (defined_right known (called_in_external (Objects t os)) (called rest) d) whole
 
-  -- a name among them: its function, its number, and the place of its instructions
+  -- the name of one of these functions: its function, its number, and the place of its instructions
   record Listed (gs : List Function) (cs : List FunctionCode) (xs : List (List ℕ)) (code : List Instruction) (at : ℕ) (x : List ℕ) : Type 0 where
     function : Function
     instructions : FunctionCode
@@ -164,7 +164,7 @@ module _ (unit : List External) (typed : IsTyped unit) where
   no_parameters : (e : Entered (resolved unit) layout known (functions unit) (codes "main")) → e.function.parameters ≡ []
   no_parameters e = nil_from_length e.function.parameters (main_parameters unit typed e.function e.is)
 
-  -- with no step left, and with at least one
+  -- the behavior with no step left, and with at least one
   behaves : (text input : List ℕ) (n : ℕ) (e : Entered (resolved unit) layout known (functions unit) (codes "main"))
       → (k : ℕ) × (form_behavior k (resolved unit) input n ≡ Some (source_behavior (record { text = text; externals = unit }) input n))
   behaves text input zero e = (

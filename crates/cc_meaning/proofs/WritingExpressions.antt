@@ -16,7 +16,7 @@ use Rattle.cc_meaning.specs.declared.form.Instruction.TheVariants.{Binary, Truth
 pub behind : {A : Type 0} (xs ys old mid new : List A) → new ≡ xs ++ mid → mid ≡ ys ++ old → new ≡ (xs ++ ys) ++ old
 behind xs ys old mid new en em = en ∙ ap (λ l. xs ++ l) em ∙ sym (append_assoc xs ys old)
 
--- an item followed by this many gets another value
+-- the item that n others follow gets another value
 pub set_behind : {A : Type 0} (xs old new : List A) (x y : A) (n : ℕ) → new ≡ xs ++ x ∷ old → n ≡ length old → set new (length new - (n + 1)) y ≡ xs ++ y ∷ old
 set_behind xs old new x y n e en =
     let long : length new ≡ length xs + length (x ∷ old) = ap length e ∙ length-append xs (x ∷ old) in

@@ -57,7 +57,7 @@ declared-is t (d ∷ ds) w c =
     ∙ ap (λ l. declarator_code t d w ++ l) (declared-is t ds there c)
     ∙ sym (append_assoc (declarator_code t d w) (declared_code there t (declarator_trees ds)) c)
 
--- before the last names of a declaration are removed: what is left makes the whole
+-- while the names of a declaration are removed: the code so far, with the names that are left, makes up the whole
 pub record Undeclaring (t : Scalar) (w : Environment) (all : List Declarator) (c0 : List Instruction) (v : Environment) (c : List Instruction) (rest : List Declarator) : Type 0 where
   pub names : v ≡ with_reversed t rest w
   pub code : declared_onto t rest w c ≡ declared_onto t all w c0
@@ -110,7 +110,7 @@ written_onto-append x (s ∷ xs) ys w c =
     ap (λ v. written_onto x (xs ++ ys) w (statement_code v (exits_of (length c) x) (statement_tree s) ++ c)) (behind_reversed-append xs ys w)
     ∙ written_onto-append x xs ys w (statement_code (behind_reversed xs (behind_reversed ys w)) (exits_of (length c) x) (statement_tree s) ++ c)
 
--- a target's distance from the next instruction, by its distance from those that are written
+-- a target's distance from the next instruction, given its distance from those that are written
 further-minus : (n m k : ℕ) → k ≤ m → (n + m) - k ≡ n + (m - k)
 further-minus n m k h = omega arith
 
@@ -133,7 +133,7 @@ written-is x (s ∷ ss) w c hb hc =
     ∙ ap (λ e. statement_code w e (statement_tree s) ++ (others ++ c)) (further-exits x c others hb hc)
     ∙ sym (append_assoc (statement_code w (further (length others) (exits_of (length c) x)) (statement_tree s)) others c)
 
--- before the last statements of a list are written: what is left makes the whole
+-- while the statements of a list are written: the code so far, with the statements that are left, makes up the whole
 pub record Writing (x : Exits) (w : Environment) (all : List Statement) (c0 : List Instruction) (v : Environment) (c : List Instruction) (rest : List Statement) : Type 0 where
   pub names : v ≡ behind_reversed rest w
   pub code : written_onto x rest w c ≡ written_onto x all w c0

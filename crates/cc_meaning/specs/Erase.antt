@@ -1,6 +1,6 @@
 -- The code's result, as the definitions see it.
 use Rattle.std.specs.Prelude.{ℕ}
-use Rattle.cc_c_laws.specs.Outcome as outcome
+use Rattle.cc_c_semantics.specs.Outcome as outcome
 use Rattle.cc_meaning.specs.declared.outcome.Stop.{Stop}
 use Rattle.cc_meaning.specs.declared.outcome.Stop.TheVariants.{Going, Ended, Wrong}
 use Rattle.cc_meaning.specs.declared.outcome.Outcome.{Outcome}

@@ -23,7 +23,7 @@ pub enum Instruction {
     Local(usize),
     /// Pushes a word of the objects at file scope.
     Global(usize),
-    /// Replaces an index by the array's element; goes wrong if the array has no such element.
+    /// Replaces an index with the array's element; goes wrong if the array has no such element.
     Element(Extent),
     /// Sets a variable to 0.
     Clear(usize),
@@ -33,19 +33,19 @@ pub enum Instruction {
     SetGlobal(usize),
     /// Takes a word and the index below it, and stores the word in the array's element.
     SetElement(Extent),
-    /// Takes a word, and for an element the index below it, and replaces the old value there by the operation's value for the old
-    /// value and the word.
+    /// Takes a word, and for an element the index below it, and replaces the old value there with the operation's value for the
+    /// old value and the word.
     Update(BinaryOperation, Slot),
     Unary(UnaryOperation),
-    /// Replaces two words, the left one below the right one, by the operation's value.
+    /// Replaces two words, the left one below the right one, with the operation's value.
     Binary(BinaryOperation),
     /// Removes a word.
     Drop,
-    /// Replaces a word other than 0 by 1, and keeps 0.
+    /// Replaces a word other than 0 with 1, and keeps 0.
     Truth,
     /// If the word is 0, keeps it and skips this many instructions; otherwise removes it.
     AndThen(usize),
-    /// If the word is not 0, replaces it by 1 and skips this many instructions; otherwise removes it.
+    /// If the word is not 0, replaces it with 1 and skips this many instructions; otherwise removes it.
     OrElse(usize),
     /// Skips this many instructions.
     Jump(usize),
@@ -59,7 +59,7 @@ pub enum Instruction {
     Call(usize),
     /// Pushes the next word of the input, or 0 if none is left.
     Read,
-    /// Appends a word to the output, and replaces it by 0.
+    /// Appends a word to the output, and replaces it with 0.
     Write,
     /// Returns from the function with a word.
     Return,

@@ -8,7 +8,7 @@
 //! - `outcome`: the outcome of a run.
 //! - `fault`: the refusal 40.
 //!
-//! The crate exports `interpret`, these types, and the items of `cc_c_laws`. The meaning of C is defined in that crate's
+//! The crate exports `interpret`, these types, and the items of `cc_c_semantics`. The meaning of C is defined in that crate's
 //! `specs/Meaning.antt`, and it is proved that `interpret` returns it.
 #![tactic(auto)]
 
@@ -22,7 +22,7 @@ mod outcome;
 mod run;
 mod writer;
 
-pub use cc_c_laws::{
+pub use cc_c_semantics::{
     Cause, calls_are_effects, calls_go_on, calls_keep_objects, functions_are_resolved,
     functions_have_meaning, names_have_numbers, programs_call_main, runs_go_on,
     units_have_meanings,

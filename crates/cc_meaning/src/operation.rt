@@ -3,7 +3,7 @@
 ghost use Rattle.std.specs.Prelude.{◌≡◌, ok_or};
 ghost use Rattle.cc_meaning.specs.internal.FormMeaning.{unary_result, binary_result, cause_of_operation};
 
-use cc_c_laws::Cause;
+use cc_c_semantics::Cause;
 use cc_resolve::{BinaryOperation, UnaryOperation};
 
 /// The value of an operation on one word.

@@ -2,7 +2,7 @@
 
 ghost use Rattle.std.specs.Prelude.{◌≡◌};
 
-use cc_c_laws::Cause;
+use cc_c_semantics::Cause;
 use std::marker::Model;
 
 /// How a run stops.
@@ -21,7 +21,7 @@ pub struct Words {
     words: Vec<u32>,
 }
 
-// Written by hand, so that the crates above use this proof and need not show again how each part is dropped.
+// Written by hand, so that the crates above use this proof instead of showing again how each part is dropped.
 impl Drop for Words {
     fn drop(self) {
         let Words { words } = self;
@@ -37,7 +37,7 @@ impl Model for Words {
 }
 
 impl Words {
-    /// Makes a list of a vector's words. Takes no memory.
+    /// Makes a list from a vector's words. Takes no memory.
     pub fn from_vec(items: Vec<u32>) -> Words
         ensures { result ≡ items.items }
     {

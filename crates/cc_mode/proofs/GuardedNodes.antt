@@ -1,4 +1,4 @@
--- How many nodes of RTL guarded code takes: at most eleven more for each operation that may have no answer, and one for the loop at its end.
+-- How many nodes of RTL guarded code takes: at most eleven more for each operation that can lack an answer, and one for the loop at its end.
 use Rattle.std.proofs.Common.{◌≡◌, ℕ, suc, ◌+◌, ◌*◌, ◌≤◌, Bool, true, false, List, [], ◌∷◌, ◌++◌, refl, ap, arith}
 use Rattle.std.specs.Prelude.{if◌then◌else◌}
 use Rattle.cc_words.specs.declared.operators.Binary as two
@@ -33,12 +33,13 @@ then_nodes b (Put t e ∷ gs) s = let h = then_nodes b gs s in omega arith
 then_nodes b (Stop e ∷ gs) s = let h = then_nodes b gs s in omega arith
 then_nodes b (StopBoth d e ∷ gs) s = let h = then_nodes b gs s in omega arith
 
--- its nodes as an operand and in a register, of an expression with so many and so many operations
+-- the nodes that guarded code takes in a register and as an operand, for an expression that takes `into` and `operand` nodes
+-- itself and has `more` operations
 record Few (into operand more : ℕ) (g : Guarded) : Type 0 where
   put : guards_nodes g.before + into_nodes g.value ≤ into + 11 * more
   used : guards_nodes g.before + operand_nodes g.value ≤ operand + 11 * more
 
--- an operand that waits is one node at most
+-- an operand that waits is at most one node
 record FewWaiting (operand more : ℕ) (g : Guarded) : Type 0 where
   used : guards_nodes g.before + operand_nodes g.value ≤ operand + 11 * more
   one : operand_nodes g.value ≤ 1
@@ -165,6 +166,6 @@ module _ (objects : List Size) where
       by true = let a = code_nodes n 0 [] s in omega arith
       by false = let a = code_nodes n 0 [] s in omega arith
 
-  -- so of at most t tokens, of which the code has at most 12 t statements and expressions and t operations, it has at most 23 t + 4 nodes
+  -- code with at most 12 t statements and expressions and t operations has at most 23 t + 4 nodes with its guards
   pub guarded_nodes : (n t : ℕ) (s : Statement) → statement_size s ≤ 12 * t → code_partials s ≤ t → function_nodes (guarded_function objects n s) ≤ 23 * t + 4
   guarded_nodes n t s small few = let a = guarded_few n s in let b = nodes_few s in omega arith

@@ -1,5 +1,5 @@
--- How large code is: how many nodes of RTL guarded code takes (GuardedNodes), with words in variables (HeldNodes), and so of how many tokens its
--- definition is (Tokens).
+-- How large code is: how many nodes of RTL guarded code takes (GuardedNodes), with words in variables (HeldNodes), and from this
+-- how many tokens its definition has (Tokens).
 pub mod HeldNodes
 pub mod GuardedNodes
 pub mod Tokens

@@ -1,9 +1,10 @@
--- The definition of a function whose code is too large is long. Checked code of t tokens has at most 12 t statements and expressions, and t
--- operations that may have no answer, each with eleven nodes more. With the loop at the end that is at most 23 t + 4 nodes of 4,096.
+-- The definition of a function whose code is too large is long. Checked code of t tokens has at most 12 t statements and
+-- expressions, and t operations that can lack an answer, each with eleven nodes more. With the loop at the end that is at most 23
+-- t + 4 of the 4,096 nodes.
 use Rattle.std.proofs.Common.{ℕ, ◌<◌, ◌≤◌, List, [], ◌∷◌, length, Option, Some, None, arith}
 use Rattle.std.proofs.lemmas.Bool.Decides.{nat_tests}
 use Rattle.cc_ast.specs.Tree.{External}
-use Rattle.cc_c_laws.specs.declared.mode.Mode.TheVariants.{Plain, Checked}
+use Rattle.cc_c_semantics.specs.declared.mode.Mode.TheVariants.{Plain, Checked}
 use Rattle.cc_simulation.specs.World.{Size}
 use Rattle.cc_cminor.specs.Cminor.{Expression, Constant, Local, Unary, Binary, Load, Statement, Skip, Set, Store, Call, Read, Write, Sequence, If, Loop, Block, Exit, Return}
 use Rattle.cc_cminor.specs.Numbers.{ExpressionBelow, ExpressionsBelow, ResultBelow, StatementBelow}

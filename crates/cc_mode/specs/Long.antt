@@ -3,10 +3,10 @@ use Rattle.std.specs.Prelude.{◌≡◌, ℕ, ◌<◌, List, length, slice_get, 
 use Rattle.cc_ast.specs.Tree.{External}
 use Rattle.cc_ast.specs.Grammar.{Measured, SpellsExternal}
 use Rattle.cc_types.specs.Typed.{definitions}
-use Rattle.cc_c_laws.specs.declared.mode.Mode.{Mode}
-use Rattle.cc_c_laws.specs.declared.mode.Mode.TheVariants.{Plain, Checked}
+use Rattle.cc_c_semantics.specs.declared.mode.Mode.{Mode}
+use Rattle.cc_c_semantics.specs.declared.mode.Mode.TheVariants.{Plain, Checked}
 
--- a definition of at most so many tokens is never too large: guards take nodes and variables
+-- a definition of at most this many tokens is never too large: guards take nodes and variables
 abbrev pub surely_small : Mode → ℕ
 surely_small Plain = 256
 surely_small Checked = 177

@@ -1,19 +1,19 @@
 // The Cminor of a function in a mode.
 
 ghost use Rattle.std.specs.Prelude.{◌≡◌, ◌<◌, IfOk, IfErr};
-ghost use Rattle.cc_c_laws.specs.declared.mode.Mode.TheVariants.{Plain, Checked};
+ghost use Rattle.cc_c_semantics.specs.declared.mode.Mode.TheVariants.{Plain, Checked};
 ghost use Rattle.cc_cminor.specs.Exits.{ExitsFit};
 ghost use Rattle.cc_cminor.specs.Numbers.{most_lowered, StatementBelow};
 ghost use Rattle.cc_cminor.specs.Pair.{tree_of, code_of, FailsAlike};
 ghost use Rattle.cc_cminor.specs.Size.{AtMostTwelveAToken, AtMostOnePartialAToken};
 ghost use Rattle.cc_rtl_language.specs.Rtl.{most_nodes};
 ghost use Rattle.cc_rtl.specs.Size.{function_nodes};
-ghost use Rattle.cc_rtl.specs.declared.fault.RtlFault.TheVariants.{FunctionTooLarge};
+ghost use Rattle.cc_cminor.specs.declared.fault.CodeFault.TheVariants.{FunctionTooLarge};
 ghost use Rattle.cc_mode.specs.Long.{IsLongIn};
 
-use cc_c_laws::Mode;
+use cc_c_semantics::Mode;
 use cc_cminor::CminorPair;
-use cc_guard::{GuardFault, guard, guards_set_few};
+use cc_guard::{guard, guards_set_few};
 use cc_rtl::RtlFault;
 use std::alloc::Global;
 
@@ -42,16 +42,16 @@ fn checked(alloc: Global, pair: CminorPair) -> Result<CminorPair, RtlFault>
     guards_set_few();
     match guard(alloc, pair) {
         Ok(made) => Ok(made),
-        Err(GuardFault::FunctionTooLarge) => Err(RtlFault::FunctionTooLarge),
-        Err(GuardFault::OutOfMemory) => Err(RtlFault::OutOfMemory),
+        Err(fault) => Err(fault),
     }
 }
 
-/// The Cminor of a function in a mode, from its Cminor as it was lowered: the same, or with guards if it is checked. What it owes in the mode
-/// belongs to the pair's type. Its RTL would be too large only of a definition of more than 256 tokens, or 177 for a checked one (`small`).
+/// The Cminor of a function in a mode, from its Cminor as it was lowered: the same, or with guards if it is checked. The pair's
+/// type keeps what the code owes in the mode. Its RTL would be too large only for a definition of more than 256 tokens, or 177
+/// for a checked one (`small`).
 ///
-/// `FunctionTooLarge` (22) if guards would set more than 2,048 variables, which needs such a definition too; `OutOfMemory` (40) if memory
-/// runs out. The pair is given up with an error.
+/// `FunctionTooLarge` (22) if guards would set more than 2,048 variables, which needs such a definition too; `OutOfMemory` (40)
+/// if memory runs out. After an error the pair is gone.
 pub fn guarded_in(alloc: Global, mode: Mode, pair: CminorPair) -> Result<CminorPair, RtlFault>
     requires plain { pair.mode ≡ Plain }
     requires exits { ExitsFit 0 (code_of pair) }

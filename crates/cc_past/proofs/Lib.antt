@@ -1,4 +1,5 @@
--- What is said of commands, said of the disk that has their records (Past); what is put back (Moments); one command more in the log (Logged).
+-- What holds for commands, stated for the disk that has their records (Past); what is put back (Moments); one more command in the
+-- log (Logged).
 pub mod Past
 pub mod Moments
 pub mod Logged

@@ -1,4 +1,4 @@
--- One command more in the log, the room that it takes, and a refusal that changes nothing.
+-- One more command in the log, the room that it takes, and a refusal that changes nothing.
 use Rattle.std.proofs.Common.{◌≡◌, ◌≢◌, ◌∙◌, ℕ, zero, suc, ◌+◌, ◌<◌, Bool, true, false, IsTrue, List, [], ◌∷◌, ◌++◌, Some, None, Result, Ok, Err, refl, sym, ap, subst, arith}
 use Rattle.std.specs.Prelude.{if◌then◌else◌, is_ok, IfErr, IsOk, OnOk, option_and_then, slice_get}
 use Rattle.std.specs.Str.{bytes_eq}
@@ -9,8 +9,8 @@ use Rattle.cc_disk.specs.Images.{OnlyReads}
 use Rattle.cc_journal.specs.Format.{HasHeader, HoldsRecords, records, room_of}
 use Rattle.cc_journal.proofs.Records.{holds_alone}
 use Rattle.cc_unit.specs.declared.unit.StoredUnit.{StoredUnit}
-use Rattle.cc_library.specs.declared.command.LibraryCommand.{LibraryCommand}
-use Rattle.cc_library.specs.declared.command.LibraryCommand.TheVariants.{Add, Replace, Withdraw}
+use Rattle.cc_library.specs.Change.{LibraryCommand}
+use Rattle.cc_library.specs.declared.command.Change.TheVariants.{Add, Replace, Withdraw}
 use Rattle.cc_library.specs.declared.fault.LibraryFault.{LibraryFault}
 use Rattle.cc_library.specs.declared.fault.LibraryFault.TheVariants.{Exists, Absent as NoUnit, Full, DiskFault, Closed, Damaged, NotALibrary, OutOfMemory as NoMemory}
 use Rattle.cc_library.specs.Answers.{ChangeAnswers, ChangeLeaves, ChangesDisk, room_with}
@@ -31,7 +31,7 @@ accepted_as : (units : Units) (name : List ℕ) (unit : StoredUnit) (has : Bool)
 accepted_as units name unit true e = ap (λ (b : Bool). is_ok (if b then Ok (map.insert units name unit) else Err absent)) e
 accepted_as units name unit false e = ap (λ (b : Bool). is_ok (if b then Err exists else Ok (map.insert units name unit))) e
 
--- the map accepts it
+-- the map accepts that command
 pub putting_accepted : (units : Units) (name : List ℕ) (unit : StoredUnit) → IsOk (apply units (putting units name unit))
 putting_accepted units name unit = accepted_as units name unit (map.contains_key units name) refl
 
@@ -60,12 +60,12 @@ unit_of : (bodies : List (List ℕ)) (commands : List LibraryCommand) (name : Li
 unit_of bodies commands name zero unit spelled found = absurd (none-some unit found)
 unit_of bodies commands name (suc k) unit spelled found = unit_at bodies commands name k unit spelled found
 
--- what a command of a disk stored can be put
+-- what a command of a disk stored can be put back
 pub can_be_put : (seen : List ℕ) (commands : List LibraryCommand) (name : List ℕ) (number : ℕ) (unit : StoredUnit) → HasCommands seen commands → IsStored commands name number unit → (units : Units) → IsCommand (putting units name unit)
 can_be_put seen commands name number unit has stored units =
     can_be_as (map.contains_key units name) name unit stored.is_name (unit_of has.bodies commands name number unit has.read.spelled stored.stored)
 
--- ---- one command more
+-- ---- one more command
 
 accepted_push : (from : Units) (commands : List LibraryCommand) (command : LibraryCommand) → AreAccepted from commands → IsOk (apply (after_all from commands) command) → AreAccepted from (commands ++ command ∷ [])
 accepted_push from [] command before ok = (ok, tt)
@@ -124,7 +124,7 @@ change_untouched (Err NoMemory) command old new leaves = λ other. leaves
 change_untouched (Err Damaged) command old new leaves = λ other. leaves
 change_untouched (Err NotALibrary) command old new leaves = λ other. leaves
 
--- why it was refused is why the unit is not put
+-- the reason for which the change was refused is the reason why the unit is not put
 pub change_refused : {D : Type 0} (honest : Bool) (bytes : List ℕ) (begin before after : ℕ) (no_room : Type 0) (answer : Result (Unit {0}) LibraryFault) (old : View D) (name : List ℕ) (unit : StoredUnit) → before ≡ begin → old.closed ≡ false
     → (IsTrue honest → old.area < room_with old (putting old.units name unit) → no_room) → ChangeAnswers old (putting old.units name unit) before after answer
     → IfErr answer (λ fault. IsNotPut honest bytes begin after no_room fault)
@@ -147,7 +147,7 @@ no_room seen area bodies units name unit holds stand less =
     let has : HasCommands seen stand.commands = record { area = area; bodies = bodies; holds = holds; read = record { spelled = stand.spelled; accepted = stand.accepted } } in
     (stand.commands, has, subst (λ (m : Units). area < room_of (bodies ++ body_of (putting m name unit) ∷ [])) stand.map_is less)
 
--- so it is on the disk that was only read before
+-- the same holds for the disk before it was read
 pub put_refused : (honest : Bool) (seen mid : List ℕ) (begin before after : ℕ) (no_room more : Type 0) (fault : LibraryFault) → (IsTrue honest → mid ≡ seen) → before ≡ begin → (IsTrue honest → no_room → more)
     → IsNotPut honest mid before after no_room fault → IsNotPut honest seen begin after more fault
 put_refused honest seen mid begin before after no_room more Full is same step why = (why.0 ∙ same, λ h. step h (why.1 h))
@@ -163,7 +163,7 @@ put_refused honest seen mid begin before after no_room more Closed is same step 
 -- ---- reading
 
 module _ {D : Type 0} (seen : D → List ℕ) (may_leave : D → List ℕ → Type 0) (moment : D → ℕ) (left_since : D → ℕ → List ℕ → Type 0) where
-  -- reading goes on from reading
+  -- to read, and then to read again, is only to read
   pub reads_on : (a b c : D) → OnlyReads seen may_leave moment left_since a b → OnlyReads seen may_leave moment left_since b c → OnlyReads seen may_leave moment left_since a c
   reads_on a b c first second = record {
     same = second.same ∙ first.same;

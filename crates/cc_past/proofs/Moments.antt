@@ -4,8 +4,8 @@ use Rattle.std.specs.Prelude.{if◌then◌else◌, OnOk}
 use Rattle.std.specs.FinMap as map
 use Rattle.cc_disk.specs.Images.{LeavesOnly, OnlyReads}
 use Rattle.cc_unit.specs.declared.unit.StoredUnit.{StoredUnit}
-use Rattle.cc_library.specs.declared.command.LibraryCommand.{LibraryCommand}
-use Rattle.cc_library.specs.declared.command.LibraryCommand.TheVariants.{Add, Replace}
+use Rattle.cc_library.specs.Change.{LibraryCommand}
+use Rattle.cc_library.specs.declared.command.Change.TheVariants.{Add, Replace}
 use Rattle.cc_library.specs.declared.fault.LibraryFault.{LibraryFault}
 use Rattle.cc_library.specs.Apply.{Units, after, exists, absent, kept, library_of}
 use Rattle.cc_library.specs.Answers.{ChangeLeaves}
@@ -44,7 +44,7 @@ module _ {D : Type 0} (seen : D → List ℕ) (may_leave : D → List ℕ → Ty
   deeper f (inl a) = inl (f a)
   deeper f (inr p) = inr (inr p)
 
-  -- a disk that was read, and of which a crash then leaves at most P
+  -- a read and then a change that leaves only P: together they leave only what could be left before, or P
   pub read_then : (P : List ℕ → Type 0) (old mid new : D) → ((image : List ℕ) → left_since old (moment old) image → may_leave old image)
       → OnlyReads seen may_leave moment left_since old mid → LeavesOnly moment left_since mid new P → LeavesOnly moment left_since old new (λ image. may_leave old image ⊎ P image)
   read_then P old mid new only_now first second = record {
@@ -53,7 +53,7 @@ module _ {D : Type 0} (seen : D → List ℕ) (may_leave : D → List ℕ → Ty
     before = λ t image le left. deeper (λ l. first.moments t image le l) (second.before t image (omega (arith, le, first.later)) left);
   }
 
-  -- a disk that was only read
+  -- a read by itself leaves only what could be left before
   pub read_alone : (P : List ℕ → Type 0) (old new : D) → ((image : List ℕ) → left_since old (moment old) image → may_leave old image)
       → OnlyReads seen may_leave moment left_since old new → LeavesOnly moment left_since old new (λ image. may_leave old image ⊎ P image)
   read_alone P old new only_now reads = record {
@@ -69,7 +69,7 @@ pub on_ok : {T F : Type 0} {A B : Type 0} → (A → B) → (r : Result T F) →
 on_ok step (Ok t) a = step a
 on_ok step (Err f) a = tt
 
--- the map after a change that was made is the one that it makes
+-- after a change that was made, the map is the one that the change makes
 pub kept_as : {D : Type 0} (answer : Result (Unit {0}) LibraryFault) (command : LibraryCommand) (old new : View D) (may_leave : D → List ℕ → Type 0) (H : Type 0) (made : Units)
     → after old.units command ≡ made → ChangeLeaves command old new answer → OnOk answer (H → (image : List ℕ) → may_leave new.disk image → RecoversAlone image new.units)
     → OnOk answer (H → (image : List ℕ) → may_leave new.disk image → RecoversAlone image made)

@@ -1,6 +1,6 @@
 -- What holds for commands holds for the disk that has their records.
 use Rattle.std.proofs.Common.{ℕ, Bool, IsTrue, List}
-use Rattle.cc_library.specs.declared.command.LibraryCommand.{LibraryCommand}
+use Rattle.cc_library.specs.Change.{LibraryCommand}
 use Rattle.cc_log.specs.Commands.{HasCommands}
 use Rattle.cc_tasks.specs.declared.part.PartFault.{PartFault}
 use Rattle.cc_tasks.specs.declared.part.PartFault.TheVariants.{BadName, Absent, Library, OutOfMemory}

@@ -1,7 +1,7 @@
 -- What a command of a library stored, and why it stored nothing.
 use Rattle.std.specs.Prelude.{◌≡◌, ℕ, Bool, false, IsTrue, List, Some, None}
 use Rattle.cc_unit.specs.declared.unit.StoredUnit.{StoredUnit}
-use Rattle.cc_library.specs.declared.command.LibraryCommand.{LibraryCommand}
+use Rattle.cc_library.specs.Change.{LibraryCommand}
 use Rattle.cc_library.specs.Name.{is_name}
 use Rattle.cc_library.specs.Answers.{OpenFaults}
 use Rattle.cc_log.specs.Commands.{HasCommands, stored_at}
@@ -10,17 +10,17 @@ use Rattle.cc_tasks.specs.Part.{IsPart}
 use Rattle.cc_tasks.specs.declared.part.PartFault.{PartFault}
 use Rattle.cc_tasks.specs.declared.part.PartFault.TheVariants.{BadName, Absent, Library, OutOfMemory}
 
--- the bytes are a name, with which the command with this number stored this unit
+-- the bytes are a name under which the command with this number stored this unit
 pub record IsStored (commands : List LibraryCommand) (name : List ℕ) (number : ℕ) (unit : StoredUnit) : Type 0 where
   pub is_name : IsTrue (is_name name)
   pub stored : stored_at commands name number ≡ Some unit
 
--- the bytes are a name, with which that command stored nothing, or there is no such command
+-- the bytes are a name under which that command stored nothing, or there is no such command
 pub record StoresNone (commands : List LibraryCommand) (name : List ℕ) (number : ℕ) : Type 0 where
   pub is_name : IsTrue (is_name name)
   pub stored : stored_at commands name number ≡ None
 
--- of the commands whose records the disk has, the one with this number stored this unit with the name
+-- among the commands whose records the disk has, the one with this number stored this unit under the name
 abbrev pub IsStoredOn : (seen name : List ℕ) (number : ℕ) → StoredUnit → Type 0
 IsStoredOn seen name number unit = (commands : List LibraryCommand) × HasCommands seen commands × IsStored commands name number unit
 

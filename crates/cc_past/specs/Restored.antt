@@ -3,8 +3,8 @@ use Rattle.std.specs.Prelude.{◌≡◌, ◌<◌, ◌⊎◌, ◌+◌, ℕ, Bool,
 use Rattle.std.specs.FinMap.{contains_key, insert}
 use Rattle.cc_journal.specs.Format.{room_of}
 use Rattle.cc_unit.specs.declared.unit.StoredUnit.{StoredUnit}
-use Rattle.cc_library.specs.declared.command.LibraryCommand.{LibraryCommand}
-use Rattle.cc_library.specs.declared.command.LibraryCommand.TheVariants.{Add, Replace}
+use Rattle.cc_library.specs.Change.{LibraryCommand}
+use Rattle.cc_library.specs.declared.command.Change.TheVariants.{Add, Replace}
 use Rattle.cc_library.specs.declared.fault.LibraryFault.{LibraryFault}
 use Rattle.cc_library.specs.declared.fault.LibraryFault.TheVariants.{Exists, Absent as NoUnit, Full, DiskFault, Closed, Damaged, NotALibrary, OutOfMemory as NoMemory}
 use Rattle.cc_library.specs.Apply.{Units, library_of}
@@ -16,13 +16,13 @@ use Rattle.cc_tasks.specs.declared.part.PartFault.{PartFault}
 use Rattle.cc_tasks.specs.declared.part.PartFault.TheVariants.{BadName, Absent, Library, OutOfMemory}
 use Rattle.cc_past.specs.Past.{IsNotStoredOn, IsStored, IsStoredOn}
 
--- the command that puts a unit under a name: a Replace if the map has one there, else an Add
+-- the command that puts a unit under a name: a Replace if the map has a unit there, else an Add
 abbrev pub putting : Units → (name : List ℕ) → StoredUnit → LibraryCommand
 putting units name unit = if contains_key units name then Replace name unit else Add name unit
 
--- The disk had the records of commands, and the one of this number stored the unit under the name. Every image now has the records of these
--- commands and of the one that puts the unit, and of no others: nothing is compacted. So it recovers to the map that they made, with that unit
--- under the name, and to no other.
+-- The disk had the records of commands, and the one of this number stored the unit under the name. Every image now has the
+-- records of these commands and of the one that puts the unit, and of no others: nothing is compacted. So it recovers to the map
+-- that they made, with that unit under the name, and to no other.
 pub record IsRestoredBy (seen name : List ℕ) (number : ℕ) (unit : StoredUnit) (images : List ℕ → Type 0) : Type 0 where
   pub commands : List LibraryCommand
   pub has : HasCommands seen commands
@@ -40,7 +40,8 @@ abbrev pub HasNoRoom : (seen name : List ℕ) → StoredUnit → Type 0
 HasNoRoom seen name unit =
     (commands : List LibraryCommand) × (has : HasCommands seen commands) × (has.area < room_of (has.bodies ++ body_of (putting (library_of commands) name unit) ∷ []))
 
--- why a unit is not put into a library: the library is not opened; or there is no room, and this is so then; or the device failed
+-- why a unit is not put into a library: the library is not opened; or there is no room, and `no_room` holds then; or the device
+-- failed
 abbrev pub IsNotPut : (honest : Bool) (seen : List ℕ) (before after : ℕ) (no_room : Type 0) → LibraryFault → Type 0
 IsNotPut honest seen before after no_room Full = (after ≡ before) × (IsTrue honest → no_room)
 IsNotPut honest seen before after no_room DiskFault = after ≡ before + 1
@@ -51,7 +52,7 @@ IsNotPut honest seen before after no_room Exists = ⊥
 IsNotPut honest seen before after no_room NoUnit = ⊥
 IsNotPut honest seen before after no_room Closed = ⊥
 
--- why nothing is put back: the command stored nothing with the name, or what it stored could not be put into the library
+-- why nothing is put back: the command stored nothing under the name, or what it stored could not be put into the library
 abbrev pub IsNotRestored : (honest : Bool) (seen : List ℕ) (before after : ℕ) (name : List ℕ) (number : ℕ) → PartFault → Type 0
 IsNotRestored honest seen before after name number (Library f) =
     IsNotPut honest seen before after ((unit : StoredUnit) × IsStoredOn seen name number unit × HasNoRoom seen name unit) f

@@ -1,2 +1,2 @@
--- The same for commands and images, before it is stated for a disk.
+-- What is stated for a disk, here for commands and images.
 pub mod Steps

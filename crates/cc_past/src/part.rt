@@ -10,11 +10,11 @@ use cc_task::Part;
 use cc_tasks::{PartFault, part_of};
 use std::alloc::Global;
 
-/// A part of what the command with this number stored with this name in the library on a disk. The disk is handed back, and nothing is
-/// written to it. The first command since the last compaction has the number 1.
+/// A part of what the command with this number stored under this name, in the library on a disk. The disk is handed back, and nothing
+/// is written to it. The first command since the last compaction has the number 1.
 ///
-/// Refusals: first those of `Library::open`, 35, 38, 37 and 40; then 33 if the bytes are not a name, 32 if the command stored nothing with
-/// that name.
+/// Refusals: first those of `Library::open`, 35, 38, 37 and 40; then 33 if the bytes are not a name, 32 if the command stored nothing
+/// under that name.
 pub fn part_at<D: Disk + Drop>(
     alloc: Global,
     disk: D,
@@ -22,7 +22,7 @@ pub fn part_at<D: Disk + Drop>(
     part: Part,
     number: usize,
 ) -> (Result<Vec<u8>, PartFault>, D)
-    // On an honest disk: of the commands whose records it has.
+    // On an honest disk the command is one of those whose records the disk has.
     ensures part { IfOk result.0 (λ bytes. IsTrue D.honest → IsPartAt (D.seen disk) name.now number part bytes.items) }
     ensures refused { IfErr result.0 (λ fault. IsNotStoredOn D.honest (D.seen disk) (D.failures disk) (D.failures result.1) name.now number fault) }
     ensures reads { IsTrue D.honest → OnlyReads D.seen D.may_leave D.moment D.left_since disk result.1 }

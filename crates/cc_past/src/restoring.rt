@@ -4,7 +4,7 @@ ghost use Rattle.std.specs.Prelude.{◌≡◌, ◌≢◌, ◌++◌, [], ◌∷�
 ghost use Rattle.std.specs.FinMap as map;
 ghost use Rattle.cc_disk.specs.Images.{LeavesOnly, OnlyReads};
 ghost use Rattle.cc_unit.specs.declared.unit.StoredUnit.{StoredUnit};
-ghost use Rattle.cc_library.specs.declared.command.LibraryCommand.{LibraryCommand};
+ghost use Rattle.cc_library.specs.Change.{LibraryCommand};
 ghost use Rattle.cc_library.specs.Apply.{Units, library_of};
 ghost use Rattle.cc_library.specs.Body.{IsCommand};
 ghost use Rattle.cc_library.specs.Recovered.{Recovers, RecoversAlone, RecoversOneOf};
@@ -18,11 +18,11 @@ use cc_library::{Library, LibraryCommand, LibraryFault};
 use cc_tasks::PartFault;
 use std::alloc::Global;
 
-// Puts a unit with its name into the library on a disk, whether or not the name has a unit.
+// Puts a unit under its name into the library on a disk, whether or not the name has a unit.
 fn put<D: Disk + Drop>(alloc: Global, disk: D, stored: Stored) -> (Result<(), LibraryFault>, D)
     ensures put { OnOk result.0 (IsTrue D.honest → (units : Units) → Recovers (D.seen disk) units
         → (image : List ℕ) → D.may_leave result.1 image → RecoversAlone image (map.insert units stored.name stored.unit)) }
-    // It is one record more after those of the disk's commands.
+    // There is one more record, after those of the disk's commands.
     ensures logged { OnOk result.0 (IsTrue D.honest → (commands : List LibraryCommand) → HasCommands (D.seen disk) commands
         → IsCommand (putting (library_of commands) stored.name stored.unit) → (image : List ℕ) → D.may_leave result.1 image
         → HasCommands image (commands ++ putting (library_of commands) stored.name stored.unit ∷ [])) }
@@ -51,18 +51,19 @@ fn put<D: Disk + Drop>(alloc: Global, disk: D, stored: Stored) -> (Result<(), Li
     }
 }
 
-/// Puts what the command with this number stored with this name back into the library on a disk, byte for byte: as an add if no unit has
-/// the name, else as a replace. The first command since the last compaction has the number 1. After Ok, every crash leaves it there.
+/// Puts what the command with this number stored under this name back into the library on a disk, byte for byte: as an add if no unit
+/// has the name, else as a replace. The first command since the last compaction has the number 1. After Ok, every crash leaves it there.
 ///
-/// Refusals: first those of `Library::open`, 35, 38, 37 and 40; then 33 if the bytes are not a name, 32 if the command stored nothing with
-/// that name; then 34 if the record does not fit, 35 if the device failed.
+/// Refusals: first those of `Library::open`, 35, 38, 37 and 40; then 33 if the bytes are not a name, 32 if the command stored nothing
+/// under that name; then 34 if the record does not fit, 35 if the device failed.
 pub fn restore<D: Disk + Drop>(
     alloc: Global,
     disk: D,
     name: &[u8],
     number: usize,
 ) -> (Result<(), PartFault>, D)
-    // Of an honest disk every image then has one record more, and recovers to the map before with the unit that the command stored.
+    // On an honest disk every image then has one more record, and recovers to the map before with the unit that the command
+    // stored.
     ensures restored { OnOk result.0 (IsTrue D.honest
         → (unit : StoredUnit) × IsRestoredBy (D.seen disk) name.now number unit (D.may_leave result.1)) }
     // Whatever the answer, at every moment a crash leaves what one could have left before, or the earlier map, or the map after the change.

@@ -18,7 +18,7 @@ pub(crate) struct Stored {
     pub(crate) unit: SharedUnit,
 }
 
-// The unit that the command with this number stored with this name.
+// The unit that the command with this number stored under this name.
 fn stored_among(
     commands: &[LibraryCommand],
     name: &[u8],
@@ -40,11 +40,11 @@ fn stored_among(
     }
 }
 
-/// The unit that the command with this number stored with this name in the library on a disk. The disk is handed back, and nothing is
-/// written to it.
+/// The unit that the command with this number stored under this name, in the library on a disk. The disk is handed back, and nothing
+/// is written to it.
 ///
-/// Refusals: first those of `Library::open`, 35, 38, 37 and 40; then 33 if the bytes are not a name, 32 if the command stored nothing with
-/// that name.
+/// Refusals: first those of `Library::open`, 35, 38, 37 and 40; then 33 if the bytes are not a name, 32 if the command stored nothing
+/// under that name.
 pub(crate) fn stored_on<D: Disk + Drop>(
     alloc: Global,
     disk: D,

@@ -71,7 +71,7 @@ sending_sync C s y = struct_sync (shape (Sending.the_type C Global.the_row heap.
 receiving_sync : (C : RattleType) → IsSend C → IsSync C → IsSync (Receiving.the_field C Global.the_row heap.ghosts).row
 receiving_sync C s y = struct_sync (shape (Receiving.the_type C Global.the_row heap.ghosts)) (Arc-sync _ (both_send C s) (both_sync C y), tt)
 
--- both ends of the channel
+-- both ends of the channel may cross threads
 pub sender_send : (T V P : RattleType) (g : Ghosts P.Denot T.Denot V.Denot) → IsSend T → IsSend (Sending.the_field (channel T V P g) Global.the_row heap.ghosts).row
 sender_send T V P g t = sending (channel T V P g) (rows_send T V P g t) (rows_sync T V P g t)
 

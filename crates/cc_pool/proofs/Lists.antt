@@ -1,4 +1,4 @@
--- Lists of items, one longer.
+-- Lists of items with one more item.
 use Rattle.std.proofs.Common.{◌≡◌, ℕ, zero, suc, ◌+◌, List, [], ◌∷◌, ◌++◌, sym, refl, ap, ◌∙◌, arith, append_assoc, append-nil}
 use Rattle.cc_pool.specs.declared.item.Item.TheVariants.{Stop}
 use Rattle.cc_pool.specs.Shared.{Lists, piece_of, pieces_from, pieces_of, stops, sent_by}

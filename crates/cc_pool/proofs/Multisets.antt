@@ -10,7 +10,7 @@ use Rattle.cc_pool.specs.declared.item.Item.{Item}
 use Rattle.cc_pool.specs.declared.item.Item.TheVariants.{Piece, Stop}
 use Rattle.cc_pool.specs.Rule.{SameItems}
 
--- 1 where both numbers are the same, else 0
+-- 1 if both numbers are the same, otherwise 0
 abbrev same : ℕ → ℕ → ℕ
 same a b = cond (eqb a b) 1 0
 
@@ -20,7 +20,7 @@ same_self a = grind (arith, nat_tests)
 same_is : (a b : ℕ) → 0 < same a b → a ≡ b
 same_is a b p = grind (arith, nat_tests)
 
--- how often an item is at a place: once if it is the item there, else never
+-- how often the first item is the second: once if they are the same, otherwise never
 abbrev is_item : Item → Item → ℕ
 is_item (Piece a) (Piece b) = cond (eqb a.job b.job) (same a.function b.function) 0
 is_item (Piece a) Stop = 0
@@ -44,7 +44,7 @@ item_is Stop Stop p = refl
 abbrev Stands : Item → List Item → Type 0
 Stands x ys = (prefix : List Item) × (back : List Item) × (ys ≡ prefix ++ x ∷ back)
 
--- an item that counts is somewhere in the list
+-- an item that is counted at least once is somewhere in the list
 first_or_later : (x y : Item) (ys : List Item) → 0 < sum_by (is_item x) (y ∷ ys) → (0 < sum_by (is_item x) ys → Stands x ys) → (n : ℕ) → is_item x y ≡ n → Stands x (y ∷ ys)
 first_or_later x y ys p later zero is = let w = later (omega (arith, sum_by-cons (is_item x) y ys, is, p)) in (y ∷ w.0, w.1, ap (λ l. y ∷ l) w.2)
 first_or_later x y ys p later (suc n) is = let here : 0 < is_item x y = omega (arith, is) in ([], ys, ap (λ z. z ∷ ys) (sym (item_is x y here)))

@@ -4,7 +4,7 @@ use Rattle.std.specs.Prelude.{All}
 use Rattle.std.proofs.lemmas.Bool.{cases_lt}
 use Rattle.std.proofs.lemmas.List.Elements.{All-head, All-tail}
 use Rattle.cc_ast.specs.Source.{source}
-use Rattle.cc_c_laws.specs.declared.mode.Mode.{Mode}
+use Rattle.cc_c_semantics.specs.declared.mode.Mode.{Mode}
 use Rattle.cc_emit.specs.Piece.{Piece}
 use Rattle.cc_link.specs.Pieces.{AreFromIn}
 use Rattle.cc_link.specs.Compile.{HasPieceIn}
@@ -28,7 +28,7 @@ has_piece mode text from g (p ∷ ps) own all low high =
       | inr le ↦ record { piece = p; compiled = All-head IsCompiled p ps all; mode_is = own.0.0; text_is = own.0.1; function_is = own.1 ∙ omega (arith, low, le) }
     ]
 
--- the reason for the function after them is the reason for the first function without a piece
+-- if the function after these pieces was refused for a reason, this is the refusal of the job
 pub refusal_of : (mode : Mode) (text : List ℕ) (function : ℕ) (ps : List Piece) (fault : PoolFault) → AreFromIn mode text 0 ps → All IsCompiled ps → length ps ≡ function → IsReason mode text function fault → IsJobRefusal mode text fault
 refusal_of mode text function ps (fault.Piece f why) own compiled count reason =
     (subst (λ (n : ℕ). IsRefusedAt mode text n why) (sym reason.0) reason.1, λ g less. has_piece mode text 0 g ps own compiled (omega arith) (omega (arith, less, reason.0, count)))

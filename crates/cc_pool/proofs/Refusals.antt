@@ -1,4 +1,5 @@
--- A refusal names a function of a program's text: what `compile_function_in` says about the tree of a checked unit holds for its text.
+-- A refusal names a function of a program's text: what `compile_function_in` says about the tree of a checked unit holds for its
+-- text.
 use Rattle.std.proofs.Common.{◌≡◌, ℕ, suc, ◌<◌, List, [], ◌∷◌, length, map, refl, ap, subst}
 use Rattle.std.proofs.Math.Logic.{∥∥₁_map}
 use Rattle.cc_ast.specs.Tree.{Name, External, Source, Declaration, Definition, Objects}
@@ -7,7 +8,7 @@ use Rattle.cc_types.specs.Scope.{FileScope, first_file_scope, file_scope_behind}
 use Rattle.cc_types.specs.Limits.{function_names}
 use Rattle.cc_types.specs.Typed.{IsTyped, IsWithinLimits, defined_names}
 use Rattle.cc_link.specs.Meaning.{functions, functions_from}
-use Rattle.cc_c_laws.specs.declared.mode.Mode.{Mode}
+use Rattle.cc_c_semantics.specs.declared.mode.Mode.{Mode}
 use Rattle.cc_link.specs.Compile.{IsBlamedIn, IsPieceRefusalIn}
 use Rattle.cc_link.specs.declared.piece_fault.PieceFault.{PieceFault}
 

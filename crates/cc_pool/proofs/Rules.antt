@@ -1,5 +1,5 @@
--- Each of the six kinds of step keeps the rule of the queue, and the pool's own pass, once it is alone, sees everything. All proofs are
--- about sums over the views of the passes; a step changes one or two views.
+-- Each of the six kinds of step keeps the rule of the queue, and the pool's own pass sees everything once it is the only one. All
+-- proofs are about sums over the views of the passes; a step changes one or two views.
 use Rattle.std.proofs.Common.{◌≡◌, ◌≢◌, ℕ, zero, suc, ◌+◌, ◌≤◌, List, [], ◌∷◌, ◌++◌, length, set, sym, refl, ap, subst, ⊎_elim, ◌∙◌, append-nil, arith}
 use Rattle.std.specs.List.{sum_by}
 use Rattle.std.proofs.lemmas.List.Sums.{sum_by-cons, sum_by_push, sum_by-append}
@@ -23,7 +23,7 @@ changed f [] k v w e = absurd (some-ne-none v (sym e))
 changed f (x ∷ xs) zero v w e = omega (arith, sum_by-cons f x xs, sum_by-cons f w xs, ap f (some-injective x v e))
 changed f (x ∷ xs) (suc k) v w e = omega (arith, sum_by-cons f x xs, sum_by-cons f x (set xs k w), changed f xs k v w e)
 
--- one view counts at most as much as all together
+-- one view counts at most as much as all views together
 part : (f : Hand → ℕ) (views : List Hand) (k : ℕ) (v : Hand) → get_elem? views k ≡ some v → f v ≤ sum_by f views
 part f [] k v e = absurd (some-ne-none v (sym e))
 part f (x ∷ xs) zero v e = omega (arith, sum_by-cons f x xs, ap f (some-injective x v e))
@@ -36,14 +36,14 @@ both_sums f g (x ∷ xs) = omega (arith, sum_by-cons (λ v. f v + g v) x xs, sum
 abbrev Each : (Hand → Type 0) → List Hand → Type 0
 Each P views = (k : ℕ) (v : Hand) → get_elem? views k ≡ some v → P v
 
--- if no view has a part, f is 0 for all together
+-- if `p` is 0 for all views together, so is `f`
 nothing : (p f : Hand → ℕ) (views : List Hand) → Each (λ u. p u ≡ 0 → f u ≡ 0) views → sum_by p views ≡ 0 → sum_by f views ≡ 0
 nothing p f [] each none = refl
 nothing p f (x ∷ xs) each none =
     let s = sum_by-cons p x xs in
     omega (arith, sum_by-cons f x xs, each 0 x refl (omega (arith, s, none)), nothing p f xs (λ k v e. each (suc k) v e) (omega (arith, s, none)))
 
--- if one view has every part, it has all of f
+-- if one view has the whole sum of `p`, it has the whole sum of `f`
 lone : (p f : Hand → ℕ) (views : List Hand) (k : ℕ) (v : Hand) → Each (λ u. p u ≡ 0 → f u ≡ 0) views → get_elem? views k ≡ some v → sum_by p views ≡ p v → sum_by f views ≡ f v
 lone p f [] k v each e all = absurd (some-ne-none v (sym e))
 lone p f (x ∷ xs) zero v each e all =
@@ -54,7 +54,7 @@ lone p f (x ∷ xs) (suc k) v each e all =
     let least = part p xs k v e in
     omega (arith, sum_by-cons f x xs, each 0 x refl (omega (arith, s, least, all)), lone p f xs k v (λ j u a. each (suc j) u a) e (omega (arith, s, least, all)))
 
--- ---- a fact of each view
+-- ---- a fact about each view
 
 each_set : (P : Hand → Type 0) (views : List Hand) (k : ℕ) (w : Hand) → Each P views → P w → Each P (set views k w)
 each_set P views k w each p j u e = ⊎_elim (λ (t : (j ≡ k) × (w ≡ u)). subst P t.1 p) (λ (t : (j ≢ k) × (get_elem? views j ≡ some u)). each j u t.1) (at_set views k j w u e)
@@ -173,7 +173,7 @@ empty_is : (queue : List Item) → length queue ≡ 0 → queue ≡ []
 empty_is [] none = refl
 empty_is (x ∷ xs) none = absurd (omega (arith, none))
 
--- if the queue was empty at one moment, all that was sent was taken
+-- if the queue was empty at some moment, all that was sent has been taken
 pub all_taken : (v : Hand) → Held 0 (SeesAll v) → AllTaken v
 all_taken v h own same =
     let none : v.taken ++ h.0 ≡ v.taken = ap (λ l. v.taken ++ l) (empty_is h.0 h.1) ∙ append-nil v.taken in

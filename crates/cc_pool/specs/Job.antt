@@ -1,8 +1,8 @@
--- Jobs as contracts see them.
+-- Jobs, as contracts see them.
 use Rattle.std.specs.Prelude.{ℕ, List}
-use Rattle.cc_c_laws.specs.declared.mode.Mode.{Mode}
+use Rattle.cc_c_semantics.specs.declared.mode.Mode.{Mode}
 
--- a function of a job, both by number
+-- a function of a job; both are given by their numbers
 pub record JobFunction : Type 0 where
   pub job : ℕ
   pub function : ℕ

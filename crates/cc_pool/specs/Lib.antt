@@ -1,12 +1,12 @@
--- jobs as contracts see them
+-- jobs, as contracts see them
 pub mod Job
 -- what contracts say about passes
 pub mod Shared
 -- why a job has no pieces
 pub mod Fault
--- a worker's refusal as contracts see it
+-- a worker's refusal, as contracts see it
 pub mod Answers
--- which queue it is
+-- the name of a queue
 pub mod Queue
 -- the rule of the queue
 pub mod Rule

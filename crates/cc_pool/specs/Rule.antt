@@ -61,8 +61,8 @@ SameItems xs ys = (h : Item → ℕ) → sum_by h xs ≡ sum_by h ys
 abbrev pub Balanced : (queue : List Item) (passes : List Hand) → Type 0
 Balanced queue passes = (h : Item → ℕ) → sum_by (λ v. sum_by h v.sent) passes ≡ sum_by (λ v. sum_by h v.taken) passes + sum_by h queue
 
--- The pool has one pass of its own, and only that pass counts splits and joins: there are as many passes out as splits minus joins. A
--- joined pass has nothing any more
+-- The pool has one pass of its own, and only that pass counts splits and joins: the number of passes out is that of splits minus
+-- that of joins. A joined pass has nothing any more
 pub record Kept (queue : List Item) (passes : List Hand) : Type 0 where
   pub one : sum_by (λ v. owns v.role) passes ≡ 1
   pub counted : sum_by (λ v. is_out v.role) passes + sum_by (λ v. v.joins) passes ≡ sum_by (λ v. v.splits) passes
@@ -70,6 +70,6 @@ pub record Kept (queue : List Item) (passes : List Hand) : Type 0 where
   pub empty : (k : ℕ) (v : Hand) → get_elem? passes k ≡ some v → is_live v.role ≡ 0 → (v.sent ≡ []) × (v.taken ≡ [])
   pub balanced : Balanced queue passes
 
--- if the pool's own pass has as many joins as splits, its lists are all that was sent and taken
+-- if the pool's own pass has as many joins as splits, its lists have all that was sent and taken
 abbrev pub SeesAll : Hand → List Item → Type 0
 SeesAll v queue = v.role ≡ Owner → v.splits ≡ v.joins → SameItems v.sent (v.taken ++ queue)

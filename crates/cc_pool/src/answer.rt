@@ -22,24 +22,14 @@ pub enum Answer {
     Refused(Refusal),
 }
 
-/// A function that a worker refused, for another reason than lack of memory. Contracts see the mode, its text, its number and the reason.
+/// A function that a worker refused, for a reason other than lack of memory. Contracts see the mode, its text, its number and the
+/// reason.
+#[derive(Drop)]
 pub struct Refusal {
     mode: Mode,
     unit: Arc<TypedUnit>,
     function: usize,
     fault: PieceFault,
-}
-
-// Written by hand, so that crates above call it and need not prove again how each part is dropped.
-impl Drop for Refusal {
-    fn drop(self) {
-        let Refusal {
-            mode,
-            unit,
-            function,
-            fault,
-        } = self;
-    }
 }
 
 impl Model for Refusal {

@@ -1,7 +1,7 @@
 // The queue's two ends, and a pass of it. Only these functions call the channel.
 //
-// Whoever holds one end holds the other. A worker that waits on the queue keeps it open itself, so its receive ends with an item and never
-// because all senders are gone.
+// Whoever holds one end holds the other. A worker that waits on the queue itself keeps it open, so its receive ends with an item,
+// never because all senders are gone.
 
 ghost use Rattle.std.specs.Prelude.{◌≡◌, OnErr, OnOk, IfSome, IfNone};
 ghost use Rattle.cc_pool.specs.declared.rule.Role.TheVariants.{Owner, Out};
@@ -34,7 +34,7 @@ pub struct FreshQueue {
     pass: Place,
 }
 
-// Written by hand, so that crates above call it and need not prove again how each part is dropped.
+// Written by hand, so that crates above use this proof and need not show again how each part is dropped.
 impl Drop for FreshQueue {
     fn drop(self) {
         let FreshQueue { queue, pass } = self;
@@ -129,7 +129,7 @@ impl<N: Queued> Ends<N> {
         })
     }
 
-    // Puts an item after all others. It waits while the queue is full, and fails only if all receivers are gone.
+    // Adds an item at the end of the queue. This waits while the queue is full, and fails only if all receivers are gone.
     pub(crate) fn send<R: Wait>(&self, rt: &R, seat: &mut Seat<N>, item: Item) -> Result<(), Item>
         requires { is_live seat.old.role ≡ 1 }
         ensures ok { OnOk result (seat.new ≡ sends_one seat.old item) }
@@ -145,7 +145,7 @@ impl<N: Queued> Ends<N> {
         }
     }
 
-    // Takes the first item. It waits while there is none, and answers None only if all senders are gone.
+    // Takes the first item. This waits while there is none, and answers None only if all senders are gone.
     pub(crate) fn take<R: Wait>(&self, rt: &R, seat: &mut Seat<N>) -> Option<Item>
         requires { is_live seat.old.role ≡ 1 }
         ensures some { IfSome result (λ item. seat.new ≡ takes_one seat.old item) }
@@ -157,7 +157,8 @@ impl<N: Queued> Ends<N> {
             .ok()
     }
 
-    // Takes the first item, if there is one. If there is none and no pass but the pool's own is out, all that was sent has been taken.
+    // Takes the first item, if there is one. If there is none, and no pass is out except the pool's own, all that was sent has
+    // been taken.
     pub(crate) fn try_take<R: Wait>(&self, rt: &R, seat: &mut Seat<N>) -> Option<Item>
         requires { is_live seat.old.role ≡ 1 }
         ensures some { IfSome result (λ item. seat.new ≡ takes_one seat.old item) }

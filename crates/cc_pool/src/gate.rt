@@ -1,8 +1,9 @@
 // A gate that workers pass.
 
-/// A call that each worker makes between taking a piece and compiling it. The worker holds no lock then.
+/// A call that each worker makes after taking a piece and before compiling it. The worker holds no lock then.
 pub trait Gate {
-    /// Called before the piece of a function (its number from 0, in the order of definitions) of the job with a number.
+    /// Called before a piece is compiled: `job` is the job's number, `piece` the number of the function, from 0, in the order of
+    /// definitions.
     fn before(&self, job: u64, piece: u32);
 }
 

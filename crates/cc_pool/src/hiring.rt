@@ -19,10 +19,11 @@ use std::alloc::{AllocError, Global};
 use std::sync::{Arc, Wait};
 use std::thread::{Builder, Threads};
 
-/// A worker's stack in bytes: as much as a main thread usually has, so that a worker can do what the main thread can.
+/// A worker's stack in bytes: as large as a main thread's usually is, so that a worker can do what the main thread can.
 const STACK: usize = 8 << 20;
 
-// Starts this many workers, which hand their passes back over `back`. Answers how many were started: all, if there is no fault.
+// Starts this many workers, which hand their passes back over `back`. Answers how many were started: all of them if there is no
+// fault.
 pub(crate) fn hire<N, R, G>(
     rt: &R,
     alloc: Global,
@@ -78,7 +79,7 @@ fn another<N: Queued>(back: &Sender<Taker<N>>) -> Result<Sender<Taker<N>>, Alloc
     Ok(back.clone()?)
 }
 
-// Starts a thread that works so. Answers whether it was started.
+// Starts a thread that works like this. Answers whether it was started.
 fn spawned<N, R, G>(
     rt: R,
     alloc: Global,
@@ -98,7 +99,7 @@ where
         .is_ok()
 }
 
-// Tells each of this many workers to stop, and takes the pass of each back.
+// Makes each of this many workers stop, and takes the pass of each back.
 pub(crate) fn dismiss<N: Queued, R: Wait>(
     rt: &R,
     ends: &Ends<N>,
@@ -139,7 +140,7 @@ fn take_back<N: Queued, R: Wait>(
     Ok(())
 }
 
-// Tells this many workers to stop, by one item each.
+// Makes this many workers stop, with one item for each.
 fn stop<N: Queued, R: Wait>(
     rt: &R,
     ends: &Ends<N>,

@@ -15,14 +15,15 @@ use std::alloc::{AllocError, Global};
 use std::marker::Model;
 use std::sync::{Arc, Wait};
 
-/// An item of the queue: a piece to be made, or the word that makes a worker stop.
+/// An item of the queue: a piece to be made, or the signal that makes a worker stop.
 #[derive(Drop)]
 pub enum Item {
     Piece(Order),
     Stop,
 }
 
-/// A function of a unit that has to be compiled in a mode, and where the answer goes. Contracts see the job's number and the function's.
+/// A function of a unit that has to be compiled in a mode, and where the answer goes. Contracts see the number of the job and the
+/// number of the function.
 #[derive(Drop)]
 pub struct Order {
     job: u64,

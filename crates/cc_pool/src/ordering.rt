@@ -1,7 +1,7 @@
 // How a job's answers are put in order.
 //
-// A plain channel does not say from which job a message is. So an answer is recognised by its mode, its text (compared at run time) and its
-// function's number. An answer for another text or mode is left out.
+// A plain channel does not say which job a message comes from. So an answer is recognised by its mode, its text (compared at run
+// time) and its function's number. An answer for another text or mode is left out.
 
 ghost use Rattle.std.specs.Prelude.{◌≡◌, ◌<◌, length, All, HoldsAt, IfOk, IfErr, IfSome};
 ghost use Rattle.cc_link.specs.Made.{IsCompiled};
@@ -25,7 +25,7 @@ pub(crate) struct Came {
     refusals: Vec<Refusal>,
 }
 
-// This many answers, or those that came before they ended. Err: memory ran out.
+// This many answers, or, if the answers end early, those that came before. Err: memory ran out.
 pub(crate) fn gather<R: Wait>(
     rt: &R,
     alloc: Global,
@@ -44,7 +44,7 @@ pub(crate) fn gather<R: Wait>(
     Ok(Came { pieces, refusals })
 }
 
-// The fault for a function whose piece did not come: the reason that came for it, else 41.
+// The fault for a function whose piece did not come: the reason that came for it, otherwise 41.
 fn reason(mode: Mode, text: &[u8], function: usize, refusals: &[Refusal]) -> PoolFault
     ensures { IsReason mode text.now function result }
 {
@@ -83,7 +83,8 @@ fn piece_of(pieces: &mut Vec<Piece>, mode: Mode, text: &[u8], function: usize) -
     Some(pieces.swap_remove(at))
 }
 
-// The pieces of this many functions of a text in a mode, in their order. Else the fault for the first function whose piece did not come.
+// The pieces of this many functions of a text in a mode, in their order. Otherwise the fault for the first function whose piece
+// did not come.
 pub(crate) fn in_order(
     alloc: Global,
     mode: Mode,

@@ -4,7 +4,7 @@ ghost use Rattle.std.specs.Prelude.{◌≡◌, ◌≤◌, ◌++◌, [], length, 
 ghost use Rattle.std.specs.Arc.{arc_value};
 ghost use Rattle.cc_ast.specs.Source.{source};
 ghost use Rattle.cc_types.specs.Typed.{defined_names};
-ghost use Rattle.cc_c_laws.specs.declared.mode.Mode.TheVariants.{Plain};
+ghost use Rattle.cc_c_semantics.specs.declared.mode.Mode.TheVariants.{Plain};
 ghost use Rattle.cc_link.specs.Made.{IsCompiled};
 ghost use Rattle.cc_link.specs.Pieces.{AreFromIn};
 ghost use Rattle.cc_pool.specs.Fault.{IsJobRefusal};
@@ -38,7 +38,7 @@ pub struct Pool<N: Queued> {
     jobs: AtomicU64,
 }
 
-// Written by hand, so that crates above call it and need not prove again how each part is dropped.
+// Written by hand, so that crates above use this proof and need not show again how each part is dropped.
 impl<N: Queued> Drop for Pool<N> {
     fn drop(self) {
         let Pool {
@@ -60,10 +60,11 @@ impl<N: Queued> Model for Pool<N> {
 }
 
 impl<N: Queued + Send + Sync + 'static> Pool<N> {
-    /// Starts this many workers, which call the gate before each piece. Each has a stack of 8 MiB. The contract promises the pool's own
-    /// number of workers, from which `finish` counts.
+    /// Starts this many workers, which call the gate before each piece. Each worker has a stack of 8 MiB. The contract promises
+    /// the pool's own number of workers, from which `finish` counts.
     ///
-    /// Refusals: 40 if memory ran out; 41 if a thread could not be started. The workers that were started have then been told to stop.
+    /// Refusals: 40 if memory ran out; 41 if a thread could not be started. The workers that were started have then been asked to
+    /// stop.
     pub fn start<R, G>(
         rt: &R,
         alloc: Global,
@@ -126,11 +127,11 @@ impl<N: Queued + Send + Sync + 'static> Pool<N> {
         self.submit_in(rt, alloc, pass, Mode::Plain, unit)
     }
 
-    /// Hands in a unit for pieces in a mode: an item for each of its functions, in the order of their definitions and with the job's
-    /// number, is put after what the pass has sent. It waits while the queue is full.
+    /// Hands in a unit for pieces in a mode: an item for each of its functions, in the order of their definitions and with the
+    /// job's number, is put after what the pass has sent. This waits while the queue is full.
     ///
-    /// Refusals: 40 if memory ran out; 41 if the queue is closed or 2^64 - 1 jobs were handed in. Some of the items may have been sent
-    /// then: the first ones of one job, and nothing else.
+    /// Refusals: 40 if memory ran out; 41 if the queue is closed or 2^64 - 1 jobs were handed in. Some of the items may have been
+    /// sent then: the first ones of one job, and nothing else.
     pub fn submit_in<R: Wait>(
         &self,
         rt: &R,
@@ -191,12 +192,12 @@ impl<N: Queued + Send + Sync + 'static> Pool<N> {
         Ok(())
     }
 
-    /// Waits for the pieces of a job: one compiled piece of its text and mode for each function, in the order of their definitions. If
-    /// memory runs out, the pieces that came are dropped.
+    /// Waits for the pieces of a job: one compiled piece of its text and mode for each function, in the order of their
+    /// definitions. If memory runs out, the pieces that came are dropped.
     ///
-    /// Refusals are for the first function whose piece did not come: 22 or 24 if a worker refused it, else 41; and 40 if memory ran out.
-    /// Each function before one that was refused by 22 or 24 has a piece. 22 means that the function is too long; no clause says that a
-    /// function with 24 has no piece.
+    /// Refusals are for the first function whose piece did not come: 22 or 24 if a worker refused it, otherwise 41; and 40 if
+    /// memory ran out. Each function before one that was refused with 22 or 24 has a piece. 22 means that the function is too
+    /// long; no clause says that a function with 24 has no piece.
     pub fn collect<R: Wait>(
         &self,
         rt: &R,
@@ -211,9 +212,9 @@ impl<N: Queued + Send + Sync + 'static> Pool<N> {
         ticket.collect(rt, alloc)
     }
 
-    /// Ends the pool. It tells each worker to stop, after all that was sent, waits until the workers have handed their passes back, and
-    /// takes in these and the given passes. All that was sent, by these passes and to stop the workers, has been taken, each item once, so
-    /// none is left on the queue.
+    /// Ends the pool. Each worker is asked to stop, after all that was sent; then the call waits until the workers have handed
+    /// their passes back, and takes in these and the given passes. All that was sent, by these passes and to stop the workers,
+    /// has been taken, each item once, so no item is left on the queue.
     ///
     /// Refusal: 41 if the passes are not all that were made, or if an item is left.
     pub fn finish<R: Wait>(self, rt: &R, passes: Vec<Pass<N>>) -> Result<Drained<N>, PoolFault>

@@ -16,7 +16,7 @@ pub struct Pass<N: Queued> {
     seat: Seat<N>,
 }
 
-// Written by hand, so that crates above call it and need not prove again how each part is dropped.
+// Written by hand, so that crates above use this proof and need not show again how each part is dropped.
 impl<N: Queued> Drop for Pass<N> {
     fn drop(self) {
         let Pass { seat } = self;
@@ -53,7 +53,8 @@ impl<N: Queued> Model for Taker<N> {
     ghost invariant = { λ p. (p.seat.role ≡ Out) × (p.seat.sent ≡ []) };
 }
 
-/// The pool's own pass, and how many passes are out, if they can be counted. Until the pool ends it has sent and taken nothing.
+/// The pool's own pass, and how many passes are out, if they can be counted. Until the pool ends, this pass has sent and taken
+/// nothing.
 #[derive(Drop)]
 pub(crate) struct Own<N: Queued> {
     seat: Seat<N>,
@@ -76,7 +77,7 @@ pub struct Drained<N: Queued> {
     seat: Seat<N>,
 }
 
-// Written by hand, so that crates above call it and need not prove again how each part is dropped.
+// Written by hand, so that crates above use this proof and need not show again how each part is dropped.
 impl<N: Queued> Drop for Drained<N> {
     fn drop(self) {
         let Drained { seat } = self;
@@ -166,7 +167,7 @@ impl<N: Queued> Own<N> {
         ends.split(&mut self.seat)
     }
 
-    // The pass itself, and how many passes are out.
+    // The pool's own pass, and how many passes are out.
     pub(crate) fn into_seat(self) -> (Seat<N>, Option<u64>)
         ensures role { result.0.role ≡ Owner }
         ensures joins { result.0.joins ≡ 0 }

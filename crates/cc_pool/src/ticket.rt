@@ -19,7 +19,7 @@ use std::alloc::Global;
 use std::marker::Model;
 use std::sync::{Arc, Wait};
 
-/// A job that was handed in. Contracts see its number, its mode, and its unit by text and number of functions.
+/// A job that was handed in. Contracts see its number, its mode, and its unit's text and number of functions.
 pub struct Ticket {
     number: u64,
     mode: Mode,
@@ -27,7 +27,7 @@ pub struct Ticket {
     answers: Receiver<Answer>,
 }
 
-// Written by hand, so that crates above call it and need not prove again how each part is dropped.
+// Written by hand, so that crates above use this proof and need not show again how each part is dropped.
 impl Drop for Ticket {
     fn drop(self) {
         let Ticket {

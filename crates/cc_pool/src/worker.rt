@@ -9,8 +9,8 @@ use crossbeam_channel::Sender;
 use std::alloc::Global;
 use std::sync::Wait;
 
-// Makes pieces until it gets the item that makes it stop. Nothing else ends it: a receive that fails is tried again. Then it hands its pass
-// back.
+// Makes pieces until the item comes that makes the worker stop, and then hands its pass back. Nothing else ends the loop: a
+// receive that fails is tried again.
 pub(crate) fn work<N: Queued, G: Gate, R: Wait>(
     rt: &R,
     alloc: Global,

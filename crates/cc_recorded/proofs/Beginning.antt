@@ -6,7 +6,7 @@ use Rattle.cc_disk.specs.declared.disk.Disk.{Ghosts}
 use Rattle.cc_disk.specs.Images.{LeavesAlone}
 use Rattle.cc_disk.specs.Model.{bytes_of, IsImage, settled}
 use Rattle.cc_journal.specs.Format.{HoldsRecords, records}
-use Rattle.cc_library.specs.declared.command.LibraryCommand.{LibraryCommand}
+use Rattle.cc_library.specs.Change.{LibraryCommand}
 use Rattle.cc_library.specs.Apply.{AreAccepted, library_of}
 use Rattle.cc_library.specs.Recovered.{StandFor}
 use Rattle.cc_core.specs.declared.command.Numbered.{Numbered}
@@ -68,7 +68,7 @@ abbrev pub honest_kind : {Disk : Type 0} → Ghosts Disk → Ghosts Disk
 honest_kind D = record D { honest = true }
 
 module _ {Disk P : Type 0} (D : Ghosts Disk) where
-  -- on an honest disk it is a beginning of the core, if the units that were found are right
+  -- on an honest disk the state that the book shows is a beginning of the core, if the units that were found are right
   pub begins : (book : BookView Disk) → book.history ≡ [] → book.failed ≡ [] → book.library.closed ≡ false → book.base ≡ book.library.units → StandFor book.library.bodies book.library.units
       → HoldsRecords (D.seen book.library.disk) book.library.area book.library.bodies → LeavesAlone (D.seen book.library.disk) (D.may_leave book.library.disk)
       → (s : Contents P) × Shows (honest_kind D) book s × IsOpened s

@@ -1,12 +1,11 @@
--- How it is kept that the changes that failed did so with the device: only a device call that fails adds one.
+-- How it is kept that changes failed only because the device did: only a device call that fails adds one.
 use Rattle.std.proofs.Common.{◌≡◌, ◌+◌, ◌≤◌, ℕ, List, [], ◌∷◌, length, Result, Ok, Err, refl, sym, ap, subst, arith}
 use Rattle.cc_disk.specs.declared.disk.Disk.{Ghosts}
-use Rattle.cc_library.specs.declared.command.LibraryCommand.{LibraryCommand}
+use Rattle.cc_library.specs.Change.{LibraryCommand}
 use Rattle.cc_library.specs.Recovered.{View}
-use Rattle.cc_history.specs.declared.command.Command.{Command}
 use Rattle.cc_history.specs.declared.command.Asked.{Asked}
 use Rattle.cc_history.specs.declared.entry.Receipt.{Receipt}
-use Rattle.cc_history.specs.Calls.{change_of}
+use Rattle.cc_history.specs.Calls.{Command}
 use Rattle.cc_history.specs.History.{MemberView}
 use Rattle.cc_recorded.specs.declared.fault.BookFault.{BookFault}
 use Rattle.cc_recorded.specs.declared.fault.BookFault.TheVariants.{Exists, Absent, Full, DiskFault, Closed, Estranged, OutOfMemory}
@@ -46,7 +45,7 @@ module _ {Disk : Type 0} (D : Ghosts Disk) (failures : ℕ) where
     commit_blames old new command (Err (Estranged number found)) (_, _, stays, _) = same stays
     commit_blames old new command (Err Full) (_, _, stays, _) = same stays
     commit_blames old new command (Err OutOfMemory) (_, stays, _) = same stays
-    commit_blames old new command (Err DiskFault) (_, _, device, stays, _) = one_more (change_of command) (ap (λ (b : BookView Disk). b.failed) stays) device
+    commit_blames old new command (Err DiskFault) (_, _, device, stays, _) = one_more command (ap (λ (b : BookView Disk). b.failed) stays) device
 
     pub look_blames : (old new : MemberView) (asked : Asked) (result : Result Receipt BookFault) → LookAnswers before old asked after_it new result → FailedByDevice D failures after_it
     look_blames old new asked (Ok receipt) (_, library, failed) = beside library failed

@@ -1,28 +1,23 @@
--- What each exit of a commit owes, in terms of what contracts see of a book: that its type keeps what it keeps, and the answer.
-use Rattle.std.proofs.Common.{◌≡◌, ◌≢◌, ℕ, zero, suc, ◌+◌, inl, inr, Bool, true, false, IsTrue, List, [], ◌∷◌, ◌++◌, length, Result, Ok, Err, refl, sym, ap, ◌∙◌, subst, arith, length-append}
+-- What each exit of a commit owes, in terms of what contracts see of a book: that what its type keeps still holds, and the
+-- answer.
+use Rattle.std.proofs.Common.{◌≡◌, ℕ, zero, suc, ◌+◌, inl, inr, Bool, true, false, IsTrue, List, [], ◌∷◌, ◌++◌, length, Result, Ok, Err, refl, sym, ap, ◌∙◌, subst, arith, length-append}
 use Rattle.std.specs.Prelude.{◌==◌, IsOk, if◌then◌else◌}
 use Rattle.cc_disk.specs.declared.disk.Disk.{Ghosts}
 use Rattle.cc_disk.specs.Images.{LeavesOnly}
-use Rattle.cc_library.specs.declared.command.LibraryCommand as made
-use Rattle.cc_library.specs.declared.fault.LibraryFault.{LibraryFault}
-use Rattle.cc_library.specs.declared.fault.LibraryFault.TheVariants as fault
+use Rattle.cc_library.specs.Change as made
 use Rattle.cc_library.specs.Apply.{Units, after, after_all}
-use Rattle.cc_library.specs.Answers as answers
 use Rattle.cc_library.specs.Recovered.{View, RecoversAlone, RecoversOneOf}
-use Rattle.cc_history.specs.declared.command.Command.{Command}
 use Rattle.cc_history.specs.declared.command.Asked.{Asked}
 use Rattle.cc_history.specs.declared.command.Asked.TheVariants.{Change, Fetch, Names}
 use Rattle.cc_history.specs.declared.entry.Entry.{Entry}
 use Rattle.cc_history.specs.declared.entry.Receipt.{Receipt}
 use Rattle.cc_history.specs.declared.reply.Reply.{Reply}
 use Rattle.cc_history.specs.declared.reply.Reply.TheVariants as reply
-use Rattle.cc_history.specs.Calls.{HasAgreedUnit, HasAgreed, change_of, changes_of, reply_of, reply_of_change}
+use Rattle.cc_history.specs.Calls.{Command, HasAgreed, HasAgreedUnit, changes_of, reply_of, reply_of_change}
 use Rattle.cc_history.specs.History.{MemberView, Chronicle, HaveAgreed, IsOwn, IsRecorded, LastStands, Replays, entry_of}
 use Rattle.cc_history.specs.Laws.{RecordsKeep, next_of, member_of}
 use Rattle.cc_history.proofs.Histories.{snoc_cases}
-use Rattle.cc_history.specs.declared.command.Command.TheVariants as commands
 use Rattle.cc_recorded.specs.Book.{BookView, IsRecordedLibrary, RecoversTo, chronicle_of, AllAgreed}
-use Rattle.cc_recorded.specs.Book.{HasAgreedUnit as AgreedChange}
 use Rattle.cc_recorded.specs.Changed.{AllRecover}
 use Rattle.cc_recorded.specs.Member.{IsMember}
 use Rattle.cc_recorded.specs.Answers.{IsLook}
@@ -50,7 +45,7 @@ module _ {Disk : Type 0} where
       ap (λ (u : Units). record { base = before.base; units = u; history = before.history ++ receipt.entry ∷ [] }) (sym units) in
       subst (λ (c : Chronicle). IsRecorded (chronicle_of before) old asked answer c (member_of old receipt) receipt × Replays c × IsOwn (member_of old receipt)) next made
 
-  -- the book's type keeps what it keeps
+  -- what the book's type keeps still holds
   pub keeps_entered : (D : Ghosts Disk) (named : Units) (total total' : ℕ) (before : BookView Disk) (library : View Disk) (receipt : Receipt)
       → IsRecordedLibrary D named total before → Replays (chronicle_of (entered before library receipt)) → HasAgreedUnit receipt.entry.asked → total' ≡ total + 1
       → library.closed ≡ before.library.closed → (IsTrue D.honest → (image : List ℕ) → D.may_leave library.disk image → RecoversTo library.units before.failed image)
@@ -66,7 +61,7 @@ module _ {Disk : Type 0} where
     images = images;
   }
 
--- the client's type keeps what it keeps
+-- what the client's type keeps still holds
 pub keeps_member : (old : MemberView) (receipt : Receipt) (parts amount parts' amount' : ℕ) → IsMember old parts amount → parts' ≡ parts → amount' ≡ amount + 1 → IsOwn (member_of old receipt) → IsMember (member_of old receipt) parts' amount'
 keeps_member old receipt parts amount parts' amount' client part counted own = record {
   part = part ∙ client.part;
@@ -94,17 +89,6 @@ alone_of D named total book kept idle h image left =
 
 -- ---- what the library answered
 
--- a refusal without a device call leaves the library
-pub untouched : {Disk : Type 0} (change : made.LibraryCommand) (old new : View Disk) (f : LibraryFault) → f ≢ fault.DiskFault → answers.ChangeLeaves {T = Unit {0}} change old new (Err f) → new ≡ old
-untouched change old new fault.DiskFault away leaves = absurd (away refl)
-untouched change old new fault.Closed away leaves = leaves
-untouched change old new fault.Exists away leaves = leaves
-untouched change old new fault.Absent away leaves = leaves
-untouched change old new fault.Full away leaves = leaves
-untouched change old new fault.OutOfMemory away leaves = leaves
-untouched change old new fault.Damaged away leaves = leaves
-untouched change old new fault.NotALibrary away leaves = leaves
-
 -- a change with this answer is accepted
 not_done : (b : Bool) → (if b then reply.Exists else reply.Absent) ≡ reply.Done → ⊥
 not_done true is = cc
@@ -116,8 +100,8 @@ done_is_ok (Err number) is = absurd (not_done (number == 31) is)
 
 -- ---- an exit with an entry
 
--- The book and the client after a call whose entry was put in, over this library: their types keep what they keep, and the call is
--- recorded.
+-- The book and the client after a call whose entry was put in, over this library: what their types keep still holds, and the
+-- call is recorded.
 pub entering : RecordsKeep → {Disk : Type 0} (D : Ghosts Disk) (named : Units) (total total' : ℕ) (before : BookView Disk) (new_library : View Disk) (old : MemberView) (parts amount parts' amount' : ℕ)
     (asked : Asked) (answer : Reply) (history : List Entry) (receipts : List Receipt) (receipt : Receipt)
     → IsRecordedLibrary D named total before → IsMember old parts amount → LastStands before.history old.receipts → answer ≡ reply_of before.library.units asked → HasAgreedUnit asked
@@ -138,27 +122,22 @@ entering keep D named total total' before new_library old parts amount parts' am
           (subst (λ (r : List Receipt). IsRecorded (chronicle_of before) old asked answer (chronicle_of (entered before new_library receipt)) (record old { receipts = r }) receipt) (sym receipts_is) made.0),
     )
 
--- what a receipt has, by its parts
+-- the parts of a receipt
 pub receipt_is : (receipt : Receipt) (number : ℕ) (entry : Entry) → receipt ≡ record { number = number; entry = entry } → (receipt.number ≡ number) × (receipt.entry ≡ entry)
 receipt_is receipt number entry is = (ap (λ (r : Receipt). r.number) is, ap (λ (r : Receipt). r.entry) is)
 
 -- ---- an exit after the device has failed
 
-change_agrees : (command : Command) → HasAgreed command → AgreedChange (change_of command)
-change_agrees (commands.Add name unit) agrees = agrees
-change_agrees (commands.Replace name unit) agrees = agrees
-change_agrees (commands.Withdraw name) agrees = tt
-
-only_agreed : (c : made.LibraryCommand) → AgreedChange c → AllAgreed (c ∷ [])
-only_agreed c agrees zero d at = let same : c ≡ d = cc in subst AgreedChange same agrees
+only_agreed : (c : made.LibraryCommand) → HasAgreed c → AllAgreed (c ∷ [])
+only_agreed c agrees zero d at = let same : c ≡ d = cc in subst HasAgreed same agrees
 only_agreed c agrees (suc k) d at = absurd (cc)
 
--- the type keeps what it keeps
+-- what the book's type keeps still holds
 pub keeps_failed : {Disk : Type 0} (D : Ghosts Disk) (named : Units) (total : ℕ) (before : BookView Disk) (new_library : View Disk) (history : List Entry) (failed : List made.LibraryCommand) (command : Command) (change : made.LibraryCommand)
     → IsRecordedLibrary D named total before → HasAgreed command → history ≡ before.history → failed ≡ before.failed ++ change ∷ [] → before.library.closed ≡ false
-    → new_library ≡ record before.library { disk = new_library.disk; closed = true } → change ≡ change_of command
+    → new_library ≡ record before.library { disk = new_library.disk; closed = true } → change ≡ command
     → (IsTrue D.honest → (image : List ℕ) → D.may_leave new_library.disk image → RecoversOneOf before.library.units (after before.library.units change) image)
-    → (failed ≡ change_of command ∷ []) × IsRecordedLibrary D named total (record before { library = new_library; history = history; failed = failed })
+    → (failed ≡ command ∷ []) × IsRecordedLibrary D named total (record before { library = new_library; history = history; failed = failed })
 keeps_failed D named total before new_library history failed command change book agrees history_is failed_is idle library_is change_is images =
     let none = book.idle idle in
     let one : failed ≡ change ∷ [] = failed_is ∙ ap (λ (l : List made.LibraryCommand). l ++ change ∷ []) none in
@@ -168,7 +147,7 @@ keeps_failed D named total before new_library history failed command change book
       record {
         replays = subst (λ (c : Chronicle). Replays c) (λ i. record { base = before.base; units = sym units i; history = sym history_is i }) book.replays;
         agreed = subst HaveAgreed (sym history_is) book.agreed;
-        agreed_failed = subst (λ (l : List made.LibraryCommand). AllAgreed l) (sym one) (only_agreed change (subst (λ (c : made.LibraryCommand). AgreedChange c) (sym change_is) (change_agrees command agrees)));
+        agreed_failed = subst (λ (l : List made.LibraryCommand). AllAgreed l) (sym one) (only_agreed change (subst (λ (c : made.LibraryCommand). HasAgreed c) (sym change_is) agrees));
         counted = book.counted ∙ ap length (sym history_is);
         base = book.base;
         idle = λ not. absurd (cc (shut, not));
@@ -192,7 +171,7 @@ no_call_between D book next only_now images idle h usable = record {
 
 -- ---- a look-up
 
--- it hands in no unit and changes nothing
+-- a look-up hands in no unit and changes nothing
 pub look_agrees : (asked : Asked) → IsLook asked → HasAgreedUnit asked
 look_agrees (Change command) look = absurd look
 look_agrees (Fetch name) look = tt

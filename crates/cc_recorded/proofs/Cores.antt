@@ -14,8 +14,8 @@ use Rattle.cc_disk.proofs.Images.{bytes_of-synced}
 use Rattle.cc_journal.specs.Commit.{Commit, FailsIn, IsCommitted, append_commit, area_begin}
 use Rattle.cc_journal.specs.Format.{HasAreaByte, HoldsRecords, records}
 use Rattle.cc_journal.proofs.Records.{length-records_push, length-four_bytes}
-use Rattle.cc_library.specs.declared.command.LibraryCommand.{LibraryCommand}
-use Rattle.cc_library.specs.declared.command.LibraryCommand.TheVariants as change
+use Rattle.cc_library.specs.Change.{LibraryCommand}
+use Rattle.cc_library.specs.declared.command.Change.TheVariants as change
 use Rattle.cc_library.specs.Apply.{Units, apply, after, exists, absent}
 use Rattle.cc_library.specs.Answers.{commit_of, room_with}
 use Rattle.cc_library.specs.Body.{body_of}
@@ -36,12 +36,11 @@ use Rattle.cc_core.specs.Job as job
 use Rattle.cc_core.specs.Store.{append_of, gate_of, stepped, with_cells, FailsTo}
 use Rattle.cc_core.specs.StoreState.{StoreState}
 use Rattle.cc_core.specs.Step.{Begun, BeginsCommit, IsFree, commands, jobs_begun, numbered_now, ticked}
-use Rattle.cc_history.specs.declared.command.Command.{Command}
 use Rattle.cc_history.specs.declared.entry.Entry.{Entry}
 use Rattle.cc_history.specs.declared.entry.Receipt.{Receipt}
 use Rattle.cc_history.specs.declared.reply.Reply as history
 use Rattle.cc_history.specs.declared.reply.Reply.TheVariants as reply
-use Rattle.cc_history.specs.Calls.{change_of, changes_of, done_by, reply_of_change}
+use Rattle.cc_history.specs.Calls.{Command, changes_of, done_by, reply_of_change}
 use Rattle.cc_history.specs.History.{MemberView, changes}
 use Rattle.cc_history.proofs.Histories.{changes-push}
 use Rattle.cc_recorded.specs.declared.fault.BookFault.{BookFault}
@@ -165,7 +164,7 @@ length-written cells offset bytes fits =
     omega (arith, length-append (take offset cells) (map unsettled bytes ++ drop (offset + length bytes) cells), length-append (map unsettled bytes) (drop (offset + length bytes) cells), length-map bytes unsettled, length-take-le offset cells (omega arith), length-drop (offset + length bytes) cells)
 
 module _ {Disk : Type 0} (D : Ghosts Disk) where
-  -- the commit of a change is that of the store
+  -- the commit of a change is the same as the store's
   same_commit : (view : View Disk) (store : StoreState) (c : LibraryCommand) → store.area ≡ view.area → store.used ≡ length (records view.bodies) → commit_of store.area_byte view c ≡ append_of store c
   same_commit view store c area used = λ i. append_commit (area_begin store.area_byte (sym area i) + sym used i) (body_of c)
 
@@ -441,7 +440,7 @@ module _ {Disk P : Type 0} (rules : Rules P) (D : Ghosts Disk) where
   accepted_here : (book : BookView Disk) (s : Contents P) (c : LibraryCommand) → Shown book s → IsOk (apply book.library.units c) → job.map_refusal s.core.library c ≡ None
   accepted_here book s c shows ok = ap (λ (u : Units). job.map_refusal u c) shows.library ∙ map_refuses book.library.units c ∙ ok_is_done (apply book.library.units c) ok
 
-  -- a refused call changes nothing but the history, and none of the history's changes
+  -- a refused call changes only the history, and adds no change to it
   refused_shown : (before after : BookView Disk) (s : Contents P) (client : ClientId) → Shown before s → after.library ≡ before.library → after.failed ≡ before.failed → after.base ≡ before.base → changes after.history ≡ changes before.history
       → Shown after (refused_state s client)
   refused_shown before after s client shows library failed base same = record {
@@ -454,10 +453,10 @@ module _ {Disk P : Type 0} (rules : Rules P) (D : Ghosts Disk) where
   -- a call that is done
   done_shown : (before after_it : BookView Disk) (old new : MemberView) (command : Command) (receipt : Receipt) (s : Contents P) (client : ClientId) → Shown before s → IsDone before old command after_it new receipt
       → (IsTrue D.honest → HoldsRecords (D.seen after_it.library.disk) after_it.library.area after_it.library.bodies
-      × ((area_byte : ℕ) → HasAreaByte (D.seen before.library.disk) area_byte before.library.area → IsCommitted (commit_of area_byte before.library (change_of command)) (D.seen before.library.disk) (D.seen after_it.library.disk) × LeavesAlone (D.seen after_it.library.disk) (D.may_leave after_it.library.disk)))
-      → Shown after_it (done_state s client (change_of command) (stepped due.SyncGate (change_of command) (stepped due.WriteGate (change_of command) (stepped due.SyncBody (change_of command) (stepped due.WriteBody (change_of command) s.core.store)))))
+      × ((area_byte : ℕ) → HasAreaByte (D.seen before.library.disk) area_byte before.library.area → IsCommitted (commit_of area_byte before.library command) (D.seen before.library.disk) (D.seen after_it.library.disk) × LeavesAlone (D.seen after_it.library.disk) (D.may_leave after_it.library.disk)))
+      → Shown after_it (done_state s client command (stepped due.SyncGate command (stepped due.WriteGate command (stepped due.SyncBody command (stepped due.WriteBody command s.core.store)))))
   done_shown before after_it old new command receipt s client shows done disk =
-      let c = change_of command in
+      let c = command in
       let idle = done.asked.idle in
       let none = (open_here before s shows idle).0 in
       let shut : after_it.library.closed ≡ false = ap (λ (v : View Disk). v.closed) done.library in
@@ -476,9 +475,9 @@ module _ {Disk P : Type 0} (rules : Rules P) (D : Ghosts Disk) where
 
   -- a call in which the device failed
   failed_shown : (before : BookView Disk) (command : Command) (disk : Disk) (s : Contents P) (client : ClientId) (store : StoreState) → Shown before s → before.library.closed ≡ false
-      → ShowsDisk D (failed_view D before.library disk) store → Shown (failed_in before command disk) (failed_state s client (change_of command) store)
+      → ShowsDisk D (failed_view D before.library disk) store → Shown (failed_in before command disk) (failed_state s client command store)
   failed_shown before command disk s client store shows idle here =
-      let c = change_of command in
+      let c = command in
       let none = (open_here before s shows idle).0 in
       record {
         library = shows.library;
@@ -487,7 +486,7 @@ module _ {Disk P : Type 0} (rules : Rules P) (D : Ghosts Disk) where
         disk = here;
       }
 
-  -- a refused call does not change the changes of the history
+  -- after a refused call the changes of the history are the same
   refused_changes : (before after_it : BookView Disk) (old new : MemberView) (command : Command) (answer : history.Reply) (receipt : Receipt) → done_by command answer ≡ [] → IsRefused before old command answer after_it new receipt → changes after_it.history ≡ changes before.history
   refused_changes before after_it old new command answer receipt nothing refused =
       ap changes refused.recorded.history ∙ changes-push before.history receipt.entry
@@ -500,35 +499,35 @@ module _ {Disk P : Type 0} (rules : Rules P) (D : Ghosts Disk) where
   -- ---- the whole
 
   pub commits : (now : (disk : Disk) → IsTrue D.honest → D.may_leave disk (D.seen disk)) (before after_it : BookView Disk) (old new : MemberView) (command : Command) (result : Result Receipt BookFault) (s : Contents P) (client : ClientId)
-      → CommitAnswers D.failures before old command after_it new result → (IsTrue D.honest → ChangesDisk D (change_of command) before.library after_it.library result)
-      → Shown before s → Has rules s client (change_of command) → IsCommitOf rules (Shown after_it) s client result
+      → CommitAnswers D.failures before old command after_it new result → (IsTrue D.honest → ChangesDisk D command before.library after_it.library result)
+      → Shown before s → Has rules s client command → IsCommitOf rules (Shown after_it) s client result
   commits now before after_it old new command (Ok receipt) s client answers disk shows has =
       let done = answers.0 in
-      let c = change_of command in
+      let c = command in
       let here = open_here before s shows done.asked.idle in
       let why = why_is s c None None None here.1 (accepted_here before s c shows done.asked.accepted) (fits_is before s c shows done.asked.idle done.fits) in
       (done_state s client c (stored D c s.core.store), does s client c has here.2 why, done_shown before after_it old new command receipt s client shows done disk)
   commits now before after_it old new command (Err (Exists receipt)) s client refused disk shows has =
-      let c = change_of command in
+      let c = command in
       let here = open_here before s shows refused.idle in
       let why = why_map s c refusal.Exists here.1 (map_answers before s c reply.Exists shows refused.recorded.replied) in
       (refused_state s client, refuses s client c has refusal.Exists here.2 why, refused_shown before after_it s client shows refused.library refused.failed refused.recorded.base (refused_changes before after_it old new command reply.Exists receipt refl refused))
   commits now before after_it old new command (Err (Absent receipt)) s client refused disk shows has =
-      let c = change_of command in
+      let c = command in
       let here = open_here before s shows refused.idle in
       let why = why_map s c refusal.Absent here.1 (map_answers before s c reply.Absent shows refused.recorded.replied) in
       (refused_state s client, refuses s client c has refusal.Absent here.2 why, refused_shown before after_it s client shows refused.library refused.failed refused.recorded.base (refused_changes before after_it old new command reply.Absent receipt refl refused))
   commits now before after_it old new command (Err Closed) s client (shut, same, _) disk shows has =
-      let c = change_of command in
+      let c = command in
       let phase = closed_phase before.failed s.core.phase (phase_at before.library.closed before.failed s.core.phase true shut shows.phase) in
       (refused_state s client, refuses s client c has refusal.Closed phase.1 (why_closed s c phase.0), subst (λ (b : BookView Disk). Shown b (refused_state s client)) (sym same) (ticked_shown before s client shows))
   commits now before after_it old new command (Err Full) s client (asked, over, same, _) disk shows has =
-      let c = change_of command in
+      let c = command in
       let here = open_here before s shows asked.idle in
       let why = why_is s c None None (Some refusal.Full) here.1 (accepted_here before s c shows asked.accepted) (over_is before s c shows asked.idle over) in
       (refused_state s client, refuses s client c has refusal.Full here.2 why, subst (λ (b : BookView Disk). Shown b (refused_state s client)) (sym same) (ticked_shown before s client shows))
   commits now before after_it old new command (Err DiskFault) s client (asked, fits, _, same, _) disk shows has =
-      let c = change_of command in
+      let c = command in
       let here = open_here before s shows asked.idle in
       let why = why_is s c None None None here.1 (accepted_here before s c shows asked.accepted) (fits_is before s c shows asked.idle fits) in
       let back = λ (t : Contents P) (it : Shown (failed_in before command after_it.library.disk) t). subst (λ (b : BookView Disk). Shown b t) (sym same) it in

@@ -1,4 +1,4 @@
--- Threads may share a service, and a client may go to another thread. Each type is shown by itself, from the bottom up.
+-- Threads may share a service, and a client may go to another thread. This is shown for each type by itself, from the bottom up.
 use denote.RattleType.{RattleType}
 use denote.Param.Send.{IsSend, IsSync, sendable, recorded_send, recorded_sync, view_send, view_sync, struct_send, struct_sync, enum_send, enum_sync}
 use denote.Struct.Declared.{shape}
@@ -28,12 +28,11 @@ use Rattle.cc_library.specs.contracts.unit.SharedUnit as SharedUnit
 use Rattle.cc_library.specs.contracts.unit.SharedUnit.TheInside as shared
 use Rattle.cc_library.specs.contracts.units.UnitMap as UnitMap
 use Rattle.cc_library.specs.contracts.units.UnitMap.TheInside as maps
-use Rattle.cc_library.specs.contracts.command.LibraryCommand as Change
+use Rattle.cc_library.specs.contracts.command.Change as Change
 use Rattle.cc_library.specs.contracts.library.Library as Library
 use Rattle.cc_library.specs.contracts.library.Library.TheInside as libraries
 use Rattle.cc_history.specs.compiled_contract.CompiledUnit as CompiledUnit
 use Rattle.cc_history.specs.compiled_contract.CompiledUnit.TheInside as compiled
-use Rattle.cc_history.specs.contracts.command.Command as Command
 use Rattle.cc_history.specs.contracts.command.Asked as Asked
 use Rattle.cc_history.specs.contracts.reply.NameList as NameList
 use Rattle.cc_history.specs.contracts.reply.NameList.TheInside as lists
@@ -97,7 +96,7 @@ shared_send = view_send _ _ _ _ _ (recorded_send shared.the_field.row _ _ shared
 shared_sync : IsSync SharedUnit.the_row
 shared_sync = view_sync _ _ _ _ _ (recorded_sync shared.the_field.row _ _ shared.the_type.to_one (struct_sync (shape shared.the_type) (Arc-sync _ stored_send stored_sync, tt)))
 
-pub change_send : IsSend Change.the_row
+pub change_send : IsSend (Change.the_row SharedUnit.the_row)
 change_send = let n = name_send in let s = Arc-send _ stored_send stored_sync in search (sendable, crosses) depth 20 fits 10000
 
 pub map_send : IsSend UnitMap.the_row
@@ -112,11 +111,11 @@ compiled_send = view_send _ _ _ _ _ (recorded_send compiled.the_field.row _ _ co
 compiled_sync : IsSync CompiledUnit.the_row
 compiled_sync = view_sync _ _ _ _ _ (recorded_sync compiled.the_field.row _ _ compiled.the_type.to_one (struct_sync (shape compiled.the_type) (Arc-sync _ stored_send stored_sync, tt)))
 
-command_send : IsSend (Command.the_field).row
-command_send = enum_send (enum_shape Command.the_type) ((name_send, (compiled_send, tt)), ((name_send, (compiled_send, tt)), ((name_send, tt), tt)))
+command_send : IsSend (Change.the_field CompiledUnit.the_row).row
+command_send = enum_send (enum_shape (Change.the_type CompiledUnit.the_row)) ((name_send, (compiled_send, tt)), ((name_send, (compiled_send, tt)), ((name_send, tt), tt)))
 
-command_sync : IsSync (Command.the_field).row
-command_sync = enum_sync (enum_shape Command.the_type) ((name_sync, (compiled_sync, tt)), ((name_sync, (compiled_sync, tt)), ((name_sync, tt), tt)))
+command_sync : IsSync (Change.the_field CompiledUnit.the_row).row
+command_sync = enum_sync (enum_shape (Change.the_type CompiledUnit.the_row)) ((name_sync, (compiled_sync, tt)), ((name_sync, (compiled_sync, tt)), ((name_sync, tt), tt)))
 
 asked_send : IsSend (Asked.the_field).row
 asked_send = enum_send (enum_shape Asked.the_type) ((command_send, tt), ((name_send, tt), (tt, tt)))

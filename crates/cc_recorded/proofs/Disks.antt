@@ -56,7 +56,7 @@ within_is_image cells offset bytes image fits differs =
     (joined (map unsettled bytes) (drop (offset + n) cells) (take n (drop offset image)) (drop (offset + n) image) (any_image bytes (take n (drop offset image)) middle)
     (subst (λ (l : List ℕ). IsImage (drop (offset + n) cells) l) (sym behind) (bytes_are_image (drop (offset + n) cells)))))
 
--- and so they are the bytes with these written there
+-- bytes that differ only in a range are the old ones with some bytes written there
 pub within_is_written : (old new : List ℕ) (offset n : ℕ) → offset + n ≤ length old → DiffersWithin offset n old new → (bytes : List ℕ) × (length bytes ≡ n) × IsWritten old offset bytes new
 within_is_written old new offset n fits differs =
     let bytes = take n (drop offset new) in

@@ -43,7 +43,7 @@ module _ {A : Type 0} (who : A → MemberView) where
   pub not_apart : (clients : List A) → (HaveOwnNumbers who clients → ⊥) → ¬ AreApart (map who clients)
   not_apart clients none apart = none (own_numbers clients apart)
 
-  -- these are not all: there are not as many, or they are not apart
+  -- these are not all clients: there are not as many as were made, or they are not apart
   pub not_all : (clients : List A) (made : ℕ) → (length clients ≡ made → HaveOwnNumbers who clients → ⊥) → (length (map who clients) ≢ made) ⊎ (¬ AreApart (map who clients))
   not_all clients made none = by (length clients == made) refl
     where

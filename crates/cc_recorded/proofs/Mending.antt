@@ -1,12 +1,11 @@
 -- A commit after a compaction: the book in between is what the compaction leaves, so 34 does not come.
 use Rattle.std.proofs.Common.{◌≡◌, ◌≢◌, inl, inr, ℕ, ◌<◌, ◌≤◌, Bool, IsTrue, List, [], ◌∷◌, ◌++◌, Result, Ok, Err, refl, sym, ap, ◌∙◌, subst, arith, append_assoc}
 use Rattle.cc_disk.specs.declared.disk.Disk.{Ghosts}
-use Rattle.cc_library.specs.declared.command.LibraryCommand.{LibraryCommand}
+use Rattle.cc_library.specs.Change.{LibraryCommand}
 use Rattle.cc_library.specs.Answers.{IsMended, room_with}
 use Rattle.cc_library.specs.Compact.{room_compacted}
-use Rattle.cc_history.specs.declared.command.Command.{Command}
 use Rattle.cc_history.specs.declared.entry.Receipt.{Receipt}
-use Rattle.cc_history.specs.Calls.{change_of}
+use Rattle.cc_history.specs.Calls.{Command}
 use Rattle.cc_history.specs.History.{MemberView, LastStands}
 use Rattle.cc_recorded.specs.Answers.{CommitAnswers, CompactAnswers}
 use Rattle.cc_recorded.specs.Book.{BookView}
@@ -22,31 +21,31 @@ module _ {Disk : Type 0} (D : Ghosts Disk) where
   -- ---- without a compaction
 
   -- 34 comes only if a compaction makes no room
-  no_room : (before after_it : BookView Disk) (old new : MemberView) (command : Command) → (IsMended before.library (change_of command) → ⊥) → CommitAnswers D.failures before old command after_it new (Err Full) → before.library.area < room_compacted before.library.units (change_of command)
+  no_room : (before after_it : BookView Disk) (old new : MemberView) (command : Command) → (IsMended before.library command → ⊥) → CommitAnswers D.failures before old command after_it new (Err Full) → before.library.area < room_compacted before.library.units command
   no_room before after_it old new command not answers =
-      not_within (room_compacted before.library.units (change_of command)) before.library.area (λ fits. not ((answers.0.idle, answers.0.accepted), answers.1, fits))
+      not_within (room_compacted before.library.units command) before.library.area (λ fits. not ((answers.0.idle, answers.0.accepted), answers.1, fits))
 
-  pub commits_at_once : (before after_it : BookView Disk) (old new : MemberView) (command : Command) (result : Result Receipt BookFault) → (IsMended before.library (change_of command) → ⊥)
-      → CommitAnswers D.failures before old command after_it new result → (IsTrue D.honest → ChangesDisk D (change_of command) before.library after_it.library result)
+  pub commits_at_once : (before after_it : BookView Disk) (old new : MemberView) (command : Command) (result : Result Receipt BookFault) → (IsMended before.library command → ⊥)
+      → CommitAnswers D.failures before old command after_it new result → (IsTrue D.honest → ChangesDisk D command before.library after_it.library result)
       → CompactingAnswers D before old command after_it new result
   commits_at_once before after_it old new command result not answers disk =
       inl (answers, λ is. no_room before after_it old new command not (subst (λ (r : Result Receipt BookFault). CommitAnswers D.failures before old command after_it new r) is answers), disk)
 
   -- ---- after a compaction
 
-  -- the record fits there
+  -- the record fits after the compaction
   fits_behind : (before between : BookView Disk) (change : LibraryCommand) → IsMended before.library change → CompactAnswers {T = Unit {0}} D.failures before between (Ok tt) → room_with between.library change ≤ between.library.area
   fits_behind before between change mended (_, _, _, is) = subst (λ (b : BookView Disk). room_with b.library change ≤ b.library.area) (sym is) mended.2
 
-  not_full : (between after_it : BookView Disk) (old new : MemberView) (command : Command) (result : Result Receipt BookFault) → room_with between.library (change_of command) ≤ between.library.area
+  not_full : (between after_it : BookView Disk) (old new : MemberView) (command : Command) (result : Result Receipt BookFault) → room_with between.library command ≤ between.library.area
       → CommitAnswers D.failures between old command after_it new result → result ≢ Err Full
   not_full between after_it old new command result fits answers is =
       let full = subst (λ (r : Result Receipt BookFault). CommitAnswers D.failures between old command after_it new r) is answers in
       omega (arith, fits, full.1)
 
-  pub commits_behind : (before between after_it : BookView Disk) (old new : MemberView) (command : Command) (result : Result Receipt BookFault) → IsMended before.library (change_of command) → LastStands before.history old.receipts
+  pub commits_behind : (before between after_it : BookView Disk) (old new : MemberView) (command : Command) (result : Result Receipt BookFault) → IsMended before.library command → LastStands before.history old.receipts
       → CompactAnswers {T = Unit {0}} D.failures before between (Ok tt) → (IsTrue D.honest → CompactsDisk {T = Unit {0}} D before.library between.library (Ok tt))
-      → CommitAnswers D.failures between old command after_it new result → (IsTrue D.honest → ChangesDisk D (change_of command) between.library after_it.library result)
+      → CommitAnswers D.failures between old command after_it new result → (IsTrue D.honest → ChangesDisk D command between.library after_it.library result)
       → CompactingAnswers D before old command after_it new result
   commits_behind before between after_it old new command result mended stands compacted rewritten answers disk =
       inr (record {
@@ -56,11 +55,11 @@ module _ {Disk : Type 0} (D : Ghosts Disk) where
         between = between;
         answers = compacted;
         rewritten = rewritten;
-        commits = (answers, not_full between after_it old new command result (fits_behind before between (change_of command) mended compacted) answers, disk);
+        commits = (answers, not_full between after_it old new command result (fits_behind before between command mended compacted) answers, disk);
       })
 
   -- if the compaction is refused
-  pub not_compacted : (before after_it : BookView Disk) (client : MemberView) (command : Command) (fault : BookFault) → IsMended before.library (change_of command) → LastStands before.history client.receipts
+  pub not_compacted : (before after_it : BookView Disk) (client : MemberView) (command : Command) (fault : BookFault) → IsMended before.library command → LastStands before.history client.receipts
       → CompactAnswers {T = Unit {0}} D.failures before after_it (Err fault) → (IsTrue D.honest → CompactsDisk {T = Unit {0}} D before.library after_it.library (Err fault))
       → CompactingAnswers D before client command after_it client (Err Full)
   not_compacted before after_it client command fault mended stands refused rewritten =

@@ -2,11 +2,10 @@
 use Rattle.cc_core.specs.Rules.{HasBuilt}
 use Rattle.cc_headline.specs.Built.{MadeUnitsAreBuilt}
 use Rattle.cc_headline.specs.Compiling.{compiling, Keeps}
-use Rattle.cc_history.specs.declared.command.Command.{Command}
-use Rattle.cc_history.specs.declared.command.Command.TheVariants.{Add, Replace, Withdraw}
-use Rattle.cc_history.specs.Calls.{HasMade, HasSource, change_of}
+use Rattle.cc_library.specs.declared.command.Change.TheVariants.{Add, Replace, Withdraw}
+use Rattle.cc_history.specs.Calls.{Command, HasMade, HasSource}
 
-pub built_of : MadeUnitsAreBuilt → (command : Command) → HasSource command → HasMade command → HasBuilt compiling Keeps (change_of command)
+pub built_of : MadeUnitsAreBuilt → (command : Command) → HasSource command → HasMade command → HasBuilt compiling Keeps command
 built_of builds (Add name unit) few made = builds unit few made
 built_of builds (Replace name unit) few made = builds unit few made
 built_of builds (Withdraw name) few made = tt

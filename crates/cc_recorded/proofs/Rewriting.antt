@@ -8,7 +8,7 @@ use Rattle.cc_disk.specs.internal.Laws.{bytes_are_image}
 use Rattle.cc_disk.proofs.Images.{bytes_of-synced}
 use Rattle.cc_journal.specs.Commit.{Commit, FailsIn, IsCommitted, other_area, rewrite_commit}
 use Rattle.cc_journal.specs.Format.{HasAreaByte, HoldsRecords, records, room_of}
-use Rattle.cc_library.specs.declared.command.LibraryCommand as made
+use Rattle.cc_library.specs.Change as made
 use Rattle.cc_library.specs.Apply.{Units}
 use Rattle.cc_library.specs.Answers.{rewrites_in}
 use Rattle.cc_library.specs.Compact.{compacted}

@@ -4,14 +4,13 @@ use Rattle.std.proofs.lemmas.Bool.{cases_lt}
 use Rattle.std.proofs.lemmas.List.{take-append-le, take_all}
 use Rattle.cc_disk.specs.declared.disk.Disk.{Ghosts}
 use Rattle.cc_disk.specs.Images.{LeavesOnly, OnlyReads}
-use Rattle.cc_library.specs.declared.command.LibraryCommand.{LibraryCommand}
+use Rattle.cc_library.specs.Change.{LibraryCommand}
 use Rattle.cc_library.specs.Apply.{Units, after}
 use Rattle.cc_library.specs.Recovered.{View, RecoversAlone, RecoversOneOf}
-use Rattle.cc_history.specs.declared.command.Command.{Command}
 use Rattle.cc_history.specs.declared.command.Asked.{Asked}
 use Rattle.cc_history.specs.declared.entry.Entry.{Entry}
 use Rattle.cc_history.specs.declared.entry.Receipt.{Receipt}
-use Rattle.cc_history.specs.Calls.{change_of}
+use Rattle.cc_history.specs.Calls.{Command}
 use Rattle.cc_history.specs.History.{MemberView, Replays, units_after}
 use Rattle.cc_history.proofs.Histories.{snoc_cases}
 use Rattle.cc_recorded.specs.declared.fault.BookFault.{BookFault}
@@ -148,11 +147,11 @@ module _ {Disk : Type 0} (D : Ghosts Disk) where
 
   module _ (before after_it : BookView Disk) (replays : Replays (chronicle_of before)) (replays_after : Replays (chronicle_of after_it)) (idle : before.library.closed ≡ false → before.failed ≡ []) where
     pub commit_goes : (old new : MemberView) (command : Command) (result : Result Receipt BookFault) → CommitAnswers D.failures before old command after_it new result
-        → (before.library.closed ≡ false → LeavesOnly D.moment D.left_since before.library.disk after_it.library.disk (RecoversOneOf before.library.units (after before.library.units (change_of command))))
+        → (before.library.closed ≡ false → LeavesOnly D.moment D.left_since before.library.disk after_it.library.disk (RecoversOneOf before.library.units (after before.library.units command)))
         → Goes before after_it
     commit_goes old new command (Ok receipt) answers leaves =
         let done = answers.0 in
-        let c = change_of command in
+        let c = command in
         written before after_it (receipt.entry ∷ []) (RecoversOneOf before.library.units (after before.library.units c)) (omega arith) done.recorded.base done.recorded.history (idle done.asked.idle) (leaves done.asked.idle)
         (λ n image few recovers. elim recovers [
           | inl old_map ↦ of_prefix after_it n image before.history (receipt.entry ∷ []) before.base before.library.units done.recorded.base done.recorded.history replays.units few old_map
@@ -166,7 +165,7 @@ module _ {Disk : Type 0} (D : Ghosts Disk) where
     commit_goes old new command (Err Full) (_, _, stays, _) leaves = same before after_it stays
     commit_goes old new command (Err OutOfMemory) (_, stays, _) leaves = same before after_it stays
     commit_goes old new command (Err DiskFault) (asked, _, _, stays, _) leaves =
-        let c = change_of command in
+        let c = command in
         let base : after_it.base ≡ before.base = ap (λ (b : BookView Disk). b.base) stays in
         let history : after_it.history ≡ before.history = ap (λ (b : BookView Disk). b.history) stays in
         let units : after_it.library.units ≡ before.library.units = ap (λ (b : BookView Disk). b.library.units) stays in

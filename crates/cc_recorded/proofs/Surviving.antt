@@ -3,20 +3,21 @@ use Rattle.std.proofs.Common.{◌≡◌, ◌⊎◌, ℕ, zero, suc, inl, inr, Li
 use Rattle.std.specs.Prelude.{slice_get}
 use Rattle.std.proofs.lemmas.List.{map-append}
 use Rattle.cc_disk.specs.declared.disk.Disk.{Ghosts}
-use Rattle.cc_library.specs.declared.command.LibraryCommand.{LibraryCommand}
+use Rattle.cc_library.specs.Change.{LibraryCommand}
 use Rattle.cc_core.specs.declared.command.Numbered.{Numbered}
 use Rattle.cc_core.specs.Rules.{Rules}
 use Rattle.cc_core.specs.Step.{commands}
 use Rattle.cc_core.specs.declared.contents.Contents.{Contents}
 use Rattle.cc_core.specs.declared.event.Event.{Event}
 use Rattle.cc_core.specs.Run.{EachImageIsRight, EachImageSurvives, EachUnit, IsBeginning, IsRightCommand, IsRightOr, Run}
-use Rattle.cc_library.specs.declared.command.LibraryCommand.TheVariants as change
+use Rattle.cc_library.specs.declared.command.Change.TheVariants as change
 use Rattle.cc_library.specs.Apply.{Units, after}
 use Rattle.cc_library.specs.Recovered.{Recovers}
 use Rattle.cc_history.specs.declared.entry.Entry.{Entry}
+use Rattle.cc_history.specs.Calls.{HasAgreed}
 use Rattle.cc_history.specs.History.{EachAgrees, HaveAgreed, Replays, units_after}
 use Rattle.cc_history.specs.History.{changes}
-use Rattle.cc_recorded.specs.Book.{AllAgreed, BookView, HasAgreedUnit, chronicle_of}
+use Rattle.cc_recorded.specs.Book.{AllAgreed, BookView, chronicle_of}
 use Rattle.cc_headline.specs.Compiling.{is_right}
 use Rattle.cc_recorded.specs.Promise.{HoldsPrefix, SurvivesCrash}
 use Rattle.cc_recorded.specs.Since.{HoldsFrom}
@@ -52,7 +53,7 @@ got_before (suc j) [] k x at = at
 got_before (suc j) (y ∷ l) zero x at = at
 got_before (suc j) (y ∷ l) (suc k) x at = got_before j l k x at
 
-right_change : (base : Units) (c : LibraryCommand) → HasAgreedUnit c → IsRightCommand (IsRightOr is_right base) c
+right_change : (base : Units) (c : LibraryCommand) → HasAgreed c → IsRightCommand (IsRightOr is_right base) c
 right_change base (change.Add name unit) agreed = inr agreed
 right_change base (change.Replace name unit) agreed = inr agreed
 right_change base (change.Withdraw name) agreed = tt
@@ -68,7 +69,7 @@ held_agrees law stays book replays agreed failed entries image library (inl (j, 
     subst (λ (u : Units). EachUnit (IsRightOr is_right book.base) u) (sym (alone.alone library recovers))
     (each_right book.base (units_after book.base (take j book.history)) (law book.base (take j book.history) (λ k e at. agreed k e (got_before j book.history k e at))))
 held_agrees law stays book replays agreed failed entries image library (inr (c, is, alone)) recovers =
-    let one : HasAgreedUnit c = failed 0 c (ap (λ (l : List LibraryCommand). slice_get l 0) is) in
+    let one : HasAgreed c = failed 0 c (ap (λ (l : List LibraryCommand). slice_get l 0) is) in
     let map : EachUnit (IsRightOr is_right book.base) book.library.units =
     subst (λ (u : Units). EachUnit (IsRightOr is_right book.base) u) (sym replays.units) (each_right book.base (units_after book.base book.history) (law book.base book.history agreed)) in
     subst (λ (u : Units). EachUnit (IsRightOr is_right book.base) u) (sym (alone.alone library recovers))

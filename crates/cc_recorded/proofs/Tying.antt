@@ -3,7 +3,7 @@
 use Rattle.std.proofs.Common.{◌≡◌, ℕ, ◌+◌, ◌^◌, ◌<◌, ◌≤◌, length, inl, inr, Bool, true, false, List, [], ◌∷◌, ◌++◌, map, Option, Some, None, Result, Ok, Err, refl, sym, ap, ◌∙◌, subst, arith}
 use Rattle.std.specs.FinMap.{FinMap, get, get-empty}
 use Rattle.std.specs.Ordering.{nat_cmp}
-use Rattle.cc_library.specs.declared.command.LibraryCommand as made
+use Rattle.cc_library.specs.Change as made
 use Rattle.cc_library.specs.Body.{IsCommand, body_of}
 use Rattle.cc_library.specs.Recovered.{StandFor, View}
 use Rattle.cc_disk.specs.declared.disk.Disk.{Ghosts}
@@ -25,9 +25,8 @@ use Rattle.cc_core.specs.Job.{closed, command_of}
 use Rattle.cc_core.specs.Step.{IsUp, Step}
 use Rattle.cc_core.specs.Run.{HandsIn, Run, Turn}
 use Rattle.cc_core.specs.Turns.{BeginsSpelled, CanBeReady, IsNoSubmit, IsNoTake}
-use Rattle.cc_history.specs.declared.command.Command.{Command}
 use Rattle.cc_history.specs.declared.entry.Receipt.{Receipt}
-use Rattle.cc_history.specs.Calls.{change_of, changes_of, reply_of}
+use Rattle.cc_history.specs.Calls.{Command, changes_of, reply_of}
 use Rattle.cc_history.specs.declared.command.Asked.{Asked}
 use Rattle.cc_history.specs.declared.entry.Entry.{Entry}
 use Rattle.cc_history.specs.History.{MemberView, changes}
@@ -299,41 +298,41 @@ module _ {Disk P : Type 0} (rules : Rules P) (keeps : P → Type 0) (law : TurnL
   base_same before after_it old new command (Err DiskFault) (_, _, _, same, _) = ap (λ (b : BookView Disk). b.base) same
   base_same before after_it old new command (Err OutOfMemory) (_, same, _) = ap (λ (b : BookView Disk). b.base) same
 
-  -- what the commit is for the core, it is for the tie
+  -- if the commit is a commit of the core, the tie goes on
   commit_on : (before after_it : BookView Disk) (old new : MemberView) (command : Command) (result : Result Receipt BookFault) (tied : TiedSo before)
-      → CommitAnswers D.failures before old command after_it new result → (length (body_of (change_of command)) < 2 ^ 32 → IsCommand (change_of command)) → (ready_for : IsReadyFor before tied (change_of command)) → after_it.base ≡ before.base
+      → CommitAnswers D.failures before old command after_it new result → (length (body_of command) < 2 ^ 32 → IsCommand command) → (ready_for : IsReadyFor before tied command) → after_it.base ≡ before.base
       → IsCommitOf rules (ShownBy after_it) ready_for.new (next before tied) result → TiedSo after_it
   commit_on before after_it old new command (Ok receipt) tied answers can ready_for base made =
-      begun_on before after_it tied base (change_of command) can ready_for None
+      begun_on before after_it tied base command can ready_for None
       ((event.WriteBody, None) ∷ (event.SyncBody, None) ∷ (event.WriteGate, None) ∷ (event.SyncGate, None) ∷ (event.Ack (next before tied), Some replies.Done) ∷ [])
       (refl, (refl, (refl, (refl, (refl, tt))))) made.0 made.1 made.2
   commit_on before after_it old new command (Err (Exists receipt)) tied answers can ready_for base made =
-      begun_on before after_it tied base (change_of command) can ready_for (Some (replies.Refused refusal.Exists)) [] tt made.0 made.1 made.2
+      begun_on before after_it tied base command can ready_for (Some (replies.Refused refusal.Exists)) [] tt made.0 made.1 made.2
   commit_on before after_it old new command (Err (Absent receipt)) tied answers can ready_for base made =
-      begun_on before after_it tied base (change_of command) can ready_for (Some (replies.Refused refusal.Absent)) [] tt made.0 made.1 made.2
+      begun_on before after_it tied base command can ready_for (Some (replies.Refused refusal.Absent)) [] tt made.0 made.1 made.2
   commit_on before after_it old new command (Err Closed) tied answers can ready_for base made =
-      begun_on before after_it tied base (change_of command) can ready_for (Some (replies.Refused refusal.Closed)) [] tt made.0 made.1 made.2
+      begun_on before after_it tied base command can ready_for (Some (replies.Refused refusal.Closed)) [] tt made.0 made.1 made.2
   commit_on before after_it old new command (Err Full) tied answers can ready_for base made =
-      begun_on before after_it tied base (change_of command) can ready_for (Some (replies.Refused refusal.Full)) [] tt made.0 made.1 made.2
+      begun_on before after_it tied base command can ready_for (Some (replies.Refused refusal.Full)) [] tt made.0 made.1 made.2
   commit_on before after_it old new command (Err DiskFault) tied answers can ready_for base made =
       elim made.1 [
-        | inl steps ↦ begun_on before after_it tied base (change_of command) can ready_for None ((event.Fail, Some (replies.Refused refusal.DiskFault)) ∷ []) (refl, tt) made.0 steps made.2
-        | inr steps ↦ begun_on before after_it tied base (change_of command) can ready_for None ((event.WriteBody, None) ∷ (event.SyncBody, None) ∷ (event.Fail, Some (replies.Refused refusal.DiskFault)) ∷ [])
+        | inl steps ↦ begun_on before after_it tied base command can ready_for None ((event.Fail, Some (replies.Refused refusal.DiskFault)) ∷ []) (refl, tt) made.0 steps made.2
+        | inr steps ↦ begun_on before after_it tied base command can ready_for None ((event.WriteBody, None) ∷ (event.SyncBody, None) ∷ (event.Fail, Some (replies.Refused refusal.DiskFault)) ∷ [])
             (refl, (refl, (refl, tt))) made.0 steps made.2
       ]
   commit_on before after_it old new command (Err (Estranged number found)) tied (_, _, same, _) can ready_for base made = same_book rules keeps D before after_it tied same
   commit_on before after_it old new command (Err OutOfMemory) tied (_, same, _) can ready_for base made = same_book rules keeps D before after_it tied same
 
   pub commit_tied : ((disk : Disk) → D.may_leave disk (D.seen disk)) → (before after_it : BookView Disk) (old new : MemberView) (command : Command) (result : Result Receipt BookFault)
-      → CommitAnswers D.failures before old command after_it new result → ChangesDisk D (change_of command) before.library after_it.library result
-      → (length (body_of (change_of command)) < 2 ^ 32 → IsCommand (change_of command)) → HasBuilt rules keeps (change_of command) → TiedSo before → TiedSo after_it
+      → CommitAnswers D.failures before old command after_it new result → ChangesDisk D command before.library after_it.library result
+      → (length (body_of command) < 2 ^ 32 → IsCommand command) → HasBuilt rules keeps command → TiedSo before → TiedSo after_it
   commit_tied now before after_it old new command result answers disk can built tied =
       let up = phase_up before.library.closed before.failed tied.now.core.phase tied.shows.phase in
-      let ready_for = law.ready tied.now (next before tied) worker (change_of command) up (tied.fresh tied.clients (omega arith)) tied.idle built in
-      let has : Has rules ready_for.new (next before tied) (change_of command) = record { its = ready_for.job; held = ready_for.held; there = ready_for.there; gives = ready_for.comes } in
+      let ready_for = law.ready tied.now (next before tied) worker command up (tied.fresh tied.clients (omega arith)) tied.idle built in
+      let has : Has rules ready_for.new (next before tied) command = record { its = ready_for.job; held = ready_for.held; there = ready_for.there; gives = ready_for.comes } in
       let shows = same_core (honest_kind D) before tied.now ready_for.new ready_for.core tied.shows in
       commit_on before after_it old new command result tied answers can ready_for (base_same before after_it old new command result answers)
-      (commits rules (honest_kind D) (λ d h. now d) before after_it old new command result ready_for.new (next before tied) answers (λ h. changes_too D (change_of command) before.library after_it.library result disk) shows has)
+      (commits rules (honest_kind D) (λ d h. now d) before after_it old new command result ready_for.new (next before tied) answers (λ h. changes_too D command before.library after_it.library result disk) shows has)
 
   -- ---- a rewrite
 

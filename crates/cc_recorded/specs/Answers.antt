@@ -8,14 +8,13 @@ use Rattle.cc_library.specs.Answers.{room_with}
 use Rattle.cc_library.specs.Recovered.{View}
 use Rattle.cc_library.specs.Space.{IsSpace}
 use Rattle.cc_library.specs.declared.space.SpaceUse.{SpaceUse}
-use Rattle.cc_history.specs.declared.command.Command.{Command}
 use Rattle.cc_history.specs.declared.command.Asked.{Asked}
 use Rattle.cc_history.specs.declared.command.Asked.TheVariants.{Change, Fetch, Names}
 use Rattle.cc_history.specs.declared.entry.Receipt.{Receipt}
 use Rattle.cc_history.specs.declared.reply.Reply.{Reply}
 use Rattle.cc_history.specs.declared.reply.Reply.TheVariants as reply
 use Rattle.cc_history.specs.declared.standing.StandingFault.TheVariants as standing
-use Rattle.cc_history.specs.Calls.{change_of, reply_of}
+use Rattle.cc_history.specs.Calls.{Command, reply_of}
 use Rattle.cc_library.specs.Compact.{compacted}
 use Rattle.cc_journal.specs.Format.{room_of}
 use Rattle.cc_history.specs.History.{AllStand, MemberView, IsRecorded, LastStands}
@@ -54,7 +53,7 @@ module _ {D : Type 0} where
   pub record IsAsked (before : BookView D) (old : MemberView) (command : Command) : Type 0 where
     pub idle : before.library.closed ≡ false
     pub stands : LastStands before.history old.receipts
-    pub accepted : IsOk (apply before.library.units (change_of command))
+    pub accepted : IsOk (apply before.library.units command)
 
   -- the map refuses the command: the call is in the history with that reply, and nothing else changes
   pub record IsRefused (before : BookView D) (old : MemberView) (command : Command) (answer : Reply) (after : BookView D) (new : MemberView) (receipt : Receipt) : Type 0 where
@@ -63,22 +62,22 @@ module _ {D : Type 0} where
     pub library : after.library ≡ before.library
     pub failed : after.failed ≡ before.failed
 
-  -- the library with the command's record, done
+  -- the library once the command is done, with its record added
   abbrev pub done_in : View D → Command → D → View D
   done_in library command disk =
-      record { disk = disk; area = library.area; bodies = library.bodies ++ body_of (change_of command) ∷ []; units = after library.units (change_of command); closed = false }
+      record { disk = disk; area = library.area; bodies = library.bodies ++ body_of command ∷ []; units = after library.units command; closed = false }
 
   -- the command is done: the call is in the history with that answer, and the library has its record
   pub record IsDone (before : BookView D) (old : MemberView) (command : Command) (after : BookView D) (new : MemberView) (receipt : Receipt) : Type 0 where
     pub asked : IsAsked before old command
-    pub fits : room_with before.library (change_of command) ≤ before.library.area
+    pub fits : room_with before.library command ≤ before.library.area
     pub recorded : IsRecorded (chronicle_of before) old (Change command) reply.Done (chronicle_of after) new receipt
     pub library : after.library ≡ done_in before.library command after.library.disk
     pub failed : after.failed ≡ before.failed
 
   -- the book after the device has failed in a change
   abbrev pub failed_in : BookView D → Command → D → BookView D
-  failed_in before command disk = record before { library = record before.library { disk = disk; closed = true }; failed = change_of command ∷ [] }
+  failed_in before command disk = record before { library = record before.library { disk = disk; closed = true }; failed = command ∷ [] }
 
   -- the answer to a commit, and what it leaves. The failures are those that the disk has counted
   abbrev pub CommitAnswers : (failures : D → ℕ) (before : BookView D) (old : MemberView) → Command → (after : BookView D) (new : MemberView) → Result Receipt BookFault → Type 0
@@ -90,9 +89,9 @@ module _ {D : Type 0} where
   CommitAnswers failures before old command after new (Err (Estranged number found)) =
       (before.library.closed ≡ false) × IsStranger before.history old.receipts (standing.Estranged number found) × (after ≡ before) × (new ≡ old)
   CommitAnswers failures before old command after new (Err Full) =
-      IsAsked before old command × (before.library.area < room_with before.library (change_of command)) × (after ≡ before) × (new ≡ old)
+      IsAsked before old command × (before.library.area < room_with before.library command) × (after ≡ before) × (new ≡ old)
   CommitAnswers failures before old command after new (Err DiskFault) =
-      IsAsked before old command × (room_with before.library (change_of command) ≤ before.library.area)
+      IsAsked before old command × (room_with before.library command ≤ before.library.area)
       × (failures after.library.disk ≡ failures before.library.disk + 1) × (after ≡ failed_in before command after.library.disk) × (new ≡ old)
   CommitAnswers failures before old command after new (Err OutOfMemory) = (before.library.closed ≡ false) × (after ≡ before) × (new ≡ old)
 
@@ -111,8 +110,8 @@ module _ {D : Type 0} where
   LookAnswers before old asked after new (Err Closed) = ⊥
   LookAnswers before old asked after new (Err DiskFault) = ⊥
 
-  -- the answer to a compaction, and what it leaves: history and map stay. 36 exactly if the device has failed before, then 34 exactly if
-  -- the new records do not fit, then 35 exactly if the device failed in the call
+  -- the answer to a compaction, and what it leaves: the history and the map stay as they are. 36 exactly if the device has failed
+  -- before, then 34 exactly if the new records do not fit, then 35 exactly if the device failed in the call
   abbrev pub CompactAnswers : {T : Type 0} → (failures : D → ℕ) (before after : BookView D) → Result T BookFault → Type 0
   CompactAnswers failures before after (Ok done) =
       (before.library.closed ≡ false) × (room_of (compacted before.library.units) ≤ before.library.area) × (failures after.library.disk ≡ failures before.library.disk)
@@ -128,7 +127,7 @@ module _ {D : Type 0} where
   CompactAnswers failures before after (Err (Absent receipt)) = ⊥
   CompactAnswers failures before after (Err (Estranged number found)) = ⊥
 
-  -- the answer to how much of its area the library takes: 36 exactly if the device has failed before
+  -- what `space` answers: how much of its area the library takes; 36 exactly if the device has failed before
   abbrev pub SpaceAnswers : BookView D → Result SpaceUse BookFault → Type 0
   SpaceAnswers book (Ok space) = (book.library.closed ≡ false) × IsSpace book.library.area book.library.bodies book.library.units space
   SpaceAnswers book (Err fault) = (fault ≡ Closed) × (book.library.closed ≡ true)

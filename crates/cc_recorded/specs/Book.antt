@@ -2,12 +2,11 @@
 use Rattle.std.specs.Prelude.{◌≡◌, ℕ, ◌≤◌, false, IsTrue, List, [], ◌∷◌, length, Some, slice_get, refl}
 use Rattle.std.specs.Coded.{Coded, code_by, coded×, coded_list}
 use Rattle.cc_disk.specs.declared.disk.Disk.{Ghosts}
-use Rattle.cc_history.specs.Agree.{Agree}
-use Rattle.cc_library.specs.declared.command.LibraryCommand.{LibraryCommand}
-use Rattle.cc_library.specs.declared.command.LibraryCommand.TheVariants as change
+use Rattle.cc_library.specs.Change.{LibraryCommand}
 use Rattle.cc_library.specs.Apply.{Units, after}
 use Rattle.cc_library.specs.Recovered.{View, RecoversAlone, RecoversOneOf, view_code}
 use Rattle.cc_history.specs.declared.entry.Entry.{Entry}
+use Rattle.cc_history.specs.Calls.{HasAgreed}
 use Rattle.cc_history.specs.History.{Chronicle, Replays, HaveAgreed}
 
 -- the map with which the service began, the library (its disk, its records, its map, whether it is closed), the history of the calls, and
@@ -18,7 +17,7 @@ pub record BookView (D : Type 0) : Type 0 where
   pub history : List Entry
   pub failed : List LibraryCommand
 
--- it is stored as the tuple of its fields
+-- a book is stored as the tuple of its fields
 abbrev pub book_code : {D : Type 0} → Coded D → Coded Units → Coded Entry → Coded LibraryCommand → Coded (BookView D)
 book_code {D} disk units entry command =
     code_by (Units × (View D × (List Entry × List LibraryCommand))) (coded× units (coded× (view_code disk units) (coded× (coded_list entry) (coded_list command))))
@@ -29,22 +28,17 @@ module _ {D : Type 0} where
   abbrev pub chronicle_of : BookView D → Chronicle
   chronicle_of book = record { base = book.base; units = book.library.units; history = book.history }
 
--- the unit of a change, if it has one, was compiled
-abbrev pub HasAgreedUnit : LibraryCommand → Type 0
-HasAgreedUnit (change.Add name unit) = Agree unit.source unit.image
-HasAgreedUnit (change.Replace name unit) = Agree unit.source unit.image
-HasAgreedUnit (change.Withdraw name) = Unit {0}
-
+-- the unit of each of these changes, if it has one, was compiled
 abbrev pub AllAgreed : List LibraryCommand → Type 0
-AllAgreed changes = (k : ℕ) (c : LibraryCommand) → slice_get changes k ≡ Some c → HasAgreedUnit c
+AllAgreed changes = (k : ℕ) (c : LibraryCommand) → slice_get changes k ≡ Some c → HasAgreed c
 
--- what an image of the disk recovers to: the map; after a change that failed, the map with or without it
+-- what an image of the disk recovers to: the map; after a change that failed, the map with or without that change
 abbrev pub RecoversTo : Units → (failed : List LibraryCommand) → List ℕ → Type 0
 RecoversTo units [] image = RecoversAlone image units
 RecoversTo units (failed ∷ others) image = RecoversOneOf units (after units failed) image
 
 -- What the type of a book keeps. While the library is not closed, every image of an honest disk recovers to its map; once the
--- device has failed in a change, to the map with or without it.
+-- device has failed in a change, to the map with or without that change.
 pub record IsRecordedLibrary {Disk : Type 0} (D : Ghosts Disk) (named : Units) (total : ℕ) (book : BookView Disk) : Type 0 where
   pub replays : Replays (chronicle_of book)
   pub agreed : HaveAgreed book.history

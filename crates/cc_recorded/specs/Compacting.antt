@@ -1,12 +1,11 @@
--- What a commit answers that compacts if this makes room, and what it leaves: 34 is its answer only if the record does not fit after the
--- compacted records either, or if the compaction was refused.
+-- What a commit that compacts if this makes room answers, and what it leaves: 34 is its answer only if the record does not fit
+-- after the compacted records either, or if the compaction was refused.
 use Rattle.std.specs.Prelude.{◌≡◌, ◌≢◌, ◌⊎◌, ◌<◌, IsTrue, Result, Ok, Err}
 use Rattle.cc_disk.specs.declared.disk.Disk.{Ghosts}
 use Rattle.cc_library.specs.Answers.{IsMended}
 use Rattle.cc_library.specs.Compact.{room_compacted}
-use Rattle.cc_history.specs.declared.command.Command.{Command}
 use Rattle.cc_history.specs.declared.entry.Receipt.{Receipt}
-use Rattle.cc_history.specs.Calls.{change_of}
+use Rattle.cc_history.specs.Calls.{Command}
 use Rattle.cc_history.specs.History.{MemberView, LastStands}
 use Rattle.cc_recorded.specs.Answers.{CommitAnswers, CompactAnswers}
 use Rattle.cc_recorded.specs.Book.{BookView}
@@ -20,12 +19,12 @@ module _ {Disk : Type 0} (D : Ghosts Disk) where
   abbrev pub CommitsBehind : Command → (between : BookView Disk) (old : MemberView) (after : BookView Disk) (new : MemberView) → Result (Unit {0}) BookFault → Result Receipt BookFault → Type 0
   CommitsBehind command between old after new (Ok done) result =
       CommitAnswers D.failures between old command after new result × (result ≢ Err Full)
-      × (IsTrue D.honest → ChangesDisk D (change_of command) between.library after.library result)
+      × (IsTrue D.honest → ChangesDisk D command between.library after.library result)
   CommitsBehind command between old after new (Err fault) result = (result ≡ Err Full) × (after ≡ between) × (new ≡ old)
 
   -- 34 would refuse the change now, but not after a compaction, so the library is compacted, which makes no entry and leaves the map.
   pub record IsCompactedFor (before : BookView Disk) (old : MemberView) (command : Command) (after : BookView Disk) (new : MemberView) (result : Result Receipt BookFault) : Type 0 where
-    pub mended : IsMended before.library (change_of command)
+    pub mended : IsMended before.library command
     pub stands : LastStands before.history old.receipts
     pub compacted : Result (Unit {0}) BookFault
     pub between : BookView Disk
@@ -37,6 +36,6 @@ module _ {Disk : Type 0} (D : Ghosts Disk) where
   abbrev pub CompactingAnswers : (before : BookView Disk) (old : MemberView) → Command → (after : BookView Disk) (new : MemberView) → Result Receipt BookFault → Type 0
   CompactingAnswers before old command after new result =
       (CommitAnswers D.failures before old command after new result
-      × (result ≡ Err Full → before.library.area < room_compacted before.library.units (change_of command))
-      × (IsTrue D.honest → ChangesDisk D (change_of command) before.library after.library result))
+      × (result ≡ Err Full → before.library.area < room_compacted before.library.units command)
+      × (IsTrue D.honest → ChangesDisk D command before.library after.library result))
       ⊎ IsCompactedFor before old command after new result

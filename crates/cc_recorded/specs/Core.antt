@@ -6,7 +6,7 @@ use Rattle.std.specs.FinMap.{empty, get}
 use Rattle.cc_disk.specs.declared.disk.Disk.{Ghosts}
 use Rattle.cc_disk.specs.Model.{bytes_of, IsImage}
 use Rattle.cc_journal.specs.Format.{HoldsRecords, records}
-use Rattle.cc_library.specs.declared.command.LibraryCommand.{LibraryCommand}
+use Rattle.cc_library.specs.Change.{LibraryCommand}
 use Rattle.cc_library.specs.Apply.{AreAccepted, library_of}
 use Rattle.cc_library.specs.Recovered.{View}
 use Rattle.cc_core.specs.declared.command.Numbered.{Numbered}
@@ -31,8 +31,8 @@ use Rattle.cc_history.specs.declared.entry.Receipt.{Receipt}
 use Rattle.cc_recorded.specs.declared.fault.BookFault.{BookFault}
 use Rattle.cc_recorded.specs.declared.fault.BookFault.TheVariants.{Exists, Absent, Full, DiskFault, Closed, Estranged, OutOfMemory}
 
--- The acknowledged commands are some that lead to the base, which were all there at the opening, and then the changes of the history, each
--- of which was answered Ok. The order has these, and after them the change that failed, if there was one.
+-- The acknowledged commands are first some that lead to the base, all of them there at the opening, and then the changes of the
+-- history, each of them answered Ok. The order has these, and after them the change that failed, if there was one.
 pub record ShowsOrder {D : Type 0} (book : BookView D) (order acknowledged : List Numbered) : Type 0 where
   pub earlier : List LibraryCommand
   pub base : library_of earlier ≡ book.base
@@ -42,7 +42,7 @@ pub record ShowsOrder {D : Type 0} (book : BookView D) (order acknowledged : Lis
   pub in_order : order ≡ acknowledged ++ failing
   pub failed : commands failing ≡ book.failed
 
--- idle; once the device has failed, failed, with the change that failed, if there was one
+-- the phase: idle; or, once the device has failed, failed, with the change that failed, if there was one
 abbrev pub IsPhase : (closed : Bool) (failed : List LibraryCommand) → Phase → Type 0
 IsPhase false failed phase = (failed ≡ []) × (phase ≡ Idle)
 IsPhase true [] phase = phase ≡ Failed None
@@ -117,7 +117,7 @@ IsBeside (event.Done worker piece) = Unit {0}
 IsBeside (event.Refuse worker number) = Unit {0}
 IsBeside other = ⊥
 
--- a rewrite, one whose first or second device step failed, and one whose third or fourth did
+-- a rewrite; one whose first or second device step failed; and one whose third or fourth failed
 module _ {P : Type 0} where
   abbrev pub rewritten_steps : List (Event P × Option Reply)
   rewritten_steps = (event.RewriteAll, None) ∷ (event.SyncAll, None) ∷ (event.WriteArea, None) ∷ (event.SyncArea, None) ∷ []
@@ -128,7 +128,8 @@ module _ {P : Type 0} where
   abbrev pub rewrite_failed_last : List (Event P × Option Reply)
   rewrite_failed_last = (event.RewriteAll, None) ∷ (event.SyncAll, None) ∷ (event.Fail, None) ∷ []
 
--- what a compaction with this answer is; one that is refused for another reason never begins
+-- what a compaction with this answer is for the core: a rewrite, or one that failed; a compaction that is refused for another
+-- reason never begins
 abbrev pub IsRewriteOf : {P : Type 0} (rules : Rules P) → (Contents P → Type 0) → Contents P → Result (Unit {0}) BookFault → Type 0
 IsRewriteOf rules Shown s (Ok done) = (new : Contents _) × Steps rules s rewritten_steps new × Shown new
 IsRewriteOf rules Shown s (Err DiskFault) =

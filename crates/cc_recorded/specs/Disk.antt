@@ -5,7 +5,7 @@ use Rattle.cc_disk.specs.declared.disk.Disk.{Ghosts}
 use Rattle.cc_disk.specs.Images.{LeavesAlone}
 use Rattle.cc_journal.specs.Commit.{FailsIn, IsCommitted}
 use Rattle.cc_journal.specs.Format.{HasAreaByte, HoldsRecords}
-use Rattle.cc_library.specs.declared.command.LibraryCommand.{LibraryCommand}
+use Rattle.cc_library.specs.Change.{LibraryCommand}
 use Rattle.cc_library.specs.Answers.{commit_of, rewrites_in}
 use Rattle.cc_library.specs.Recovered.{View}
 use Rattle.cc_recorded.specs.declared.fault.BookFault.{BookFault}
@@ -26,7 +26,7 @@ ChangesDisk D change old new (Err Closed) = Unit {0}
 ChangesDisk D change old new (Err (Estranged number found)) = Unit {0}
 ChangesDisk D change old new (Err OutOfMemory) = Unit {0}
 
--- what a compaction does to the disk's bytes, by its answer
+-- what a compaction does to the disk's bytes, depending on its answer
 abbrev pub CompactsDisk : {Disk T : Type 0} (D : Ghosts Disk) → (old new : View Disk) → Result T BookFault → Type 0
 CompactsDisk D old new (Ok done) =
     HoldsRecords (D.seen new.disk) new.area new.bodies

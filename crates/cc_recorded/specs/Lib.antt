@@ -13,7 +13,7 @@ pub mod Answers
 pub mod Disk
 -- the whole promise of a change of a book, and of a compaction
 pub mod Changed
--- what a commit answers that compacts if this makes room
+-- what a commit that compacts if this makes room answers
 pub mod Compacting
 -- how a book shows a state of the protocol core, and what a call is on it
 pub mod Core
@@ -23,5 +23,5 @@ pub mod Since
 pub mod Tie
 -- what the type of a book keeps, and what follows for whatever a crash leaves
 pub mod Promise
--- for private contracts
+-- definitions for private contracts
 pub mod internal

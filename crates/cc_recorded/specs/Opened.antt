@@ -5,8 +5,8 @@ use Rattle.cc_disk.specs.Images.{LeavesAlone}
 use Rattle.cc_journal.specs.Format.{HoldsRecords}
 use Rattle.cc_library.specs.Recovered.{RecoversAlone, StandFor, View}
 
--- It is open, and its records represent its map. An honest disk has these records and nothing unsettled, and whatever a crash leaves of it
--- recovers to the map, and to no other.
+-- The library is open, and its records represent its map. An honest disk has these records and nothing unsettled, and whatever a
+-- crash leaves of it recovers to the map, and to no other.
 pub record IsOpened {Disk : Type 0} (D : Ghosts Disk) (library : View Disk) : Type 0 where
   pub usable : library.closed ≡ false
   pub stand : StandFor library.bodies library.units

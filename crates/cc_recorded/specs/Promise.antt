@@ -1,7 +1,7 @@
 -- What the type of a book keeps, and what follows from it for whatever a crash leaves.
 use Rattle.std.specs.Prelude.{◌≡◌, ◌⊎◌, ◌+◌, ◌≤◌, ℕ, Bool, false, IsTrue, List, [], ◌++◌, length}
 use Rattle.cc_disk.specs.declared.disk.Disk.{Ghosts}
-use Rattle.cc_library.specs.declared.command.LibraryCommand.{LibraryCommand}
+use Rattle.cc_library.specs.Change.{LibraryCommand}
 use Rattle.cc_library.specs.Apply.{Units, library_of}
 use Rattle.cc_library.specs.Recovered.{Recovers}
 use Rattle.cc_core.specs.declared.command.Numbered.{Numbered}
@@ -19,9 +19,9 @@ use Rattle.cc_recorded.specs.Tie.{IsTied}
 abbrev pub FailedByDevice : {Disk : Type 0} (D : Ghosts Disk) (failures : ℕ) → BookView Disk → Type 0
 FailedByDevice D failures book = failures + length book.failed ≤ D.failures book.library.disk
 
--- The changes that failed did so with the device. On an honest disk also: the tie to the core's theorem; what a crash at any moment since
--- each earlier call has left; what one has left since the moment that the service's parameter names, for which the parameter also says what
--- one had left until the opening; and that the entries came one by one.
+-- Each change that failed did so because the device failed. On an honest disk the type also keeps: the tie to the core's theorem;
+-- what a crash at any moment since each earlier call has left; what a crash has left since the moment that the service's
+-- parameter names (the parameter also says what one had left from then until the opening); and that the entries came one by one.
 pub record IsBook {Disk : Type 0} (D : Ghosts Disk) (failures from : ℕ) (left : List ℕ → Type 0) (b : BookSince Disk) : Type 0 where
   pub blamed : FailedByDevice D failures b.book
   pub tied : IsTrue D.honest → IsTied compiling Keeps D b.book
@@ -29,10 +29,10 @@ pub record IsBook {Disk : Type 0} (D : Ghosts Disk) (failures from : ℕ) (left 
   pub opened : IsTrue D.honest → IsSinceOpening D from left b.book
   pub ordered : IsTrue D.honest → IsInOrder D b.book
 
--- What a crash leaves of a book's disk recovers to the library of a prefix of the commands in commit order. These are some that led to the
--- base, then the changes of the history, then the one in which the device failed. The prefix has each command that was acknowledged, as
--- often as it was: those of the base, and those of the history. Each unit in it was found at the opening, or its image agrees with its
--- source.
+-- What a crash leaves of a book's disk recovers to the library of a prefix of the commands in commit order. These are first some
+-- commands that led to the base, then the changes of the history, then the one in which the device failed. The prefix has each
+-- command that was acknowledged, as often as it was: those of the base, and those of the history. Each unit in it was found at
+-- the opening, or its image agrees with its source.
 pub record SurvivesCrash {D : Type 0} (book : BookView D) (image : List ℕ) : Type 0 where
   pub earlier : List LibraryCommand
   pub base : library_of earlier ≡ book.base
@@ -67,8 +67,8 @@ pub record IsSound {Disk : Type 0} (D : Ghosts Disk) (base : Units) (from : ℕ)
   pub ordered : IsTrue D.honest → IsInOrder D book
 
 -- What is left of a service that was given up with these clients: its book was on this disk, and each client has receipts of its own calls,
--- in their order. If the answer is that these are all its clients, every receipt of theirs is in its history, and every entry has one; if
--- the answer is that they are not, this shows why.
+-- in order. If the answer is that these are all its clients, every receipt of theirs is in its history, and every entry has one; if the
+-- answer is that they are not, this shows why.
 pub record IsGivenUp {Disk : Type 0} (D : Ghosts Disk) (failures : ℕ) (base : Units) (from : ℕ) (left : List ℕ → Type 0) (clients : List MemberView) (are_all : Bool) (disk : Disk) : Type 0 where
   pub book : BookView Disk
   pub disk_is : book.library.disk ≡ disk

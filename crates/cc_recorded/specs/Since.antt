@@ -2,7 +2,7 @@
 use Rattle.std.specs.Prelude.{◌≡◌, ◌⊎◌, ℕ, ◌≤◌, List, [], ◌∷◌, ◌++◌, length, take, Some, slice_get, refl}
 use Rattle.std.specs.Coded.{Coded, code_by, coded×, coded_list}
 use Rattle.cc_disk.specs.declared.disk.Disk.{Ghosts}
-use Rattle.cc_library.specs.declared.command.LibraryCommand.{LibraryCommand}
+use Rattle.cc_library.specs.Change.{LibraryCommand}
 use Rattle.cc_library.specs.Apply.{after}
 use Rattle.cc_library.specs.Recovered.{RecoversAlone}
 use Rattle.cc_history.specs.declared.entry.Entry.{Entry}
@@ -14,7 +14,7 @@ pub record BookSince (D : Type 0) : Type 0 where
   pub book : BookView D
   pub since : List (BookView D)
 
--- it is stored as the pair of its fields
+-- this value is stored as the pair of its fields
 abbrev pub since_code : {D : Type 0} → Coded (BookView D) → Coded (BookSince D)
 since_code {D} book =
     code_by (BookView D × List (BookView D)) (coded× book (coded_list book)) (λ b. (b.book, b.since)) (λ p. record { book = p.0; since = p.1 }) (λ _. refl)
@@ -55,13 +55,13 @@ module _ {Disk : Type 0} (D : Ghosts Disk) where
   abbrev pub AreSince : BookView Disk → List (BookView Disk) → Type 0
   AreSince book since = (k : ℕ) (old : BookView Disk) → slice_get since k ≡ Some old → IsSince book old
 
-  -- This was the disk when the history had this many entries, each of them answered: a crash then left these, and whatever one has left
-  -- since then has them.
+  -- This was the disk when the history had this many entries, each of them answered: a crash then left these, and whatever a
+  -- crash has left since then has them.
   pub record StoodWith (book : BookView Disk) (entries : ℕ) (disk : Disk) : Type 0 where
     pub past : D.moment disk ≤ D.moment book.library.disk
     pub just : (image : List ℕ) → D.may_leave disk image → HoldsJust book entries image
     pub holds : (image : List ℕ) → D.left_since book.library.disk (D.moment disk) image → HoldsFrom book entries image
 
-  -- the entries came one by one: with each number of them the disk was there
+  -- the entries came one by one: for each number of them, up to all, there was a disk that stood with so many
   abbrev pub IsInOrder : BookView Disk → Type 0
   IsInOrder book = (entries : ℕ) → entries ≤ length book.history → (disk : Disk) × StoodWith book entries disk

@@ -9,7 +9,6 @@ ghost use Rattle.cc_library.specs.Answers.{IsMended, OpenFaults};
 ghost use Rattle.cc_library.specs.Apply.{Units};
 ghost use Rattle.cc_library.specs.Recovered.{Recovers, RecoversAlone};
 ghost use Rattle.cc_headline.specs.Compiling.{compiling, Keeps, is_right};
-ghost use Rattle.cc_history.specs.Calls.{change_of};
 ghost use Rattle.cc_history.specs.Closing.{AreApart, AreOwn, IsClosed, IsNotWhole, ReceiptsStand};
 ghost use Rattle.cc_history.specs.History.{LastStands};
 ghost use Rattle.cc_recorded.specs.Book.{BookView};
@@ -29,7 +28,7 @@ use crate::recorded::{Ended, RecordedLibrary};
 use cc_core::laws::{crash_law, turn_law, units_law};
 use cc_disk::{Disk, History};
 use cc_headline::{CcBuild, made_units_are_built};
-use cc_history::{Asked, Command, Receipt, units_agree};
+use cc_history::{Asked, Command, Receipt, command_kept, units_agree};
 use cc_library::{Library, LibraryFault, SpaceUse, UnitMap};
 use std::alloc::Global;
 use std::marker::Model;
@@ -59,12 +58,13 @@ impl<N: Based, D: Disk> Model for Book<N, D> {
     ghost use Rattle.cc_recorded.specs.Promise.{IsBook};
     ghost use Rattle.cc_recorded.specs.Book.{BookView, book_code};
     ghost use Rattle.cc_library.specs.contracts.units.UnitMap as units;
-    ghost use Rattle.cc_library.specs.contracts.command.LibraryCommand as change;
+    ghost use Rattle.cc_library.specs.contracts.command.Change as change;
+    ghost use Rattle.cc_library.specs.contracts.unit.SharedUnit as shared;
     ghost use Rattle.cc_history.specs.contracts.entry.Entry as entry;
 
     ghost Value = { BookSince D };
 
-    ghost coded = { since_code (book_code D.code units.the_row.coded entry.the_row.coded change.the_row.coded) };
+    ghost coded = { since_code (book_code D.code units.the_row.coded entry.the_row.coded (change.the_row shared.the_row).coded) };
 
     ghost view = { λ b. record { book = b.recorded; since = b.since.items } };
 
@@ -74,9 +74,9 @@ impl<N: Based, D: Disk> Model for Book<N, D> {
 impl<N: Based, D: Disk> Book<N, D> {
     /// Opens the library on a disk, and begins a history over it: the map that was found is the base.
     ///
-    /// Refusals, with the disk handed back: those of the library's opening, in its order: 35 if the device failed in the call, 38 if there
-    /// is no valid header, 37 if an open record does not fit its area or the records are not a list of accepted commands. 40 if memory ran
-    /// out. No refusal changes a byte.
+    /// Refusals, with the disk handed back: those of the library's opening, in the same order: 35 if the device failed in the
+    /// call, 38 if there is no valid header, 37 if an open record does not fit in its area or the records are not a list of
+    /// accepted commands. 40 if memory ran out. No refusal changes a byte.
     pub fn open(
         alloc: Global,
         disk: D,
@@ -84,8 +84,8 @@ impl<N: Based, D: Disk> Book<N, D> {
     ) -> Result<Book<N, D>, (LibraryFault, D)>
         // The base that the service's parameter names, if an honest disk's bytes recover to one.
         requires named { IsTrue D.honest → (units : Units) → Recovers (D.seen disk) units → units ≡ N.base }
-        // The moment that it names, and what a crash has left since then; and a number of failed device calls, no larger than how many had
-        // failed.
+        // The moment that the parameter names, with what a crash has left since then; and its number of failed device calls, at
+        // most as many as have failed.
         requires past { IsTrue D.honest → IsPast D.Disk N.from N.left disk }
         requires failures { N.failures ≤ D.failures disk }
         requires counted { calls.total ≡ 0 }
@@ -168,12 +168,13 @@ impl<N: Based, D: Disk> Book<N, D> {
         Book { recorded, since }
     }
 
-    /// Makes a change, and puts the call into the history with its answer. After Ok it is kept: every crash leaves it.
+    /// Makes a change, and puts the call into the history with its answer. After Ok the change is kept: every crash leaves it.
     ///
-    /// Refusals, in this order: 36 if the device has failed before; 39 if the client's last receipt does not match the history; 31 if the
-    /// name to be added has a unit, 32 if the one to be replaced or withdrawn has none, both of them in the history with a receipt; 34 if
-    /// the record does not fit; 35 if the device failed. 40 if memory ran out, before the first device call. After 34, 36, 39 and 40
-    /// everything is as before; after 35 history and map are, and the disk has the map with or without the change.
+    /// Refusals, in this order: 36 if the device has failed before; 39 if the client's last receipt does not match the history;
+    /// 31 if the name to be added has a unit, 32 if the one to be replaced or withdrawn has none, both of them in the history
+    /// with a receipt; 34 if the record does not fit; 35 if the device failed. 40 if memory ran out, before the first device
+    /// call. After 34, 36, 39 and 40 everything is as before; after 35 the history and the map are, and the disk has the map with
+    /// or without the change.
     pub fn commit(
         &mut self,
         alloc: Global,
@@ -184,7 +185,7 @@ impl<N: Based, D: Disk> Book<N, D> {
         ensures since { self.new.since ≡ self.old.since ++ self.new.book ∷ [] }
     {
         self.recorded.kept();
-        command.kept();
+        command_kept(&command);
         made_units_are_built();
         turn_law::<CcBuild>();
         let result = self.recorded.commit(alloc, client, command);
@@ -193,12 +194,12 @@ impl<N: Based, D: Disk> Book<N, D> {
         result
     }
 
-    /// Makes a change as `commit` does. But if 34 would refuse it now and would not after a `compact`, it compacts first. That makes no
-    /// entry in the history, and the map stays the same.
+    /// Makes a change as `commit` does. But if 34 would refuse it now and would not after a `compact`, it compacts first. That
+    /// makes no entry in the history, and the map stays the same.
     ///
-    /// Refusals as those of `commit`. 34 comes if the record does not fit after compacted records either, without a device call. It also
-    /// comes if `compact` was refused: the change was then not begun, and every crash leaves the map as it was; but if the device failed,
-    /// the library is closed, and answers 36 from then on.
+    /// Refuses as `commit` does. 34 comes, without a device call, if the record does not fit after compacted records either. It
+    /// also comes if `compact` was refused: the change was then not begun, and every crash leaves the map as it was; but if the
+    /// device failed, the library is closed, and answers 36 from then on.
     pub fn commit_compacting(
         &mut self,
         alloc: Global,
@@ -206,11 +207,11 @@ impl<N: Based, D: Disk> Book<N, D> {
         command: Command,
     ) -> Result<Receipt, BookFault>
         ensures answers { CompactingAnswers D.Disk self.old.book client.old command self.new.book client.new result }
-        // Nothing was done, or the book afterwards is the newest.
+        // Either nothing was done, or the book as it is afterwards is the last one of `since`.
         ensures since { (self.new ≡ self.old) ⊎ ((between : List (BookView D)) × (self.new.since ≡ self.old.since ++ (between ++ self.new.book ∷ []))) }
 
         ensures moments { ChangesAtOnce D.Disk command self.old.book self.new.book }
-        // The same holds afterwards: after Ok every crash leaves the map with the change, and no other.
+        // After Ok every crash leaves the map with the change, and no other.
         ensures kept { AllRecover D.Disk self.new.book }
     {
         self.kept();
@@ -227,16 +228,16 @@ impl<N: Based, D: Disk> Book<N, D> {
 
     // Whether 34 would refuse a change of this client now, but not after a `compact`.
     fn is_mended_by_compact(&self, client: &Member<N>, command: &Command) -> Result<bool, BookFault>
-        ensures mended { IfOk result (λ mended. IsTrue mended → IsMended self.now.book.library (change_of command.now)) }
+        ensures mended { IfOk result (λ mended. IsTrue mended → IsMended self.now.book.library command.now) }
         ensures stands { IfOk result (λ mended. IsTrue mended → LastStands self.now.book.history client.now.receipts) }
-        ensures not { IfOk result (λ mended. mended ≡ false → ¬ IsMended self.now.book.library (change_of command.now)) }
+        ensures not { IfOk result (λ mended. mended ≡ false → ¬ IsMended self.now.book.library command.now) }
         ensures refused { IfErr result (λ fault. IsRefusedEarly self.now.book.history client.now fault) }
         ensures idle { IfErr result (λ _. self.now.book.library.closed ≡ false) }
     {
         self.recorded.is_mended_by_compact(client, command)
     }
 
-    /// What its type keeps of what a crash leaves now. It does nothing.
+    /// Gives proofs what the type of a book keeps about what a crash leaves now; at run time it does nothing.
     pub fn kept(&self)
         ensures images { AllRecover D.Disk self.now.book }
         ensures idle { self.now.book.library.closed ≡ false → self.now.book.failed ≡ [] }
@@ -287,7 +288,7 @@ impl<N: Based, D: Disk> Book<N, D> {
     /// 36 if the device has failed before: then the disk may have other records.
     pub fn space(&self) -> Result<SpaceUse, BookFault>
         ensures answers { SpaceAnswers self.now.book result }
-        // Every crash leaves these records alone.
+        // Every crash leaves exactly these records.
         ensures kept { IfOk result (λ _. IsTrue D.honest
             → AllHold (D.may_leave self.now.book.library.disk) self.now.book.library.area self.now.book.library.bodies) }
     {
@@ -301,7 +302,7 @@ impl<N: Based, D: Disk> Book<N, D> {
         self.recorded.library.is_closed()
     }
 
-    /// The disk; no call reaches it any more.
+    /// The disk, which no call reaches any more.
     pub fn into_disk(self) -> D
         ensures { result ≡ self.book.library.disk }
     {
@@ -329,7 +330,7 @@ impl<N: Based, D: Disk> Book<N, D> {
         ensures sound { IsSound D.Disk N.base N.from N.left (record { base = result.base; library = result.library; history = result.history.items; failed = result.failed.items }) }
         ensures blamed { FailedByDevice D.Disk N.failures (record { base = result.base; library = result.library; history = result.history.items; failed = result.failed.items }) }
         ensures counted { length result.history.items ≡ whole.amount }
-        // It is the book's library, with what was known about it.
+        // The answer is the book's library, with what was known about the book.
         ensures of_book { ◌≡◌ {A = BookView D} (record { base = result.base; library = result.library; history = result.history.items; failed = result.failed.items }) self.book }
     {
         self.survives();
@@ -344,7 +345,7 @@ impl<N: Based, D: Disk> Book<N, D> {
         ensures sound { IsSound D.Disk N.base N.from N.left self.book }
         ensures blamed { FailedByDevice D.Disk N.failures self.book }
         ensures own { AreOwn (map C.member clients.now) }
-        // If so, every receipt of theirs is in the history, and every entry has a receipt; if not, the reason.
+        // If they are, every receipt of theirs is in the history, and every entry has a receipt; if not, the reason.
         ensures closed { IsTrue result.1 → IsClosed self.book.history (map C.member clients.now) }
         ensures why { result.1 ≡ false → IsNotWhole self.book.history (map C.member clients.now) }
     {
@@ -358,8 +359,8 @@ impl<N: Based, D: Disk> Book<N, D> {
         // Some run of the core leads from an opened disk to a state that the book shows.
         ensures reached { IsTrue D.honest → IsTied compiling Keeps D.Disk self.now.book }
 
-        // The history is legal, and the map is the base with its changes. What a crash leaves now has each acknowledged command, what it
-        // has left since the opening has a prefix of the calls, and the units in both are right.
+        // The history is legal, and the map is the base with its changes. What a crash leaves now has each acknowledged command,
+        // what a crash has left since the opening has a prefix of the calls, and the units in both are right.
         ensures sound { IsSound D.Disk N.base N.from N.left self.now.book }
 
         // Each change that failed did so in a call of the device that failed since the opening.
@@ -369,7 +370,7 @@ impl<N: Based, D: Disk> Book<N, D> {
         ensures since { IsTrue D.honest → (k : ℕ) (then' : BookView D) → slice_get self.now.since k ≡ Some then' → (image : List ℕ)
             → D.left_since self.now.book.library.disk (D.moment then'.library.disk) image → HoldsFrom self.now.book (length then'.history) image }
 
-        // Each unit that is recovered from it was found at the opening, or its image agrees with its source.
+        // Each unit that is recovered from what a crash has left was found at the opening, or its image agrees with its source.
         ensures units { (entries : ℕ) (image : List ℕ) (library : Units) → HoldsFrom self.now.book entries image → Recovers image library
             → EachUnit (IsRightOr is_right self.now.book.base) library }
     {

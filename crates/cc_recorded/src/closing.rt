@@ -64,14 +64,14 @@ impl<N: Based, D: Disk> RecordedLibrary<N, D> {
         stand_in(self.history.as_slice(), clients)
     }
 
-    // The number of entries in its history.
+    // The number of entries in the history.
     fn entries(&self) -> u64
         ensures { result ≡ length self.now.history }
     {
         self.history.len() as u64
     }
 
-    // Ok if it can be ended with these clients, as many as were made: these are all clients, and their receipts match.
+    // Ok if the library can be ended with these clients, as many as were made: these are all clients, and their receipts match.
     pub(crate) fn ready<C: HasReceipts>(&self, made: u64, clients: &[C]) -> Result<(), BookFault>
         ensures many { OnOk result (length clients.now ≡ made) }
         ensures apart { OnOk result (AreApart (map C.member clients.now)) }
@@ -91,8 +91,8 @@ impl<N: Based, D: Disk> RecordedLibrary<N, D> {
         Ok(())
     }
 
-    // Whether these are all clients of its history: all their receipts match, no two have the same number, and there are as many receipts
-    // as entries.
+    // Whether these are all clients of the history: all their receipts match, no two have the same number, and there are as many
+    // receipts as entries.
     pub(crate) fn is_whole<C: HasReceipts>(&self, clients: &[C]) -> bool
         ensures own { AreOwn (map C.member clients.now) }
         ensures closed { IsTrue result → IsClosed self.now.history (map C.member clients.now) }

@@ -1,4 +1,4 @@
-// Puts an entry into the history and its receipt to its client, after the memory for both has been taken.
+// Puts an entry into the history and gives its receipt to its client, after the memory for both has been taken.
 
 ghost use Rattle.std.specs.Prelude.{◌≡◌, ◌+◌, ◌<◌, ◌++◌, [], ◌∷◌, length, vec_len, OnOk, IfOk};
 ghost use Rattle.std.specs.Vec.{vec_capacity};
@@ -41,7 +41,7 @@ pub(crate) fn prepare(
     })
 }
 
-// Puts the entry last in the history, and its receipt last with its client, whose share counts it.
+// Adds the entry to the end of the history, and the receipt to the end of the client's receipts; the client's share counts it.
 pub(crate) fn enter<N: Based>(
     history: &mut Vec<SharedEntry>,
     calls: &mut ledger::Book<N>,

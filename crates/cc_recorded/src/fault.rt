@@ -17,7 +17,7 @@ pub enum BookFault {
     /// 32: the name has no unit. The call is in the history.
     #[error("Absent")]
     Absent(Receipt),
-    /// 34: the record does not fit the area.
+    /// 34: the record does not fit in the area.
     #[error("Full")]
     Full,
     /// 35: the device failed in the call.
@@ -26,7 +26,7 @@ pub enum BookFault {
     /// 36: an earlier call failed on the device.
     #[error("Closed")]
     Closed,
-    /// 39: at the number of the client's last receipt the history has this entry, or none, and not the client's.
+    /// 39: at the number of the client's last receipt the history has this entry, or none, in place of the client's.
     #[error("Estranged")]
     Estranged {
         number: u64,
@@ -37,7 +37,7 @@ pub enum BookFault {
     OutOfMemory,
 }
 
-// Only its name, since what is in a receipt is long.
+// Prints only the fault's name, since what is in a receipt is long.
 impl Debug for BookFault {
     fn fmt<W: Write>(&self, f: &mut Formatter<W>) -> fmt::Result {
         Display::fmt(self, f)

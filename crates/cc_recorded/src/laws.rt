@@ -7,9 +7,8 @@ ghost use Rattle.cc_library.specs.Recovered.{StandFor};
 ghost use Rattle.cc_core.specs.Run.{IsOpened};
 ghost use Rattle.cc_core.specs.declared.contents.Contents.{Contents};
 ghost use Rattle.cc_core.specs.declared.ids.ClientId.{ClientId};
-ghost use Rattle.cc_history.specs.declared.command.Command.{Command};
 ghost use Rattle.cc_history.specs.declared.entry.Receipt.{Receipt};
-ghost use Rattle.cc_history.specs.Calls.{change_of};
+ghost use Rattle.cc_history.specs.Calls.{Command};
 ghost use Rattle.cc_history.specs.History.{MemberView};
 ghost use Rattle.cc_recorded.specs.declared.fault.BookFault.{BookFault};
 ghost use Rattle.cc_recorded.specs.Book.{BookView};
@@ -28,8 +27,8 @@ use cc_disk::Disk;
 pub fn commits_are_steps<D: Disk, B: Build>()
     ensures { (before after : BookView D) (old new : MemberView) (command : Command) (result : Result Receipt BookFault) (s : Contents B.Piece) (client : ClientId)
         → CommitAnswers D.failures before old command after new result
-        → (IsTrue D.honest → ChangesDisk D.Disk (change_of command) before.library after.library result)
-        → Shows D.Disk before s → Has B.rules s client (change_of command)
+        → (IsTrue D.honest → ChangesDisk D.Disk command before.library after.library result)
+        → Shows D.Disk before s → Has B.rules s client command
         → IsCommitOf B.rules (Shows D.Disk after) s client result }
 {}
 
@@ -48,7 +47,7 @@ pub fn jobs_are_beside<D: Disk, B: Build>()
         → IsBeside event → Step B.rules old event reply new → Shows D.Disk book old → Shows D.Disk book new }
 {}
 
-/// The same for a compaction: it is the four device steps of a rewrite, or those up to the failure.
+/// Whatever state of the core a book shows: a compaction is the four device steps of a rewrite, or those up to the failure.
 pub fn compactions_are_rewrites<D: Disk, B: Build>()
     ensures { (before after : BookView D) (result : Result (Unit {0}) BookFault) (s : Contents B.Piece)
         → CompactAnswers D.failures before after result

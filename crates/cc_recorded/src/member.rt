@@ -13,14 +13,14 @@ use std::sync::ledger::Share;
 pub trait HasReceipts {
     ghost use Rattle.cc_history.specs.History.{MemberView};
 
-    /// Its number with its receipts.
+    /// The number with the receipts.
     ghost member: { Self → MemberView };
 
-    /// Its number.
+    /// The number.
     fn number(&self) -> u64
         ensures { result ≡ (member self.now).number };
 
-    /// The receipts so far, which are of its own calls, in their order. It takes no memory.
+    /// The receipts of its own calls so far, in order. It takes no memory.
     fn receipts(&self) -> &[Receipt]
         ensures answer { result.now ≡ (member self.now).receipts }
         ensures own { IsOwn (member self.now) };
@@ -70,7 +70,7 @@ impl<N: Based> Member<N> {
         }
     }
 
-    /// Adds its share to the rest of the ledger, and hands out its receipts.
+    /// Adds the member's share to the rest of the ledger, and returns the member's receipts.
     pub fn leave(self, rest: &mut Share<N>) -> Vec<Receipt>
         ensures receipts { result.items ≡ self.receipts }
         ensures parts { rest.new.parts ≡ rest.old.parts + 1 }

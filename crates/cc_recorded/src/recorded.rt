@@ -5,7 +5,7 @@ ghost use Rattle.cc_journal.specs.Format.{AllHold};
 ghost use Rattle.cc_library.specs.Answers.{IsMended};
 ghost use Rattle.cc_library.specs.Apply.{apply};
 ghost use Rattle.cc_library.specs.Recovered.{RecoversAlone};
-ghost use Rattle.cc_history.specs.Calls.{change_of, reply_of, reply_of_change};
+ghost use Rattle.cc_history.specs.Calls.{reply_of, reply_of_change};
 ghost use Rattle.cc_history.specs.History.{HaveAgreed, LastStands, Replays};
 ghost use Rattle.cc_recorded.specs.Book.{AllAgreed, BookView, chronicle_of};
 ghost use Rattle.cc_recorded.specs.Answers.{IsLook, LookAnswers, SpaceAnswers};
@@ -19,7 +19,8 @@ use crate::member::Member;
 use crate::named::Based;
 use cc_disk::{Disk, History};
 use cc_history::{
-    Asked, Command, Entry, NameList, Receipt, Reply, SharedEntry, calls_are_recorded, last_stands,
+    Asked, Command, Entry, NameList, Receipt, Reply, SharedEntry, calls_are_recorded, change_of,
+    last_stands,
 };
 use cc_library::{Library, LibraryCommand, LibraryFault, SharedUnit, SpaceUse, UnitMap};
 use std::alloc::{AllocError, Global};
@@ -42,13 +43,14 @@ pub struct RecordedLibrary<N: Based, D: Disk> {
 impl<N: Based, D: Disk> Model for RecordedLibrary<N, D> {
     ghost use Rattle.std.specs.Coded.{codes};
     ghost use Rattle.cc_library.specs.contracts.units.UnitMap as units;
-    ghost use Rattle.cc_library.specs.contracts.command.LibraryCommand as change;
+    ghost use Rattle.cc_library.specs.contracts.command.Change as change;
+    ghost use Rattle.cc_library.specs.contracts.unit.SharedUnit as shared;
     ghost use Rattle.cc_history.specs.contracts.entry.Entry as entry;
     ghost use Rattle.cc_recorded.specs.Book.{BookView, IsRecordedLibrary, book_code};
 
     ghost Value = { BookView D };
 
-    ghost coded = { book_code D.code units.the_row.coded entry.the_row.coded change.the_row.coded };
+    ghost coded = { book_code D.code units.the_row.coded entry.the_row.coded (change.the_row shared.the_row).coded };
 
     ghost view = { λ b. record { base = b.base; library = b.library; history = b.history.items; failed = b.failed.items } };
 
@@ -96,7 +98,7 @@ impl<N: Based, D: Disk> RecordedLibrary<N, D> {
         library.into_disk()
     }
 
-    /// States what its type keeps, for proofs; it does nothing.
+    /// Gives proofs what the type keeps; at run time it does nothing.
     pub(crate) fn kept(&self)
         ensures base { IsTrue D.honest → self.now.base ≡ N.base }
         ensures replays { Replays (chronicle_of self.now) }
@@ -138,10 +140,10 @@ impl<N: Based, D: Disk> RecordedLibrary<N, D> {
             Ok(()) => {}
             Err(fault) => return Err(BookFault::from(fault)),
         }
-        let answer = decide(library, &command);
-        let Ok(change) = command.change() else {
+        let Ok(change) = change_of(&command) else {
             return Err(BookFault::OutOfMemory);
         };
+        let answer = decide(library, &change);
         let entry = Entry {
             client: *number,
             call: receipts.len() as u64 + 1,
@@ -167,7 +169,9 @@ impl<N: Based, D: Disk> RecordedLibrary<N, D> {
                         Err(BookFault::DiskFault)
                     }
                     Err(LibraryFault::Full) => Err(BookFault::Full),
-                    Err(_) => Err(BookFault::OutOfMemory),
+                    Err(LibraryFault::OutOfMemory) => Err(BookFault::OutOfMemory),
+                    // The library is not closed, and its map accepts the change.
+                    Err(_) => unreachable!(),
                 }
             }
         }
@@ -181,16 +185,16 @@ impl<N: Based, D: Disk> RecordedLibrary<N, D> {
         client: &Member<N>,
         command: &Command,
     ) -> Result<bool, BookFault>
-        ensures mended { IfOk result (λ mended. IsTrue mended → IsMended self.now.library (change_of command.now)) }
+        ensures mended { IfOk result (λ mended. IsTrue mended → IsMended self.now.library command.now) }
         ensures stands { IfOk result (λ mended. IsTrue mended → LastStands self.now.history client.now.receipts) }
-        ensures not { IfOk result (λ mended. mended ≡ false → ¬ IsMended self.now.library (change_of command.now)) }
+        ensures not { IfOk result (λ mended. mended ≡ false → ¬ IsMended self.now.library command.now) }
         ensures refused { IfErr result (λ fault. IsRefusedEarly self.now.history client.now fault) }
         ensures idle { IfErr result (λ _. self.now.library.closed ≡ false) }
     {
         if self.library.is_closed() {
             return Ok(false);
         }
-        let Ok(change) = command.change() else {
+        let Ok(change) = change_of(command) else {
             return Err(BookFault::OutOfMemory);
         };
         // The library is asked first, since comparing receipts compares whole units.
@@ -255,10 +259,7 @@ impl<N: Based, D: Disk> RecordedLibrary<N, D> {
         Ok(self.library.space())
     }
 
-    /// Writes the library's records anew, one Add per name. It makes no entry in the history, and the map stays, at every moment.
-    ///
-    /// Refusals, in this order: 36 where the device has failed before, 34 where the new records do not fit, 35 where the device
-    /// failed. 40 where memory ran out, before the first device call. After 34, 36 and 40 all is as before.
+    /// Writes the library's records again: `Book::compact` has the refusals.
     pub fn compact(&mut self, alloc: Global) -> Result<(), BookFault>
         ensures compacted { IsBookCompacted D.Disk self.old self.new result }
     {
@@ -267,16 +268,18 @@ impl<N: Based, D: Disk> RecordedLibrary<N, D> {
             Err(LibraryFault::DiskFault) => return Err(BookFault::DiskFault),
             Err(LibraryFault::Closed) => return Err(BookFault::Closed),
             Err(LibraryFault::Full) => return Err(BookFault::Full),
-            Err(_) => return Err(BookFault::OutOfMemory),
+            Err(LibraryFault::OutOfMemory) => return Err(BookFault::OutOfMemory),
+            Err(_) => unreachable!(),
         }
         Ok(())
     }
 
-    /// Ends it, with a share that is the whole ledger: this share counts as many calls as the history has.
+    /// Ends the library with its history, with a share that is the whole ledger: this share counts as many calls as the history
+    /// has.
     pub(crate) fn end(self, mut whole: Share<N>) -> Ended<D>
         requires parts { whole.parts ≡ N.parts }
         ensures counted { length result.history.items ≡ whole.amount }
-        // It is the book's library, with what was known about it.
+        // The answer is the book's library, with what was known about the book.
         ensures of_book { ◌≡◌ {A = BookView D} (record { base = result.base; library = result.library; history = result.history.items; failed = result.failed.items }) self }
     {
         let RecordedLibrary {
@@ -302,8 +305,8 @@ fn looked<D: Disk>(alloc: Global, library: &Library<D>, asked: &Asked) -> Result
     ensures { IfOk result (λ reply. reply ≡ reply_of library.now.units asked.now) }
 {
     match asked {
-        // Unreachable: a change is not a look-up.
-        Asked::Change(_) => Err(AllocError),
+        // A change is not a look-up.
+        Asked::Change(_) => unreachable!(),
         Asked::Fetch(name) => match library.get(name) {
             Some(unit) => Ok(Reply::Unit(SharedUnit::new(Arc::try_clone(unit)?))),
             None => Ok(Reply::Absent),
@@ -332,18 +335,14 @@ impl Answer {
     }
 }
 
-// The answer to a change on a library that is not closed.
-fn decide<D: Disk>(library: &Library<D>, command: &Command) -> Answer
-    ensures { answer_reply result ≡ reply_of_change (apply library.now.units (change_of command.now)) }
+// The answer to a change on a library that is not closed: its map decides.
+fn decide<D: Disk>(library: &Library<D>, change: &LibraryCommand) -> Answer
+    ensures { answer_reply result ≡ reply_of_change (apply library.now.units change.now) }
 {
-    match command {
-        Command::Add(name, _) => if library.get(name).is_some() {
+    match library.units().refusal(change) {
+        None => Answer::Done,
+        Some(number) => if number == 31 {
             Answer::Exists
-        } else {
-            Answer::Done
-        },
-        Command::Replace(name, _) | Command::Withdraw(name) => if library.get(name).is_some() {
-            Answer::Done
         } else {
             Answer::Absent
         },

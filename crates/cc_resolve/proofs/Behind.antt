@@ -1,4 +1,4 @@
--- Objects, parameters and external declarations, one after another: what is done and what is left make the whole.
+-- Objects, parameters and external declarations, one after another: what is done, followed by what is left, is the whole.
 use Rattle.std.proofs.Common.{◌≡◌, ℕ, suc, ◌+◌, ◌-◌, ◌<◌, ◌≤◌, List, [], ◌∷◌, ◌++◌, length, map, replicate, Some, None, refl, sym, ap, ◌∙◌, append_assoc, arith}
 use Rattle.cc_ast.specs.scalar.Scalar.{Scalar}
 use Rattle.cc_ast.specs.Tree.{Name, Parameter, Object, External, Declaration, Definition, Objects}
@@ -22,7 +22,7 @@ one-more done done' x rest whole e is = ap (λ l. l ++ rest) is ∙ append_assoc
 pub some-more : {A : Type 0} (done done' xs rest whole : List A) → done ++ (xs ++ rest) ≡ whole → done' ≡ done ++ xs → done' ++ rest ≡ whole
 some-more done done' xs rest whole e is = ap (λ l. l ++ rest) is ∙ append_assoc done xs rest ∙ e
 
--- one more of several equal numbers
+-- one more zero is done
 pub one-more-zero : (done done' whole : List ℕ) (n k : ℕ) → k < n → done ++ replicate (n - k) 0 ≡ whole → done' ≡ done ++ 0 ∷ [] → done' ++ replicate (n - (k + 1)) 0 ≡ whole
 one-more-zero done done' whole n k h e is =
     let left : n - k ≡ suc (n - (k + 1)) = omega arith in
@@ -30,7 +30,7 @@ one-more-zero done done' whole n k h e is =
 
 -- ---- the words of objects, and where they are
 
--- after some objects of a list
+-- the state after some objects of a list
 pub record Placing (p0 : Layout) (w0 : List ℕ) (at0 : ℕ) (all : List Object) (p : Layout) (w : List ℕ) (at : ℕ) (rest : List Object) : Type 0 where
   pub objects : p.objects ++ laid_from at rest ≡ p0.objects ++ laid_from at0 all
   pub functions : p.functions ≡ p0.functions
@@ -77,7 +77,7 @@ function_texts-next (Declaration s) rest = refl
 function_texts-next (Definition s body) rest = refl
 function_texts-next (Objects t os) rest = refl
 
--- after some external declarations of a unit
+-- the state after some external declarations of a unit
 pub record Finding (all : List External) (p : Layout) (w : List ℕ) (at : ℕ) (rest : List External) : Type 0 where
   pub laid : p.objects ++ laid_from at (objects rest) ≡ laid_from 0 (objects all)
   pub numbered : p.functions ++ function_texts rest ≡ function_texts all
@@ -108,7 +108,7 @@ Finding-next all p w at e rest p' w' at' before ep ew ea h =
 
 -- ---- the names of objects
 
--- after some names in a declaration of objects
+-- the state after some names in a declaration of objects
 pub record Naming (t : Scalar) (v0 : Environment) (all : List Object) (v : Environment) (rest : List Object) : Type 0 where
   pub inner : v.visible.inner ≡ []
   pub names : record v { visible = file_level (with_objects t rest (file_of v.visible)).bindings } ≡ record v0 { visible = file_level (with_objects t all (file_of v0.visible)).bindings }
@@ -129,7 +129,7 @@ in-file v e i = record { visible = record { inner = e i; outer = v.visible.outer
 
 -- ---- functions
 
--- after some parameters
+-- the state after some parameters
 pub record Declaring (v0 : Environment) (all : List Parameter) (v : Environment) (rest : List Parameter) : Type 0 where
   pub names : record v { visible = parameters_declared rest v.visible; locals = parameter_names rest v.locals } ≡ record v0 { visible = parameters_declared all v0.visible; locals = parameter_names all v0.locals }
 

@@ -1,4 +1,4 @@
--- What names refer to: the number of a name's first place in a list, and of the newest local of a name.
+-- What names refer to: the number of a name's first place in a list, and the number of the newest local with a name.
 use Rattle.std.proofs.Common.{◌≡◌, ℕ, suc, ◌+◌, ◌<◌, Bool, true, false, cond, List, [], ◌∷◌, ◌++◌, length, Option, Some, None, is_some, option_map, Result, Ok, Err, OnOk, is_err, refl, sym, ap, ◌∙◌, Bor, get_or, nat_eq, arith}
 use Rattle.std.proofs.lemmas.List.{map-append}
 use Rattle.std.specs.Cmp.Lexicographic.{bytes_decides}

@@ -49,7 +49,7 @@ layout_of externals = record { objects = laid_from 0 (objects externals); functi
 abbrev pub callee : Layout → List ℕ → Callee
 callee p x = if same_name (codes "write_word") x then WriteWord else (if same_name (codes "read_word") x then ReadWord else Defined (names_before p.functions x))
 
--- the initial words of some objects
+-- the initial words of these objects
 abbrev pub all_words : List Object → List ℕ
 all_words [] = []
 all_words (o ∷ rest) = initial_words o ++ all_words rest

@@ -8,7 +8,7 @@ pub mod Operations
 pub mod Numberings
 -- definitions that only private contracts and proofs use
 pub mod internal
--- Modules of the crates below that clauses here use, passed on.
+-- Modules of the crates below that clauses here use, re-exported.
 pub use Rattle.cc_ast.specs.Tree
 pub use Rattle.cc_ast.specs.declared.ast
 pub use Rattle.cc_ast.specs.scalar

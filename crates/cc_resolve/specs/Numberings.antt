@@ -19,7 +19,7 @@ pub record ArePlaces (list : List (Bor (List ℕ))) (names : List (List ℕ × �
   pub found : (x : List ℕ) → at_number table (number_of_name names x) ≡ first_of (names_in list) x
   pub rest : (n : ℕ) → length names ≤ n → table n ≡ None
 
--- objects made of their names and of where their words are
+-- objects, given their names and where their words are
 abbrev pub laid_objects : List (List ℕ) → List Extent → List LaidObject
 laid_objects (x ∷ names) (e ∷ extents) = record { name = x; extent = e } ∷ laid_objects names extents
 laid_objects names extents = []

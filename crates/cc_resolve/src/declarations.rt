@@ -8,7 +8,7 @@ use super::environment::Environment;
 use cc_ast::{Beginning, Declarator, Scalar, Statement};
 use std::alloc::AllocError;
 
-/// Brings the names of a declaration into scope. `AllocError` if memory runs out; nothing is known of the environment then.
+/// Brings the names of a declaration into scope. `AllocError` if memory runs out; nothing is then known about the environment.
 pub fn declare_locals<'a>(
     names: &mut Environment<'a>,
     scalar: Scalar,
@@ -22,8 +22,8 @@ pub fn declare_locals<'a>(
     Ok(())
 }
 
-/// Brings the names of the first part of a `for` header into scope. `AllocError` if memory runs out; nothing is known of the
-/// environment then.
+/// Brings the names of the first part of a `for` header into scope. `AllocError` if memory runs out; nothing is then known about
+/// the environment.
 pub fn declare_beginning<'a>(
     names: &mut Environment<'a>,
     tree: &'a Beginning,
@@ -38,8 +38,8 @@ pub fn declare_beginning<'a>(
     }
 }
 
-/// Brings the names that a statement declares into the scope around it. `AllocError` if memory runs out; nothing is known of the
-/// environment then.
+/// Brings the names that a statement declares into the scope around it. `AllocError` if memory runs out; nothing is then known
+/// about the environment.
 pub fn declare_statement<'a>(
     names: &mut Environment<'a>,
     tree: &'a Statement,

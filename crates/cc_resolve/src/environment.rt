@@ -175,7 +175,7 @@ impl<'a> Environment<'a> {
         }
     }
 
-    /// Where the words of the named object are. A name that no object has gets no words, at offset 0. A local of the same name
+    /// Where the words of the named object are. A name that no object has gets no words, at offset 0. A local with the same name
     /// does not hide the object.
     pub fn object(&self, name: &[u8]) -> Extent
         ensures { result ≡ extent_of self.now.layout.objects name.now }

@@ -1,6 +1,6 @@
 //! Which local, object or function a name refers to, where the objects' words are, and in which type an operator works.
 //!
-//! - `layout`, on `places`: what the names of file scope refer to.
+//! - `layout`, which uses `places`: what the names of file scope refer to.
 //! - `units` and `objects`: the layout of a unit.
 //! - `environment`: what surrounds a statement; `declarations`, `objects` and `units` bring names into it.
 //! - `operations`: the operation on words that an operator performs.

@@ -1,4 +1,4 @@
-// Operators as operations on words, by the type in which they work.
+// Operators as operations on words, depending on the type in which they work.
 
 ghost use Rattle.std.specs.Prelude.{◌≡◌};
 ghost use Rattle.cc_resolve.specs.Operations.{by_type, operation, unary_operation};

@@ -36,8 +36,8 @@ fn declare_parameters<'a>(
     Ok(())
 }
 
-/// Brings the name of a function into file scope, if it is new. `AllocError` if memory runs out; nothing is known of the
-/// environment then.
+/// Brings the name of a function into file scope, if it is new. `AllocError` if memory runs out; nothing is then known about the
+/// environment.
 pub fn declare_function<'a>(
     names: &mut Environment<'a>,
     tree: &'a Signature,
@@ -49,7 +49,7 @@ pub fn declare_function<'a>(
 }
 
 /// Enters a function's body from file scope: the function's name is in scope, and its parameters are the first locals.
-/// `AllocError` if memory runs out; nothing is known of the environment then.
+/// `AllocError` if memory runs out; nothing is then known about the environment.
 pub fn enter_function<'a>(
     names: &mut Environment<'a>,
     tree: &'a Signature,
@@ -99,7 +99,7 @@ fn add_external<'a>(
 }
 
 /// Returns what the names of a unit refer to, and appends the initial words of its objects to an empty list. `AllocError` if
-/// memory runs out; nothing is known of the list then.
+/// memory runs out; nothing is then known about the list.
 pub fn lay_out<'a>(
     alloc: Global,
     words: &mut Vec<u32>,

@@ -1,4 +1,4 @@
--- Each generated call has as many arguments as its function has parameters, because each call of the body has.
+-- Each generated call has as many arguments as its function has parameters, because each call in the body has.
 use Rattle.std.proofs.Common.{◌≡◌, ℕ, zero, suc, List, [], ◌∷◌, ◌++◌, length, set, refl, sym, ap, ◌∙◌, subst, Option, Some, None}
 use Rattle.cc_ast.specs.Tree.{External}
 use Rattle.cc_cminor.specs.Cminor.{Expression, Constant, Local, Unary, Binary, Load, Statement, Skip, Set, Store, Call, Read, Write, Sequence, If, Loop, Block, Exit, Return}

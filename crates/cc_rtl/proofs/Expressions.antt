@@ -12,7 +12,7 @@ use Rattle.cc_rtl_language.specs.Rtl.{Registers, Configuration, at, put, node_mo
 use Rattle.cc_rtl_language.specs.internal.Moves.{Graph, graph_move}
 use Rattle.cc_rtl.specs.internal.Translates.{Held, Into, Operand, Operands}
 
--- what is put into a register is there, and no other register is written
+-- a choice depends only on the value of its test
 cond_by : {X : Type 0} (b c : Bool) (x y : X) → b ≡ c → cond b x y ≡ cond c x y
 cond_by b c x y e = ap (λ z. cond z x y) e
 
@@ -59,7 +59,7 @@ module _ (nodes : Graph) (count : ℕ) where
   pub no_way : (c : Configuration) → Way c 0 c
   no_way c = (refl, refl)
 
-  -- a node after which the run continues
+  -- a node whose move leads to d is a way of one move
   pub node_goes : (l : ℕ) (r : Registers) (h : World) (n : rtl.Node) (d : Configuration) → nodes l ≡ Some n → node_move n r h ≡ Goes d → Way (at l r h) 1 d
   node_goes l r h n d e go = (d, ap (λ x. tried x (λ node. node_move node r h)) e ∙ go, (refl, refl))
 
@@ -90,7 +90,7 @@ module _ (nodes : Graph) (count : ℕ) where
     some_is : (v w : ℕ) → Some v ≡ Some w → v ≡ w
     some_is v w e = cc
 
-    -- an operand, given what puts it into its register
+    -- if an expression's nodes put its value into a register, so do an operand's
     held : (e : Expression) → Runs e → (free register free' entry exit : ℕ) (r : Registers) (v : ℕ) → Held nodes count e (Into nodes count e) free register free' entry exit → count ≤ free → Holds l r → value e l h ≡ Some v → Holding (cost e) free register entry exit r v
     held e runs free register free' entry exit r v (le, lt, inl (is, low, same)) above holds eq = record {
       moves = 0;

@@ -36,7 +36,7 @@ leads [] k d = tt
 leads (x ∷ exits) zero d = refl
 leads (x ∷ exits) (suc k) d = leads exits k d
 
--- what was there is still there, few nodes are new, and the claim holds of the nodes and the entry
+-- what was there is still there, at most `most` nodes are new, and the claim holds of the nodes and the entry
 pub record Right (g : Places) (m : Made) (most : ℕ) (Claim : Graph → ℕ → Type 0) : Type 0 where
   pub rest : Places
   pub prefix : m.places ≡ g ++ rest

@@ -62,7 +62,7 @@ pushed_filled [] x (suc l) h e = absurd (omega arith)
 pushed_filled (y ∷ g) x zero h e = (omega arith, e)
 pushed_filled (y ∷ g) x (suc l) h e = let r = pushed_filled g x l (omega arith) e in let lt = r.0 in (omega arith, r.1)
 
--- one more place without a node is the only one
+-- when a place without a node is added, any other place without one was there before
 open_filled : (g : Places) (l : ℕ) → l ≢ length g → l < length (g ++ (None ∷ [])) → place_at (g ++ (None ∷ [])) l ≡ None → (l < length g) × (place_at g l ≡ None)
 open_filled [] zero n h e = absurd (n refl)
 open_filled [] (suc l) n h e = absurd (omega arith)

@@ -1,5 +1,5 @@
 -- What the type of a function requires of the generated graph: it has the counted number of nodes, labels ascend, it begins with
--- a nop, each node leads to nodes and none to the entry.
+-- a nop, each node leads to nodes, and none leads to the entry.
 use Rattle.std.proofs.Common.{◌≡◌, ◌≢◌, ℕ, zero, suc, ◌-◌, ◌<◌, ◌≤◌, List, [], ◌∷◌, length, map, Contains, IsSome, refl, sym, ap, ◌∙◌, subst, arith, Some}
 use Rattle.std.specs.Prelude.{is_some}
 use Rattle.cc_cminor.specs.Cminor.{Statement}

@@ -5,7 +5,7 @@ use Rattle.std.proofs.lemmas.Bool.Decides.{nat_tests}
 use Rattle.cc_rtl_language.specs.Rtl as rtl
 use Rattle.cc_rtl.specs.internal.Generate.{Places, place_at, renamed, labelled_from, nodes_back}
 
--- a node among some, by its place
+-- the node at this position of a list
 abbrev nth : List rtl.Node → ℕ → Option rtl.Node
 nth [] i = None
 nth (n ∷ ns) zero = Some n

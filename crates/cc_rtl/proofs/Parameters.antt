@@ -6,8 +6,8 @@ use Rattle.cc_ast.specs.Tree.{Name, Stmts, Parameter, Signature, External, Decla
 use Rattle.cc_types.specs.Limits.{too_many, most_parameters, parameter_excesses, external_excesses, externals_excesses, function_names}
 use Rattle.cc_types.specs.Typed.{IsTyped, IsWithinLimits, definitions, defined_names}
 use Rattle.cc_types.specs.declared.rule.RuleError.{RuleError}
-use Rattle.cc_c_laws.specs.Meaning.{Function, functions, text_of}
-use Rattle.cc_c_laws.specs.Resolved.{arities, IsResolved, FunctionsAreResolved}
+use Rattle.cc_c_semantics.specs.Meaning.{Function, functions, text_of}
+use Rattle.cc_c_semantics.specs.Resolved.{arities, IsResolved, FunctionsAreResolved}
 use Rattle.cc_ast.specs.Erase.{parameter_tree, signature_tree, statements_of}
 use Rattle.cc_ast.specs.Source.{source}
 use Rattle.cc_ast.specs.declared.unit.Unit as parsed
@@ -68,7 +68,7 @@ same_parameters unit f s body is e =
     slice_get-map (λ (g : Function). length g.parameters) (functions unit) f ∙ ap (option_map (λ (g : Function). length g.parameters)) is.function
     ∙ ap Some (map_length (λ (p : Parameter). text_of p.name) is.signature.parameters ∙ ap (λ (k : Signature). length k.parameters) w)
 
--- ---- of the definition that the code takes
+-- ---- the parameters of the definition that the code takes
 
 module _ (law : FunctionsAreResolved) (p u : parsed.Unit) (f k : ℕ) (unit_is : u ≡ p) (function_is : k ≡ f) (typed : IsTyped (source u).externals) (below : f < length (functions (source p).externals)) where
   resolved : IsResolved (source p).externals f

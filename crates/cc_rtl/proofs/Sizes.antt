@@ -12,7 +12,7 @@ use Rattle.cc_cminor.specs.Variables.{above, above_result, above_expression, abo
 use Rattle.cc_rtl.specs.internal.Generate.{Uses, AllUse, IsFormed}
 use Rattle.std.proofs.lemmas.Bool.Decides.{nat_tests}
 
--- a sequence is what its list says
+-- the statements of a sequence are those of its list
 in_row : (n : _) (row : Row_of-Statement n) → statements_in row ≡ statements_of (items-the_row-Statement n row)
 in_row n end_of-Statement = refl
 in_row n (more_of-Statement s rest) = ap (λ ss. statement_of s ∷ ss) (in_row _ rest)

@@ -92,7 +92,7 @@ module _ (nodes : Graph) (count : ℕ) where
       related = rel;
     }
 
-    -- one node alone
+    -- a single node
     one_on : (label exit : ℕ) (r r2 : Registers) (h h' : World) (node : rtl.Node) (c : Config) → nodes label ≡ Some node → node_move node r h ≡ Goes (at exit r2 h') → Rel c (at exit r2 h') → Moves_on c (at label r h)
     one_on label exit r r2 h h' node c stands go rel = record {
       moves = 1;

@@ -1,4 +1,4 @@
--- From a function's entry: what Cminor's run guarantees about the source's meaning, RTL's run guarantees at a slower rate.
+-- From a function's entry: what Cminor's run guarantees about the source's meaning, RTL's run guarantees at a larger rate.
 use Rattle.std.proofs.Common.{◌≡◌, ℕ, suc, ◌*◌, ◌≤◌, List, [], refl, sym, ap, ◌∙◌, subst, arith, get_or}
 use Rattle.std.proofs.Math.Nat.{mul-le-mul_left}
 use Rattle.cc_simulation.specs.Behavior.{Outcome}
@@ -40,7 +40,7 @@ tracks_behind meaning f rate {C} move output start before goes tracks d below ws
     )
 
 module _ (nodes : Graph) (count : ℕ) (body : Statement) (entry : ℕ) (is : IsCodeOf nodes count body entry) where
-  -- the rate grows by this, plus one
+  -- how much coarser the rate becomes
   abbrev most : ℕ
   most = suc (size body)
 

@@ -1,7 +1,7 @@
 // The nodes of a function's code.
 //
 // Nodes are made from the end of the code to its beginning, so that the label to continue at is known when a node is made. Then
-// they get new labels, which ascend along the code.
+// they get new labels, which ascend in the code's order.
 
 mod expressions;
 mod graph;

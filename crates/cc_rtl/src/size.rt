@@ -1,4 +1,4 @@
-// How many nodes a body takes. They are counted before any node is made: a body that takes too many is refused, and no other.
+// How many nodes a body takes. They are counted before any node is made: a body is refused exactly if it takes too many.
 
 ghost use Rattle.std.specs.Prelude.{◌≡◌, ◌+◌, ◌<◌, ◌≤◌, IsTrue, IsFalse, MatchOption};
 ghost use Rattle.cc_cminor.specs.Code.{expression_of, expressions_of, statement_of, in_sequence};
@@ -103,7 +103,7 @@ fn room_behind_statements(all: &[Statement], room: u32) -> Option<u32>
     Some(left)
 }
 
-// The most nodes of a body. Every function has three more: the entry's, and the constant and the return after the body.
+// A body has at most this many nodes. Every function has three more: the entry's, and the constant and the return after the body.
 const MOST_IN_BODY: u32 = 4093;
 
 /// Whether the function with this body has at most 4,096 nodes.

@@ -1,18 +1,17 @@
 // From Cminor to RTL.
 
 ghost use Rattle.std.specs.Prelude.{◌≡◌, ◌≤◌, ◌<◌, length, Some, slice_get, IfOk, IfErr};
-ghost use Rattle.cc_c_laws.specs.Resolved.{arities};
+ghost use Rattle.cc_c_semantics.specs.Resolved.{arities};
 ghost use Rattle.cc_cminor.specs.Pair.{tree_of as cminor_tree, code_of};
 ghost use Rattle.cc_cminor.specs.Size.{statement_size};
+ghost use Rattle.cc_cminor.specs.declared.fault.CodeFault.TheVariants.{FunctionTooLarge};
 ghost use Rattle.cc_rtl_language.specs.Rtl.{most_nodes};
 ghost use Rattle.cc_rtl.specs.Size.{function_nodes};
-ghost use Rattle.cc_rtl.specs.declared.fault.RtlFault.TheVariants.{FunctionTooLarge};
 
-use crate::fault::RtlFault;
 use crate::generate::generate;
 use crate::size::fits;
-use cc_c_laws::functions_are_resolved;
-use cc_cminor::{CminorPair, variables_above};
+use cc_c_semantics::functions_are_resolved;
+use cc_cminor::{CminorPair, CodeFault as RtlFault, variables_above};
 use cc_rtl_language::{Rtl, RtlPair};
 use cc_types::TypedUnit;
 use std::alloc::Global;
@@ -31,7 +30,7 @@ fn parameters_of(pair: &CminorPair) -> u32
 }
 
 /// Translates a function to RTL. The value of an expression is put directly into the variable that is set, and a condition's
-/// comparison comes directly before its branch; labels ascend along the code.
+/// comparison comes directly before its branch; labels ascend in the code's order.
 ///
 /// Fails with `FunctionTooLarge` (22) exactly if the function would have more than 4,096 nodes, which takes more than 3,072
 /// statements and expressions; and with `OutOfMemory` (40) if memory runs out. An error drops the pair.

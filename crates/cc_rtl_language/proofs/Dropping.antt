@@ -11,7 +11,7 @@ use Rattle.cc_simulation.specs.internal.Simulation.{Advances, Asks, Ending, Simu
 use Rattle.cc_simulation.proofs.Simulating.{coarser, tracks_on}
 use Rattle.cc_rtl_language.specs.Rtl.{Rtl, Node, Nop, Const, Move, Unary, Binary, Load, Store, Call, Read, Write, Branch, Return, Registers, Configuration, at, put, answered, branched, node_at, node_move, rtl_move, rtl_output, rtl_start, successors}
 use Rattle.cc_rtl_language.specs.Live.{Sets, in_some, result, Carries, is_dead, is_nop, as_nop, with_nops, MayBecomeNops, MayGo, among, without}
-use Rattle.cc_c_laws.specs.declared.mode.Mode.{Mode}
+use Rattle.cc_c_semantics.specs.declared.mode.Mode.{Mode}
 use Rattle.cc_rtl_language.specs.Pair.{Pair, tree_of, IsCallOf, KeepsUp, IsPair}
 use Rattle.cc_rtl_language.proofs.Nops.{Which, turned, these, node_turned, turned_from, is_rtl}
 
@@ -59,7 +59,7 @@ module _ (live : Sets) where
     some_other : (to x : ℕ) → to ≢ x → Some to ≢ Some x
     some_other to x d e = d (let z : Some to ≡ Some x = e in cc)
 
-    -- a node with a result, which may have no value
+    -- a node with a result, which can lack a value
     tried_both : (o o' : Option ℕ) (to next : ℕ) → o' ≡ o → ((x : ℕ) → IsTrue (live next x) → to ≢ x → r' x ≡ r x)
         → Matches (tried o (λ word. Goes (at next (put to word r) h))) (tried o' (λ word. Goes (at next (put to word r') h)))
     tried_both o o' to next same others = subst (λ p. Matches (tried o (λ word. Goes (at next (put to word r) h))) (tried p (λ word. Goes (at next (put to word r') h)))) (sym same) (go o)

@@ -41,7 +41,7 @@ none_turned which (m ∷ ns) l e = go (m.label == l) e (none_turned which ns l)
     go true f rest = absurd cc
     go false f rest = rest f
 
--- and back
+-- the node at a label now was turned, or not, from the one that was there
 pub turned_from : (which : Which) (ns : List Labelled) (l : ℕ) (n : Node) → node_at (with_nops which ns) l ≡ Some n → (m : Node) × (node_at ns l ≡ Some m) × (n ≡ turned (which l m) m)
 turned_from which ns l n e = go (node_at ns l) refl
   where
@@ -154,7 +154,7 @@ pub none_yet : (ns : List Labelled) → with_nops (these []) ns ≡ ns
 none_yet [] = refl
 none_yet (n ∷ ns) = ap (λ rest. n ∷ rest) (none_yet ns)
 
--- no label from here on is this one
+-- if the first of the ascending labels is above this one, nothing is turned
 none_behind : (l : ℕ) (ns : List Labelled) → IsBelowFirst l ns → Ascend ns → with_nops (this l) ns ≡ ns
 none_behind l [] below ascend = refl
 none_behind l (n ∷ ns) below ascend =
@@ -198,7 +198,7 @@ turn_one (e ∷ es) l x ascend h =
           ∙ ap (λ b. record { label = e.label; node = turned b (node_of e.item) } ∷ with_nops (this l) (labelled_of es)) (sym u)
     ] refl h
 
--- a label whose node is the same as a nop
+-- if the node at a label is its own nop, turning it changes nothing
 pub turn_none : (ns : List Labelled) (l : ℕ) → Ascend ns → option_map as_nop (node_at ns l) ≡ node_at ns l → with_nops (this l) ns ≡ ns
 turn_none [] l ascend h = refl
 turn_none (n ∷ ns) l ascend h =

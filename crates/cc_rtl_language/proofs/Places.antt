@@ -172,7 +172,7 @@ two_edges old new more at p q h e f =
     let row : get_or new at [] ≡ get_or old at [] ++ p ∷ [] = ap (λ g. get_or g at []) e ∙ get_or-set_same old at (get_or old at [] ++ p ∷ []) [] h in
     f ∙ (ap (λ r. set new at (r ++ q ∷ [])) row ∙ (ap (λ g. set g at ((get_or old at [] ++ p ∷ []) ++ q ∷ [])) e ∙ (set-set old at (get_or old at [] ++ p ∷ []) ((get_or old at [] ++ p ∷ []) ++ q ∷ []) ∙ ap (set old at) (append_assoc (get_or old at []) (p ∷ []) (q ∷ [])))))
 
--- the first i rows are those of another graph, the rest are empty
+-- the first i rows are those of the graph `whole`, and the rest are empty
 pub record Rows (whole rows : List (List ℕ)) (i : ℕ) : Type 0 where
   pub long : length rows ≡ length whole
   pub done : (k : ℕ) → k < i → get_or rows k [] ≡ get_or whole k []

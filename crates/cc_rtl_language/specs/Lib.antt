@@ -10,7 +10,7 @@ pub mod Code
 pub mod Pair
 -- Definitions for the proofs.
 pub mod internal
--- Modules of the crates below that clauses here use, passed on.
-pub use Rattle.cc_c_laws.specs.Meaning
-pub use Rattle.cc_c_laws.specs.Numbered
-pub use Rattle.cc_c_laws.specs.Resolved
+-- Modules of the crates below that clauses here use, re-exported.
+pub use Rattle.cc_c_semantics.specs.Meaning
+pub use Rattle.cc_c_semantics.specs.Numbered
+pub use Rattle.cc_c_semantics.specs.Resolved

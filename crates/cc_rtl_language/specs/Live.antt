@@ -5,7 +5,7 @@ use Rattle.cc_rtl_language.specs.Rtl.{Rtl, Labelled, Node, Nop, Const, Move, Una
 
 -- ---- what a node reads and what it sets
 
--- the registers that it reads
+-- the registers that a node reads
 abbrev pub reads : Node → List ℕ
 reads (Nop next) = []
 reads (Const to word next) = []
@@ -29,7 +29,7 @@ pure_result (Binary operator to left right next) = Some to
 pure_result (Load width object to index next) = Some to
 pure_result node = None
 
--- the register that gets its result
+-- the register that gets a node's result
 abbrev pub result : Node → Option ℕ
 result (Call function arguments to next) = to
 result (Read to next) = Some to
@@ -41,7 +41,7 @@ result node = pure_result node
 abbrev pub Sets : Type 0
 Sets = (label register : ℕ) → Bool
 
--- whether a successor's set has it
+-- whether the set of one of these labels has the register
 abbrev pub in_some : Sets → (labels : List ℕ) → (register : ℕ) → Bool
 in_some live [] r = false
 in_some live (s ∷ ss) r = live s r || in_some live ss r
@@ -54,7 +54,7 @@ pub record Carries (live : Sets) (node : Node) (own : ℕ → Bool) : Type 0 whe
   pub needed : (r : ℕ) → Contains (reads node) r → IsTrue (own r)
   pub inherited : (r : ℕ) → IsTrue (live_behind live node r) → result node ≢ Some r → IsTrue (own r)
 
--- this holds of every node
+-- this holds of each node and the set for its label
 abbrev pub AreLive : List Labelled → Sets → Type 0
 AreLive nodes live = (label : ℕ) (node : Node) → node_at nodes label ≡ Some node → Carries live node (live label)
 
@@ -82,7 +82,7 @@ abbrev pub is_nop : Node → Bool
 is_nop (Nop next) = true
 is_nop node = false
 
--- some of the nodes turned into nops
+-- the nodes that `which` selects, turned into nops
 abbrev pub with_nops : (which : (label : ℕ) → Node → Bool) → List Labelled → List Labelled
 with_nops which [] = []
 with_nops which (n ∷ ns) = record { label = n.label; node = if which n.label n.node then as_nop n.node else n.node } ∷ with_nops which ns
@@ -95,7 +95,7 @@ pub record MayBecomeNops (nodes : List Labelled) (which : (label : ℕ) → Node
   pub are_live : AreLive (with_nops which nodes) live
   pub dead : (label : ℕ) (node : Node) → node_at nodes label ≡ Some node → IsTrue (which label node) → IsTrue (is_nop node || is_dead live node)
 
--- whether a label is among some
+-- whether a label is in a list
 abbrev pub among : List ℕ → (label : ℕ) → Bool
 among [] label = false
 among (l ∷ ls) label = l == label || among ls label

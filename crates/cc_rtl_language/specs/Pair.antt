@@ -4,10 +4,10 @@ use Rattle.cc_ast.specs.Tree.{External}
 use Rattle.cc_ast.specs.Source.{source}
 use Rattle.cc_ast.specs.declared.unit.Unit as parsed
 use Rattle.cc_types.specs.Typed.{IsTyped}
-use Rattle.cc_c_laws.specs.Meaning.{functions}
-use Rattle.cc_c_laws.specs.Resolved.{arities}
-use Rattle.cc_c_laws.specs.Numbered.{IsMeaning}
-use Rattle.cc_c_laws.specs.declared.mode.Mode.{Mode}
+use Rattle.cc_c_semantics.specs.Meaning.{functions}
+use Rattle.cc_c_semantics.specs.Resolved.{arities}
+use Rattle.cc_c_semantics.specs.Numbered.{IsMeaning}
+use Rattle.cc_c_semantics.specs.declared.mode.Mode.{Mode}
 use Rattle.cc_simulation.specs.Behavior.{Follows}
 use Rattle.cc_simulation.specs.World.{World}
 use Rattle.cc_simulation.specs.Run.{run}
@@ -26,7 +26,7 @@ pub record Pair : Type 0 where
 abbrev pub tree_of : Pair → List External
 tree_of p = (source p.unit).externals
 
--- a call is of a function of the unit, with as many arguments as that has parameters
+-- a call is that of a function of the unit, with as many arguments as this function has parameters
 abbrev pub IsCallOf : List External → Node → Type 0
 IsCallOf unit (Nop next) = Unit {0}
 IsCallOf unit (Const to word next) = Unit {0}
@@ -41,7 +41,7 @@ IsCallOf unit (Write from next) = Unit {0}
 IsCallOf unit (Branch from first second) = Unit {0}
 IsCallOf unit (Return from) = Unit {0}
 
--- this holds of each call among the nodes
+-- each call among the nodes is such a call
 abbrev pub AreCalls : List External → Rtl → Type 0
 AreCalls unit rtl = (label : ℕ) (node : Node) → node_at rtl.nodes label ≡ Some node → IsCallOf unit node
 

@@ -58,7 +58,7 @@ successors (Write from next) = next ∷ []
 successors (Branch from if_nonzero if_zero) = if_nonzero ∷ if_zero ∷ []
 successors (Return from) = []
 
--- the most nodes of a function
+-- the largest number of nodes that a function may have
 abbrev pub most_nodes : ℕ
 most_nodes = 4096
 
@@ -85,7 +85,7 @@ pub record IsRtl (rtl : Rtl) : Type 0 where
 abbrev pub Registers : Type 0
 Registers = ℕ → ℕ
 
--- the state of a run: the label of the next node, the words of the registers, what the functions share
+-- the state of a run: the label of the next node, the words of the registers, and what the functions share
 pub record Configuration : Type 0 where
   pub label : ℕ
   pub registers : Registers
@@ -103,7 +103,7 @@ abbrev pub put_result : (to : Option ℕ) → (word : ℕ) → Registers → Reg
 put_result None word r = r
 put_result (Some to) word r = put to word r
 
--- after a call's answer
+-- the state after a call's answer
 abbrev pub answered : (to : Option ℕ) → (next : ℕ) → Registers → Answer → Configuration
 answered to next r a = at next (put_result to a.value r) a.world
 
@@ -126,7 +126,7 @@ node_move (Write from next) r h = Goes (at next r (after_write (r from) h))
 node_move (Branch from if_nonzero if_zero) r h = Goes (at (branched (r from) if_nonzero if_zero) r h)
 node_move (Return from) r h = Returns (record { value = r from; world = h })
 
--- without a node at its label the run goes wrong
+-- the move at a label; if no node is there, the run goes wrong
 abbrev pub rtl_move : Rtl → Configuration → Moving Configuration
 rtl_move rtl c = tried (node_at rtl.nodes c.label) (λ node. node_move node c.registers c.world)
 

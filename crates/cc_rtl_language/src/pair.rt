@@ -2,14 +2,14 @@
 
 ghost use Rattle.std.specs.Prelude.{◌≡◌, ◌<◌, [], ◌∷◌, length, All, IsSome};
 ghost use Rattle.std.specs.Arc.{arc_value};
-ghost use Rattle.cc_c_laws.specs.Meaning.{functions};
+ghost use Rattle.cc_c_semantics.specs.Meaning.{functions};
 ghost use Rattle.cc_types.specs.Typed.{IsTyped};
 ghost use Rattle.cc_rtl_language.specs.Rtl.{IsRtl, node_at};
 ghost use Rattle.cc_rtl_language.specs.Live.{without, MayGo};
 ghost use Rattle.cc_rtl_language.specs.Pair.{Pair, tree_of, AreCalls, HasParameters, KeepsUp, FollowsFunction, IsPair};
 
 use crate::rtl::Rtl;
-use cc_c_laws::Mode;
+use cc_c_semantics::Mode;
 use cc_types::TypedUnit;
 use std::marker::Model;
 use std::sync::Arc;
@@ -39,7 +39,7 @@ impl Model for RtlPair {
     ghost use Rattle.std.specs.Arc.{arc_value};
     ghost use Rattle.std.specs.Coded.{codes};
     ghost use Rattle.cc_ast.specs.contracts.unit.Unit as parsed;
-    ghost use Rattle.cc_c_laws.specs.contracts.mode.Mode as modes;
+    ghost use Rattle.cc_c_semantics.specs.contracts.mode.Mode as modes;
     ghost use Rattle.cc_rtl_language.specs.Pair.{Pair, IsPair};
 
     ghost Value = { Pair };
@@ -65,7 +65,7 @@ impl RtlPair {
         }
     }
 
-    /// What the code owes if the function goes wrong.
+    /// The mode, which says what the code owes if the function goes wrong.
     pub fn mode(&self) -> Mode
         ensures answer { result ≡ self.now.mode }
     {
@@ -112,7 +112,7 @@ impl RtlPair {
         self.code.make_nops(labels);
     }
 
-    /// Turns the node with one label into a nop, under the same condition.
+    /// Turns the node with one label into a nop, under the condition of `make_nops`.
     pub fn make_nop(&mut self, label: u32)
         requires there { IsSome (node_at self.old.rtl.nodes label) }
         requires dead { MayGo (label ∷ []) self.old.rtl }

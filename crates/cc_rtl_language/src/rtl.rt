@@ -64,21 +64,21 @@ impl Rtl {
         }
     }
 
-    /// How many parameters it has.
+    /// How many parameters the function has.
     pub fn parameters(&self) -> u32
         ensures { result ≡ self.now.parameters }
     {
         self.parameters
     }
 
-    /// The label of the node that it begins with.
+    /// The label of the node that the function begins with.
     pub fn entry(&self) -> u32
         ensures { result ≡ self.now.entry }
     {
         self.entry
     }
 
-    /// How many nodes it has.
+    /// How many nodes the function has.
     pub fn len(&self) -> usize
         ensures count { result ≡ length self.now.nodes }
         ensures few { result ≤ most_nodes }
@@ -127,7 +127,7 @@ impl Rtl {
         graph_of_nodes(alloc, self)
     }
 
-    // Turns the nodes with these labels into nops, as far as they are pure. Takes no memory.
+    // Turns those of the nodes with these labels that are pure into nops. Takes no memory.
     pub(crate) fn make_nops(&mut self, labels: &[u32])
         requires { All (λ l. IsSome (node_at self.old.nodes l)) labels.now }
         ensures { self.new ≡ without labels.now self.old }

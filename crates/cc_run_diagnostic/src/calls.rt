@@ -1,14 +1,14 @@
-// The messages of the calls that are open.
+// The messages for the calls that are open.
 
 use cc_diagnostic::{Diagnostic, MessagePart, message};
 use cc_tokens::Scalar;
 use cc_trace::{OpenCall, Replay};
 use std::alloc::{AllocError, Global};
 
-/// How many open calls are shown.
+/// At most this many open calls are shown.
 const MOST_CALLS: usize = 8;
 
-// The message of a call, for example `note: gcd(12, 18) is called here`.
+// The message for a call, for example `note: gcd(12, 18) is called here`.
 fn message_of(alloc: Global, call: OpenCall<'_>) -> Result<String, AllocError> {
     let mut parts = Vec::new(alloc);
     parts.push(MessagePart::Words("note: "))?;
@@ -24,7 +24,7 @@ fn message_of(alloc: Global, call: OpenCall<'_>) -> Result<String, AllocError> {
     message(alloc, parts.as_slice())
 }
 
-// The message of a call, with its place.
+// The message for a call, with its place.
 fn told(alloc: Global, call: OpenCall<'_>) -> Result<Diagnostic, AllocError> {
     Ok(Diagnostic {
         at: Some(call.at),
@@ -33,7 +33,7 @@ fn told(alloc: Global, call: OpenCall<'_>) -> Result<Diagnostic, AllocError> {
     })
 }
 
-/// The messages of the calls that are open in a run, the innermost first; only the first ones if they are many.
+/// The messages for the calls that are open in a run, the innermost first; only the first few if there are many.
 pub(crate) fn of_calls(alloc: Global, replay: &Replay<'_>) -> Result<Vec<Diagnostic>, AllocError> {
     let mut calls = Vec::new(alloc);
     for number in 0..MOST_CALLS {

@@ -1,10 +1,10 @@
-//! What a person is told of a run that went wrong: where, with which values and in which function.
+//! What to report about a run that went wrong: where it went wrong, with which values and in which function.
 //!
-//! `wrong` says it, for a text and the cause that `interpret` answered: it runs the text's program once more by `cc_trace`, which keeps places
-//! and values. `calls` shows the calls that were open.
+//! `wrong` reports it, for a text and the cause that `interpret` answered: it repeats the run of the text's program with
+//! `cc_trace`, which keeps places and values. `calls` shows the calls that were open.
 //!
-//! The answer itself is that of `cc_meaning`: what is told here rests on the text, the input and the answer alone, and no promise rests
-//! on it. The call is safe, ends, and refuses nothing but for lack of memory.
+//! The answer itself is that of `cc_meaning`: the report depends only on the text, the input and the answer, and no promise
+//! depends on it. The call is safe and ends, and fails only for lack of memory.
 #![tactic(auto)]
 
 mod calls;

@@ -1,4 +1,4 @@
-// What is told of a run that went wrong.
+// Reports about a run that went wrong.
 
 use super::calls::of_calls;
 use cc_diagnostic::{Diagnostic, Element, MessagePart, TypedOperator, message};
@@ -83,7 +83,7 @@ fn of_depth<'a>(
     format!(in alloc; "this call of {name} would be the {past}th open call, in {function}")
 }
 
-// The message of what goes wrong in a function.
+// The message for what goes wrong in a function.
 fn message_of<'a>(
     alloc: Global,
     wrong: Wrong<'a>,
@@ -111,7 +111,7 @@ fn told(alloc: Global, trouble: Trouble<'_>) -> Result<Diagnostic, AllocError> {
     })
 }
 
-// A run: its input, how many steps it has, and why it is said to go wrong.
+// A run: its input, how many steps it has, and why it goes wrong, as reported.
 #[derive(Clone, Copy)]
 struct Run<'a> {
     input: &'a [u32],
@@ -119,14 +119,14 @@ struct Run<'a> {
     cause: Cause,
 }
 
-/// What is told of a run that went wrong: what did, and the calls that were open, the innermost first.
+/// The report about a run that went wrong: what went wrong, and the calls that were open, the innermost first.
 #[derive(Drop)]
 pub struct WrongRun {
     pub first: Diagnostic,
     pub calls: Vec<Diagnostic>,
 }
 
-// What is told of a replay that calls a function that no other calls, where it goes wrong for a cause.
+// Runs `main` in a replay. The result is the report, if the run goes wrong for this cause.
 fn of_replay(
     alloc: Global,
     replay: Replay<'_>,
@@ -144,7 +144,7 @@ fn of_replay(
     }
 }
 
-// What is told of a run of a unit that becomes this.
+// The report about a run of a unit whose code is `traced`.
 fn of_code(
     alloc: Global,
     unit: &Unit,
@@ -178,11 +178,11 @@ fn of_unit(alloc: Global, unit: &Unit, run: Run<'_>) -> Result<Option<WrongRun>,
     told
 }
 
-/// What is told of a text's run on the words of an input, within `steps` steps, that `interpret` answers to go wrong for a cause: the
-/// place, the values and the function, for example `index 3 is outside a[3], in main`. The run is done once more, to see them. Nothing
-/// where it does not go wrong for that cause.
+/// The report about a text's run on the words of an input, within `steps` steps, if `interpret` answers that it goes wrong for a
+/// cause: the place, the values and the function, for example `index 3 is outside a[3], in main`. The run is repeated to see
+/// them. There is no report if it does not go wrong for that cause.
 ///
-/// `AllocError` where memory for it runs out.
+/// `AllocError` if memory for it runs out.
 pub fn of_wrong(
     alloc: Global,
     text: &[u8],
@@ -199,7 +199,7 @@ pub fn of_wrong(
     }
 }
 
-/// The same, with the calls that were open.
+/// The same report, together with the calls that were open.
 pub fn of_wrong_run(
     alloc: Global,
     text: &[u8],

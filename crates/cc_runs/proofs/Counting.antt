@@ -1,5 +1,5 @@
--- A run within two numbers of instructions: if it is going within the larger one it is going within the smaller one, and what has ended
--- stays so.
+-- A run within two numbers of instructions: if it is going within the larger one, it is going within the smaller one, and once
+-- it has ended it stays ended.
 use Rattle.std.proofs.Common.{◌≡◌, ◌⊎◌, inl, inr, ℕ, ◌+◌, ◌-◌, ◌<◌, ◌≤◌, true, List, Option, Some, Result, Ok, Err, refl, sym, ap, subst, ◌∙◌, arith}
 use Rattle.std.specs.Prelude.{IfOk, IfSome, is_some}
 use Rattle.cc_rv32.specs.declared.image.Image.{Image}
@@ -21,11 +21,11 @@ either : (A : Type 0) → A ⊎ (A → ⊥) → ((A → ⊥) → A) → A
 either A (inl a) f = a
 either A (inr other) f = f other
 
--- at its start it is going
+-- at its start a run is going
 pub begins : (image : Image) (words : List ℕ) → (machine_behavior image words 0).outcome ≡ Going
 begins image words = ap (λ (r : Run). r.outcome) (machine_run-none image.code 0 (start image words) refl)
 
--- what has ended within fewer instructions is the same within more
+-- a run that has ended within n instructions is the same within more
 pub stays : (image : Image) (words : List ℕ) (n m : ℕ) → n ≤ m → ((machine_behavior image words n).outcome ≡ Going → ⊥) → machine_behavior image words m ≡ machine_behavior image words n
 stays image words n m le ended =
     let first : Run = start image words in
@@ -35,18 +35,18 @@ stays image words n m le ended =
     let still : machine_run image.code (m - n) then ≡ then = machine_run-ended image.code (m - n) then.state then.outcome ended in
     ap seen (ap (λ (k : ℕ). machine_run image.code k first) parts ∙ (on ∙ still))
 
--- what is going within more instructions is going within fewer
+-- a run that is going within m instructions is going within fewer
 pub goes_before : (image : Image) (words : List ℕ) (n m : ℕ) → n ≤ m → (machine_behavior image words m).outcome ≡ Going → (machine_behavior image words n).outcome ≡ Going
 goes_before image words n m le going =
     either ((machine_behavior image words n).outcome ≡ Going) (going_or_not (machine_behavior image words n).outcome)
     (λ other. sym (ap (λ (b : Behavior). b.outcome) (stays image words n m le other)) ∙ going)
 
--- a run that is going, with one more instruction
+-- a run that is going after `done` instructions is going within any number below one more
 pub goes_until : (image : Image) (words : List ℕ) (done : ℕ) → ((n : ℕ) → n < done → (machine_behavior image words n).outcome ≡ Going) → (machine_behavior image words done).outcome ≡ Going
     → (n : ℕ) → n < done + 1 → (machine_behavior image words n).outcome ≡ Going
 goes_until image words done before here n less = goes_before image words n done (omega arith) here
 
--- a count by which the run has ended, or that is the bound
+-- `done` is the count if the run has ended within it, or if it is the bound
 pub counted : (image : Image) (words : List ℕ) (steps done left : ℕ) → done + left ≡ steps → ((n : ℕ) → n < done → (machine_behavior image words n).outcome ≡ Going)
     → (left ≡ 0) ⊎ ((machine_behavior image words done).outcome ≡ Going → ⊥) → IsCount image steps words done
 counted image words steps done left parts before (inl none) =
@@ -77,7 +77,7 @@ whole image words steps done left m outcome parts count after told r output is =
       count = subst (λ (e : Option ℕ). IfSome e (IsCount image steps words)) (sym is.1) (subst (λ (n : ℕ). IsCount image steps words n) number count);
     }
 
--- a property of an answer that follows from two others
+-- a property of an answer follows from two others
 pub by_both : {A E : Type 0} (P Q R : A → Type 0) → ((a : A) → P a → Q a → R a) → (r : Result A E) → IfOk r P → IfOk r Q → IfOk r R
 by_both P Q R step (Ok a) p q = step a p q
 by_both P Q R step (Err e) p q = tt

@@ -1,4 +1,4 @@
--- A run that has ended stays so, and one that is going was going before.
+-- A run that has ended stays ended, and a run that is going was going before.
 pub mod Counting
 -- The words of a line, one after the other.
 pub mod Reading

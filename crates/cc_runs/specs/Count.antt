@@ -11,12 +11,12 @@ pub record IsCount (image : Image) (steps : ℕ) (words : List ℕ) (count : ℕ
   pub within : count ≤ steps
   -- within the count the run has the same output and result as within the bound
   pub comes : machine_behavior image words count ≡ machine_behavior image words steps
-  -- with fewer it is still going
+  -- with fewer instructions the run is still going
   pub going : (n : ℕ) → n < count → (machine_behavior image words n).outcome ≡ Going
-  -- for a run that does not end it is the bound
+  -- if the run does not end within the bound, the count is the bound
   pub bound : (machine_behavior image words steps).outcome ≡ Going → count ≡ steps
 
--- what an image does on the input words within the bound, and its count exactly if that is asked for
+-- what an image does on the input words within the bound, with a count exactly if it was asked for
 pub record IsCounted (image : Image) (counted : Bool) (steps : ℕ) (words : List ℕ) (done : CountedRun) : Type 0 where
   pub run : IsRunOf image steps words done.run
   pub asked : is_some done.executed ≡ counted

@@ -2,7 +2,7 @@
 use Rattle.std.specs.Prelude.{ℕ, List, [], ◌∷◌, map, Option, Some, None, option_map}
 use Rattle.cc_script.specs.Line.{number_in, words}
 
--- the numbers, if each element is one
+-- all the numbers, if each element is one
 abbrev pub all_of : List (Option ℕ) → Option (List ℕ)
 all_of [] = Some []
 all_of (None ∷ others) = None

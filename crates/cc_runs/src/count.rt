@@ -1,7 +1,8 @@
 // Counts the instructions of a run.
 //
-// A machine says what its run has come to, but not after how many instructions. So one machine goes on in slices, up to the slice in which
-// its run ends. A second one goes up to that slice at once, and then instruction by instruction.
+// A machine says how far its run has come, but not after how many instructions. So one machine goes on in slices, up to the
+// slice in which its run ends. A second machine first runs up to the beginning of that slice, and then goes on instruction by
+// instruction.
 
 ghost use Rattle.std.specs.Prelude.{◌≡◌, ◌≤◌, true, IfOk, Some};
 ghost use Rattle.cc_rv32.specs.Machine.{machine_behavior};
@@ -14,17 +15,18 @@ use cc_rv32::machine::Machine;
 use cc_rv32::outcome::MachineOutcome;
 use std::alloc::{AllocError, Global};
 
-// The first machine does this many instructions between two looks.
+// The first machine executes this many instructions between two looks.
 const SLICE: u64 = 65_536;
 
-/// What an image has written, how its run ended, and after how many instructions, if that is asked for.
+/// What an image has written, how its run ended, and after how many instructions, if that was asked for.
 #[derive(Drop)]
 pub struct CountedRun {
     pub run: ImageRun,
     pub executed: Option<u64>,
 }
 
-// A number of instructions within the bound after which the run is still going: those of all slices before the one in which it ends.
+// A number of instructions within the bound after which the run is still going: those of all slices before the one in which it
+// ends.
 fn going_for(alloc: Global, image: &Image, words: &[u32], steps: u64) -> Result<u64, AllocError>
     ensures within { IfOk result (λ done. done ≤ steps) }
     ensures going { IfOk result (λ done. (machine_behavior image.now words.now done).outcome ≡ Going) }
@@ -64,8 +66,8 @@ fn run_so_far(
     }
 }
 
-/// What an image does on the input words within this many instructions, and the least number of instructions with that result; the bound,
-/// if the run is still going then. `AllocError` if memory was refused during the run.
+/// What an image does on the input words within `steps` instructions, and the least number of instructions with that result;
+/// the bound, if the run is still going then. Fails with `AllocError` if memory was refused during the run.
 pub fn run_counted(
     alloc: Global,
     image: &Image,
@@ -94,7 +96,8 @@ pub fn run_counted(
     run_so_far(alloc, &machine, outcome, steps - left)
 }
 
-/// What an image does on the input words within this many instructions, counted if `is_counted`. `AllocError` if memory was refused.
+/// What an image does on the input words within `steps` instructions, which are counted if `is_counted`. Fails with
+/// `AllocError` if memory was refused.
 pub fn run_words(
     alloc: Global,
     image: &Image,

@@ -1,8 +1,9 @@
-//! What an image does on input words, with the number of instructions that it takes, and input words in a line of text.
+//! What an image does on input words, and the number of instructions that it takes; and how input words are read from a line of
+//! text.
 //!
-//! `count` runs an image and counts, `words` reads the words of a line, `written` writes the answer of a run. The crate knows no library,
-//! so both running a library's unit and running a text are built on it. It hands out `CountedRun`, `run_counted`, `run_words`, `words_in`,
-//! `write_counted_run`, and the definitions that their contracts cite (`specs/`).
+//! `count` runs an image and counts, `words` reads the words of a line, and `written` writes the answer of a run. The crate
+//! knows no library, so it serves for running a library's unit and for running a text. It exports `CountedRun`, `run_counted`,
+//! `run_words`, `words_in`, `write_counted_run`, and the definitions that their contracts cite (`specs/`).
 #![tactic(auto)]
 
 mod count;

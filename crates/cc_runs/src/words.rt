@@ -1,4 +1,4 @@
-// The input words in a line of text.
+// Reads the input words in a line of text.
 
 ghost use Rattle.std.specs.Prelude.{◌≡◌, ◌<◌, IfOk, IfSome, length, option_map};
 ghost use Rattle.cc_script.specs.Line.{number_in, words};
@@ -10,7 +10,7 @@ use std::alloc::{AllocError, Global};
 // A word has at most this many digits.
 const MOST_DIGITS: usize = 10;
 
-// The first word of a line, and what comes after the space that ends it, if one does.
+// The first word of a line, and, if a space ends it, what comes after that space.
 fn cut(line: &[u8]) -> (&[u8], Option<&[u8]>)
     ensures words { words line.now ≡ words_behind result.0.now result.1 }
     ensures shorter { IfSome result.1 (λ rest. length rest.now < length line.now) }
@@ -44,8 +44,8 @@ fn word_in(bytes: &[u8]) -> Option<u32>
     }
 }
 
-/// The input words in a line, which is given without its newline: decimal numbers from 0 to 4294967295, of at most 10 digits, between
-/// single spaces. None if the line has anything else.
+/// The input words in a line, which is given without its newline. They are decimal numbers from 0 to 4294967295, of at most 10
+/// digits, between single spaces. `None` if the line has anything else.
 pub fn words_in(alloc: Global, line: &[u8]) -> Result<Option<Vec<u32>>, AllocError>
     ensures { IfOk result (λ words. option_map (λ w. w.items) words ≡ input_in line.now) }
 {

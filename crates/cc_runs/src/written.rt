@@ -8,7 +8,7 @@ use crate::count::CountedRun;
 use cc_answers::write_run;
 use std::io::{self, Write};
 
-// Writes the line of a count, if it was asked for.
+// Writes the line of a count, if the count was asked for.
 fn write_count<W: Write>(executed: Option<u64>, writer: &mut W) -> io::Result<()>
     ensures { OnOk result (Appends (W.contents writer.old) (W.contents writer.new) (count_text executed)) }
 {
@@ -18,7 +18,8 @@ fn write_count<W: Write>(executed: Option<u64>, writer: &mut W) -> io::Result<()
     }
 }
 
-/// Writes the output words, one on each line, how the run ended, and the line of its count, if that was asked for. Err: the writer failed.
+/// Writes the output words, one on each line, then how the run ended, and then the line of the count, if it was asked for.
+/// Fails if the writer failed.
 #[tactic(auto, using(cc_answers::proofs::Writing::written_on))]
 pub fn write_counted_run<W: Write>(done: &CountedRun, writer: &mut W) -> io::Result<()>
     ensures { OnOk result (Appends (W.contents writer.old) (W.contents writer.new) (counted_text done.now)) }

@@ -1,15 +1,15 @@
--- How the simulator is shown to be the machine. The code is decoded once into flat operations. Each does what its instruction
--- does (Flats, Simulates), many of them do what a run does (Running), and a service call ends such a stretch (Serving,
+-- How the simulator is shown to be the machine. The code is decoded once into flat operations. Each operation does what its
+-- instruction does (Flats, Simulates), many of them do what a run does (Running), and a service call ends such a stretch (Serving,
 -- Advancing).
 -- encoding and decoding undo each other
 pub mod RoundTrip
--- what holds of every flat operation
+-- what is true of every flat operation
 pub mod Flats
 -- globals and stack, read and written at a word
 pub mod Memories
 -- high words of products with negative factors
 pub mod Products
--- registers in a list, and a write to one
+-- the registers that a list represents, and a write to one
 pub mod Registers
 -- a flat operation does what its instruction does
 pub mod Simulates
@@ -23,9 +23,9 @@ pub mod Starting
 pub mod Chains
 -- flat operations, then a service or a trap
 pub mod Advancing
--- a list followed by zeros
+-- a list of words followed by zeros
 pub mod Padding
--- a machine some instructions after the start
+-- a machine some instructions after an image's start
 pub mod After
 -- one instruction after a run of flat operations
 pub mod Turning

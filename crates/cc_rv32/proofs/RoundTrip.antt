@@ -1,5 +1,5 @@
--- The instruction of an instruction's word is that instruction, and the word of a word's instruction is that word. The fields of
--- a word made of fields are those fields, by linear arithmetic; the table then computes.
+-- Decoding the word of an instruction gives the instruction, and encoding the instruction of a word gives the word. If a word is
+-- made of fields, its fields are these; this is linear arithmetic. The table then computes.
 use Rattle.std.proofs.Common.{◌≡◌, ℕ, ◌+◌, ◌*◌, ◌%◌, ◌^◌, ◌<◌, Some, refl, ap, ◌∙◌, lit<, arith}
 use Rattle.std.proofs.lemmas.Bool.Decides.{nat_tests}
 use Rattle.cc_rv32.specs.declared.instr.Instr.{Instr}
@@ -90,7 +90,7 @@ branch_operation_of-same Bge = refl
 branch_operation_of-same Bltu = refl
 branch_operation_of-same Bgeu = refl
 
--- by the operation, since funct3 chooses the form
+-- the proof goes by the operation, since funct3 chooses the form
 immediate_operation_instruction : (w : ℕ) (o : ImmediateOperation) (d s1 i : ℕ) → opcode w ≡ 0x13 → funct3 w ≡ immediate_operation_funct3 o → rd w ≡ d → rs1 w ≡ s1 → immediate_I w ≡ i → instruction_of w ≡ Some (OpImm o d s1 i)
 unfolding instruction_of
 immediate_operation_instruction w Addi d s1 i eo e3 ed e1 ei = rw (eo, e3, ed, e1, ei)
@@ -263,7 +263,7 @@ ecall_instruction : instruction_of 0x73 ≡ Some Ecall
 unfolding instruction_of
 ecall_instruction = refl
 
--- the instruction of an instruction's word is that instruction
+-- decoding the word of an instruction gives the instruction
 pub decoded : (i : Instr) → IsEncodable i → instruction_of (encoding_of i) ≡ Some i
 unfolding encoding_of
 decoded (Op o d s1 s2) h = operation_instruction _ o d s1 s2 (HasFields-fields_word 0x33 d _ s1 s2 _ (lit< tt) h.0 (operation_below o).0 h.1 h.2 (operation_below o).1)

@@ -282,7 +282,7 @@ fn count(word: u32) -> ShiftCount
     ShiftCount::new(((word >> 20) & 31) as u8)
 }
 
-/// The word of a number of this many bits in two's complement. `sign` is the weight of the highest bit.
+/// Sign-extends a number in two's complement to a word. `sign` is the weight of the number's highest bit.
 fn sign_extended(number: u32, sign: u32) -> u32
     ensures { result ≡ (if nat_lt number sign then number else (number + (2 ^ 32 - sign) + (2 ^ 32 - sign)) % 2 ^ 32) }
 {

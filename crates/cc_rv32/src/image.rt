@@ -4,10 +4,10 @@ ghost use Rattle.std.specs.Prelude.{◌≡◌, ◌≤◌, ◌<◌, ◌↔◌, le
 
 use std::marker::Model;
 
-/// The most words of code that an image may have.
+/// An image has at most this many words of code.
 pub const MOST_CODE: usize = 131_072;
 
-/// The most words of globals that an image may have.
+/// An image has at most this many words of globals.
 pub const MOST_GLOBALS: usize = 65_536;
 
 /// The code of an image: 1 to 131,072 words. A clause sees their list.
@@ -15,7 +15,7 @@ pub struct Code {
     words: Vec<u32>,
 }
 
-// Written by hand, so that the crates above use this proof and need not show again how each part is dropped.
+// This is written by hand, so that the crates above use this proof and need not show again how each part is dropped.
 impl Drop for Code {
     fn drop(self) {
         let Code { words } = self;
@@ -68,7 +68,7 @@ pub struct Globals {
     words: Vec<u32>,
 }
 
-// Written by hand, so that the crates above use this proof and need not show again how each part is dropped.
+// This is written by hand, so that the crates above use this proof and need not show again how each part is dropped.
 impl Drop for Globals {
     fn drop(self) {
         let Globals { words } = self;

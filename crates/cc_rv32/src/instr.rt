@@ -1,5 +1,5 @@
-// The instructions of RV32I and M: one variant for each form of instruction word, with the operands of that form. Every value of
-// `Instr` has a word, because each operand's type has exactly the values that fit its field.
+// The instructions of RV32I and M: one variant for each form of instruction word, with the operands of that form. Every value of `Instr`
+// has a word, because each operand's type has exactly the values that fit in its field.
 
 ghost use Rattle.std.specs.Prelude.{◌≡◌, ◌<◌};
 ghost use Rattle.cc_rv32.specs.Table.{operation_funct3, operation_funct7, immediate_operation_funct3, shift_operation_funct3, shift_operation_funct7, load_operation_funct3, store_operation_funct3, branch_operation_funct3};

@@ -3,7 +3,7 @@
 //! - `operand` and `instr`: the instructions.
 //! - `encode` and `decode`: their words.
 //! - `image`: a program with its data.
-//! - `machine`: runs an image. `lowered` is its code, decoded once; `memory` and `execute` do one instruction.
+//! - `machine`: runs an image. `lowered` is its code, decoded once; `memory` and `execute` execute one instruction.
 //! - `map`: the addresses of the parts of its memory.
 //! - `listing`: prints an image; `operands`: what follows an instruction's name.
 //!

@@ -137,9 +137,9 @@ impl fmt::Display for Instr {
     }
 }
 
-/// Returns the listing of the image, as ASCII text: a line for each word of its code, in order of address, and none for its
-/// globals. A line has the address, the word, both as eight hexadecimal digits in lower case, and the instruction (`.word` if the
-/// word is not one), with a space between them. It ends in a newline. Fails with 40 (OutOfMemory) if memory was refused.
+/// Returns the listing of the image, as ASCII text: a line for each word of its code, in order of address, and none for its globals. A line
+/// has the address and the word, both as eight hexadecimal digits in lower case, and the instruction (`.word` if the word is not one),
+/// separated by spaces. It ends with a newline. Fails with 40 (OutOfMemory) if memory was refused.
 pub fn list(alloc: Global, image: &Image) -> Result<Vec<u8>, MachineFault>
     ensures { IfOk result (λ text. text.items ≡ listing image.now) }
 {

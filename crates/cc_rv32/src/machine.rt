@@ -16,7 +16,7 @@ pub struct Machine {
     simulator: Simulator,
 }
 
-// Written by hand, so that the crates above use this proof and need not show again how each part is dropped.
+// This is written by hand, so that the crates above use this proof and need not show again how each part is dropped.
 impl Drop for Machine {
     fn drop(self) {
         let Machine { simulator } = self;
@@ -49,8 +49,8 @@ impl Machine {
         }
     }
 
-    /// Does one instruction, unless the machine has exited or trapped, and returns the outcome of the run so far. Fails with 40
-    /// (OutOfMemory) only if the instruction writes a word and the output could not grow; then nothing is done.
+    /// Executes one instruction, unless the machine has exited or trapped, and returns the outcome of the run so far. Fails with 40
+    /// (OutOfMemory) only if the instruction writes a word and the output could not grow; then nothing has changed.
     pub fn step(&mut self) -> Result<MachineOutcome, MachineFault>
         ensures code { self.new.code ≡ self.old.code }
         ensures run { IfOk result (λ outcome. shown_run self.new ≡ machine_run self.old.code 1 (shown_run self.old)) }
@@ -60,9 +60,9 @@ impl Machine {
         self.run(1)
     }
 
-    /// Does at most this many instructions, fewer if it exits or traps, and returns the outcome of the run so far. To do `a` and
-    /// then `b` instructions is to do `a + b`. Fails with 40 (OutOfMemory) only if an instruction writes a word and the output
-    /// could not grow; then the instructions before that one are done.
+    /// Executes this many instructions, or fewer if the machine exits or traps, and returns the outcome of the run so far. To run `a` and
+    /// then `b` instructions is the same as to run `a + b`. Fails with 40 (OutOfMemory) only if an instruction writes a word and the output
+    /// could not grow; the instructions before that one have been executed then.
     pub fn run(&mut self, steps: u64) -> Result<MachineOutcome, MachineFault>
         ensures code { self.new.code ≡ self.old.code }
         ensures run { IfOk result (λ outcome. shown_run self.new ≡ machine_run self.old.code steps (shown_run self.old)) }
@@ -89,7 +89,7 @@ impl Machine {
     }
 }
 
-/// Shows that to do `m` and then `n` instructions is to do `m + n`, for any code and any run so far; and that a run that has
+/// Shows that to run `m` and then `n` instructions is the same as to run `m + n`, for any code and any run so far; and that a run that has
 /// exited or trapped does not change, nor does its state.
 pub fn runs_go_on()
     ensures additive { (code : List ℕ) (m n : ℕ) (r : Run) → machine_run code (m + n) r ≡ machine_run code n (machine_run code m r) }

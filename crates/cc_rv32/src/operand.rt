@@ -1,4 +1,4 @@
-// The operands of instructions: each type has exactly the values that fit its field of the instruction word.
+// The operands of instructions: each type has exactly the values that fit in its field of the instruction word.
 
 ghost use Rattle.std.specs.Prelude.{◌≡◌, ◌<◌, ◌^◌, ◌↔◌, IsTrue};
 ghost use Rattle.cc_rv32.specs.Fields.{IsImmediate, IsBranchOffset, IsJumpOffset};

@@ -1,4 +1,4 @@
-// The operands of an instruction as the listing shows them: after the name a register or two, and a last operand.
+// The operands of an instruction as the listing shows them: none, or one or two registers and a last operand.
 
 ghost use Rattle.std.specs.Prelude.{Some};
 ghost use Rattle.cc_rv32.specs.internal.Operands.{last_text, operands_text};

@@ -3,7 +3,7 @@
 /// The outcome of a run so far. After an exit or a trap it does not change.
 #[derive(Clone, Copy, PartialEq, Eq, Debug)]
 pub enum MachineOutcome {
-    /// The machine has done all instructions that were asked for, and can continue.
+    /// The machine has executed all instructions that were asked for, and can continue.
     Going,
     /// The program has exited with this word.
     Exited(u32),

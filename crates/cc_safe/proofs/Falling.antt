@@ -5,7 +5,7 @@ use Rattle.cc_ast.specs.Erase.{external_tree, external_trees}
 use Rattle.cc_ast.specs.declared.ast.External.{External}
 use Rattle.cc_ast.specs.declared.ast.External.TheVariants.{Declaration, Definition, Objects}
 use Rattle.cc_types.specs.Scope.{FileScope, file_scope_behind}
-use Rattle.cc_c_laws.specs.Meaning.{functions_from}
+use Rattle.cc_c_semantics.specs.Meaning.{functions_from}
 use Rattle.cc_depth.specs.Cycles.{CallsLower}
 use Rattle.cc_safe.specs.internal.Ranks.{AllFall}
 

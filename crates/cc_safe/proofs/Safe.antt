@@ -5,11 +5,11 @@ use Rattle.cc_ast.specs.Tree.{Source}
 use Rattle.cc_ast.specs.Parse.{SpellsText}
 use Rattle.cc_types.specs.Typed.{IsTyped}
 use Rattle.cc_types.specs.Limits.{objects}
-use Rattle.cc_c_laws.specs.Outcome.{Wrong}
-use Rattle.cc_c_laws.specs.Meaning.{initial_globals, source_behavior}
-use Rattle.cc_c_laws.specs.Calls.{first_shared}
-use Rattle.cc_c_laws.specs.Numbered.{objects_in, objects_of, world_of}
-use Rattle.cc_c_laws.specs.declared.cause.Cause.{Cause}
+use Rattle.cc_c_semantics.specs.Outcome.{Wrong}
+use Rattle.cc_c_semantics.specs.Meaning.{initial_globals, source_behavior}
+use Rattle.cc_c_semantics.specs.Calls.{first_shared}
+use Rattle.cc_c_semantics.specs.Numbered.{objects_in, objects_of, world_of}
+use Rattle.cc_c_semantics.specs.declared.cause.Cause.{Cause}
 use Rattle.cc_simulation.specs.Behavior.{AreWords}
 use Rattle.cc_simulation.specs.World.{IsWorld}
 use Rattle.cc_depth.specs.Cycles.{HasNoCycle}

@@ -1,9 +1,9 @@
 -- When a program can't go wrong at all.
 use Rattle.std.specs.Prelude.{◌≢◌, ℕ, List}
 use Rattle.cc_ast.specs.Tree.{Source}
-use Rattle.cc_c_laws.specs.Meaning.{source_behavior}
-use Rattle.cc_c_laws.specs.Outcome.{Wrong}
-use Rattle.cc_c_laws.specs.declared.cause.Cause.{Cause}
+use Rattle.cc_c_semantics.specs.Meaning.{source_behavior}
+use Rattle.cc_c_semantics.specs.Outcome.{Wrong}
+use Rattle.cc_c_semantics.specs.declared.cause.Cause.{Cause}
 use Rattle.cc_simulation.specs.Behavior.{AreWords}
 
 -- it goes wrong for no cause, on no input and within no number of steps

@@ -1,14 +1,14 @@
 // Whether the calls of a unit have no cycle.
 //
-// All ranks begin as 0. In each round, the rank of each function that calls one of no lower rank rises by one; there is one round more than
-// a unit can have functions. If there is no cycle, the ranks then fall from call to call. No proof depends on how they were found: the
-// answer comes from checking the ranks at the end.
+// All ranks begin as 0. In each round, the rank of each function that calls one of the same or a higher rank rises by one;
+// there is one more round than a unit can have functions. If there is no cycle, the ranks then fall from call to call. No proof
+// depends on how they were found: the answer comes from checking the ranks at the end.
 
 ghost use Rattle.std.specs.Prelude.{◌≡◌, ◌<◌, true, IfOk};
 ghost use Rattle.std.specs.List.{AllByRecursion};
 ghost use Rattle.cc_ast.specs.Erase.{external_trees};
 ghost use Rattle.cc_ast.specs.Source.{source};
-ghost use Rattle.cc_c_laws.specs.Meaning.{functions};
+ghost use Rattle.cc_c_semantics.specs.Meaning.{functions};
 ghost use Rattle.cc_depth.specs.Cycles.{CallsLower, HasNoCycle};
 ghost use Rattle.cc_safe.specs.internal.Ranks.{rank_by, FallsIn};
 
@@ -26,7 +26,7 @@ const MOST_OPEN: u32 = 1024;
 /// A unit has at most this many functions.
 const MOST_FUNCTIONS: usize = 64;
 
-// Whether an external declaration does not define a function that calls one of no lower rank.
+// Whether the function that an external declaration defines, if any, calls only functions of lower ranks.
 fn falls_in(layout: &Layout<'_>, table: &[u32], external: &External) -> bool
     ensures { result ≡ true → FallsIn (rank_by layout.now table.now) external.now }
 {
@@ -51,7 +51,7 @@ fn all_fall(layout: &Layout<'_>, table: &[u32], externals: &[External]) -> bool
     true
 }
 
-// Raises the rank of each function that calls one of no lower rank.
+// Raises the rank of each function that calls one of the same or a higher rank.
 fn raise(layout: &Layout<'_>, table: &mut Vec<u32>, externals: &[External]) {
     for external in externals {
         if !falls_in(layout, table.as_slice(), external) {

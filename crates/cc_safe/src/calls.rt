@@ -1,6 +1,6 @@
 // Whether all calls in a tree are of functions whose ranks are below a limit.
 //
-// A function's rank is an entry of a table, by the function's number; a name that the unit does not define has rank 0. The recursion is as
+// A function's rank is the entry of a table at the function's number; a name that the unit does not define has rank 0. The recursion is as
 // deep as the tree.
 
 ghost use Rattle.std.specs.Prelude.{◌≡◌, ◌<◌, true};

@@ -8,7 +8,7 @@ ghost use Rattle.cc_screen.specs.internal.Shown.{is_control, last_of, shown, sho
 use std::io::{self, Write};
 
 /// A writer that may be a terminal. A terminal gets `?` for each control byte except newline and tab. Clauses about its contents
-/// are for a writer that is not a terminal.
+/// are only for a writer that is not a terminal.
 #[derive(Drop)]
 pub struct Screen<W: Drop> {
     writer: W,
@@ -18,7 +18,7 @@ pub struct Screen<W: Drop> {
 }
 
 // Whether a terminal takes a byte as a control character. It does so for a byte from 128 to 159, unless the byte continues
-// another character in UTF-8. A character of 194 and such a byte is a control character too.
+// another character in UTF-8. The character that consists of 194 and such a byte is a control character too.
 fn is_control(before: u8, byte: u8) -> bool
     ensures { result ≡ is_control before byte }
 {
@@ -48,7 +48,7 @@ impl<W: Write + Drop> Screen<W> {
         }
     }
 
-    // Shows the first of these bytes, if there is one, and returns how many that were.
+    // Shows the first few of these bytes, and returns how many they were.
     fn show(&mut self, bytes: &[u8]) -> io::Result<usize>
         ensures bound { WritesAtMost result bytes.now }
         ensures shown { IfOk result (λ count. Appends (W.contents self.old.writer) (W.contents self.new.writer) (shown self.old.last (take count bytes.now))) }

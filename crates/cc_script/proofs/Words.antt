@@ -8,7 +8,7 @@ use Rattle.std.proofs.lemmas.Grind.{common_steps}
 use Rattle.cc_script.specs.Line.{words, asked_in, asked_of}
 use Rattle.cc_script.specs.declared.command.Dialect.{Dialect}
 
--- a byte is a space or not
+-- a byte is a space or it is not
 pub is_space : (byte : ℕ) → byte ≡ 32 → (byte == 32) ≡ true
 is_space byte same = search (arith, same)
 
@@ -33,7 +33,7 @@ pub uncut : (line : List ℕ) (i : ℕ) → length line ≤ i → All (λ b. (b 
 uncut line i past none =
     slice_split_none (λ b. b == 32) line (subst (λ (l : List ℕ). All (λ b. (b == 32) ≡ false) l) (take_all i line past) none)
 
--- more than four words ask for nothing
+-- a line of more than four words asks for nothing
 more : (dialect : Dialect) (verb name first second : List ℕ) (rest : List (List ℕ)) → 0 < length rest → asked_in dialect (verb ∷ name ∷ first ∷ second ∷ rest) ≡ None
 more dialect verb name first second [] some = absurd (omega arith)
 more dialect verb name first second (one ∷ others) some = refl

@@ -3,7 +3,7 @@ use Rattle.std.specs.Prelude.{ℕ}
 use Rattle.cc_script.specs.declared.fault.ScriptFault.{ScriptFault}
 use Rattle.cc_script.specs.declared.fault.ScriptFault.TheVariants.{BadLine, EndOfScript, ScriptTooLong, ReadFault, WriteFault, Stopped}
 
--- the number that a fault is known by
+-- the number of a fault
 abbrev pub fault_number : ScriptFault → ℕ
 fault_number BadLine = 50
 fault_number EndOfScript = 51

@@ -4,5 +4,5 @@ pub mod Line
 pub mod Reading
 -- The numbers of the faults.
 pub mod Fault
--- What only private contracts speak of.
+-- What only private contracts use.
 pub mod internal

@@ -8,8 +8,8 @@ use Rattle.cc_script.specs.declared.command.ScriptCommand.TheVariants as command
 use Rattle.cc_script.specs.declared.command.Dialect.{Dialect}
 use Rattle.cc_script.specs.declared.command.Dialect.TheVariants.{Plain, Served}
 
--- what a script asks for: a change with a number of bytes of source after its line, or with two such numbers, one without, or a look; or a run with a number of
--- bytes of input after its line
+-- what a line of a script asks for: a change, with a number of bytes of source after its line, with two such numbers, or without
+-- source; or a look; or a run, with a number of bytes of input after its line or without input
 -- ORDER ScriptCommand
 pub data ScriptRequest : Type 0 where
   Add : (name : List ℕ) → (length : ℕ) → ScriptRequest
@@ -44,17 +44,17 @@ asked_by command.Space = Space
 
 -- ---- numbers
 
--- the number that some digits make, behind those of n; none where a byte is no digit
+-- the number whose digits are those of n and then these; none if a byte is no digit
 abbrev pub number_from : ℕ → List ℕ → Option ℕ
 number_from n [] = Some n
 number_from n (byte ∷ bytes) = if is_ascii_digit byte then number_from (10 * n + (byte - 48)) bytes else None
 
--- a number that is not above the limit
+-- the number, if it is not above the limit
 abbrev pub at_most : (limit : ℕ) → Option ℕ → Option ℕ
 at_most limit (Some n) = if nat_le n limit then Some n else None
 at_most limit None = None
 
--- the number of 1 to this many digits, not above the limit, that stands there
+-- the number that these bytes spell, if they are 1 to `digits` digits and the number is not above the limit
 abbrev pub number_in : (digits limit : ℕ) → List ℕ → Option ℕ
 number_in digits limit bytes = if nat_lt 0 (length bytes) && nat_le (length bytes) digits then at_most limit (number_from 0 bytes) else None
 
@@ -68,11 +68,11 @@ steps_in bytes = number_in 10 1000000000 bytes
 
 -- ---- lines
 
--- the words of a line, which stand between single spaces
+-- the words of a line, which are separated by single spaces
 abbrev pub words : List ℕ → List (List ℕ)
 words line = slice_split (λ b. b == 32) line
 
--- a word is no word of a line where it has no byte, as between two spaces
+-- whether bytes can be a word of a line: they can if there is at least one, so there is no word between two spaces
 abbrev pub is_word : List ℕ → Bool
 is_word bytes = nat_lt 0 (length bytes)
 
@@ -83,7 +83,7 @@ one_plain_word verb =
     else if bytes_eq verb (codes "audit") then Some Audit
     else None
 
--- a script that is left for a server has one line of one word more
+-- in a script that is left for a server, there is one more command of one word
 abbrev pub one_served_word : (verb : List ℕ) → Option ScriptRequest
 one_served_word verb = if bytes_eq verb (codes "space") then Some Space else one_plain_word verb
 
@@ -94,7 +94,7 @@ one_word Served verb = one_served_word verb
 abbrev pub two_plain_words : (verb name : List ℕ) → Option ScriptRequest
 two_plain_words verb name = if bytes_eq verb (codes "withdraw") && is_word name then Some (Withdraw name) else None
 
--- a script that is left for a server has three lines of two words more
+-- in a script that is left for a server, there are three more commands of two words
 abbrev pub two_served_words : (verb name : List ℕ) → Option ScriptRequest
 two_served_words verb name =
     if bytes_eq verb (codes "image") && is_word name then Some (Image name)
@@ -106,7 +106,7 @@ abbrev pub two_words : Dialect → (verb name : List ℕ) → Option ScriptReque
 two_words Plain verb name = two_plain_words verb name
 two_words Served verb name = two_served_words verb name
 
--- what is asked of a name with a number, where there is one
+-- what is asked for with a number, if there is one
 abbrev pub with_number : (ℕ → ScriptRequest) → Option ℕ → Option ScriptRequest
 with_number make (Some n) = Some (make n)
 with_number make None = None
@@ -120,12 +120,12 @@ three_words verb name digits =
     else None)
     else None
 
--- what is asked of a name with two numbers, where both are there
+-- what is asked for with two numbers, if both are there
 abbrev pub with_numbers : (ℕ → ℕ → ScriptRequest) → Option ℕ → Option ℕ → Option ScriptRequest
 with_numbers make (Some n) second = with_number (make n) second
 with_numbers make None second = None
 
--- a script that is left for a server has two lines of four words
+-- in a script that is left for a server, there are two commands of four words
 abbrev pub four_served_words : (verb name first second : List ℕ) → Option ScriptRequest
 four_served_words verb name first second =
     if is_word name then

@@ -6,7 +6,8 @@ use Rattle.cc_script.specs.declared.script.NextLine.TheVariants.{Line, TooLong, 
 use Rattle.cc_script.specs.declared.fault.ScriptFault.{ScriptFault}
 use Rattle.cc_script.specs.declared.fault.ScriptFault.TheVariants.{BadLine, EndOfScript, ScriptTooLong, ReadFault, WriteFault, Stopped}
 
--- what contracts see of a script: what was read and not handed out, whether its reader was at the end, and how many bytes more it may have
+-- what contracts see of a script: what was read but not used yet, whether its reader was at the end, and how many more bytes the
+-- script may have
 pub record ScriptView : Type 0 where
   pub held : List ℕ
   pub is_over : Bool
@@ -18,14 +19,14 @@ IsWithinLine (Line length) = length ≤ 128
 IsWithinLine TooLong = Unit {0}
 IsWithinLine End = Unit {0}
 
--- ---- the bytes, where it is known which the reader gives
+-- ---- the bytes, if it is known which ones the reader gives
 
--- What is left of a script: what was read and not handed out, then what the reader will give, as long as that was not at its end.
+-- What is left of a script: first what was read but not used yet, then what the reader will give, unless it was at its end.
 abbrev pub rest_from : (held : List ℕ) (is_over : Bool) (remaining : Option (List ℕ)) → Option (List ℕ)
 rest_from held true remaining = Some held
 rest_from held false remaining = prepend_known held remaining
 
--- What is ahead in a script: what is left of it, where that is known, and how many bytes more it may have.
+-- What is ahead in a script: what is left of it, if that is known, and how many more bytes it may have.
 pub record Ahead : Type 0 where
   pub rest : Option (List ℕ)
   pub left : ℕ
@@ -33,36 +34,36 @@ pub record Ahead : Type 0 where
 abbrev pub ahead_of : ScriptView → (remaining : Option (List ℕ)) → Ahead
 ahead_of script remaining = record { rest = rest_from script.held script.is_over remaining; left = script.left }
 
--- this holds of what is left before and after, where that is known
+-- if what is left before is known, so is what is left after, and `Holds` is true of both
 abbrev pub Known : (before after : Option (List ℕ)) → (Holds : List ℕ → List ℕ → Type 0) → Type 0
 Known None after Holds = Unit {0}
 Known (Some before) None Holds = ⊥
 Known (Some before) (Some after) Holds = Holds before after
 
--- The bytes that were handed out stood before the rest, the script may have as many fewer, and this holds of what was left before and is left
--- after.
+-- The bytes that were handed out came before the rest, the script may have that many fewer bytes from then on, and `Holds` is
+-- true of what was left before and what is left after.
 pub record IsRead (may_have may_still : ℕ) (Holds : List ℕ → List ℕ → Type 0) (before after : List ℕ) : Type 0 where
   pub taken : List ℕ
   pub prefix : before ≡ taken ++ after
   pub counted : may_still + length taken ≡ may_have
   pub holds : Holds before after
 
--- so of what is ahead before and after
+-- what is ahead before and after is as `IsRead` says, if it is known
 abbrev pub Between : (before after : Ahead) → (Holds : List ℕ → List ℕ → Type 0) → Type 0
 Between before after Holds = Known before.rest after.rest (IsRead before.left after.left Holds)
 
--- a line without a newline, which is followed by one, or by the end
+-- a line without its newline; a newline follows it, or the end
 pub record IsLine (before line after : List ℕ) : Type 0 where
   pub plain : All (λ byte. byte ≢ 10) line
   pub ends : (before ≡ line ++ 10 ∷ after) ⊎ ((before ≡ line) × (after ≡ []))
 
--- what comes next: a line, where a byte is left; the first 129 bytes of a longer one; the end
+-- what comes next: a line, if any byte is left; the first 129 bytes of a longer one; or the end
 abbrev pub IsNext : (before : List ℕ) → NextLine → (line after : List ℕ) → Type 0
 IsNext before (Line length) line after = (before ≢ []) × IsLine before (take length line) after
 IsNext before TooLong line after = (prefix : List ℕ) × (before ≡ prefix ++ after) × (length prefix ≡ 129) × All (λ byte. byte ≢ 10) prefix
 IsNext before End line after = before ≡ []
 
--- a source of this many bytes comes next, of which the first 65,537 are kept, where they are
+-- a source of this many bytes comes next; its first 65,537 are kept, if there is room for them
 pub record IsSource (before : List ℕ) (count : ℕ) (kept : Option (List ℕ)) (after : List ℕ) : Type 0 where
   pub source : List ℕ
   pub prefix : before ≡ source ++ after
@@ -76,7 +77,7 @@ IsLineEnd before false after = (byte : ℕ) × (byte ≢ 10) × (before ≡ byte
 
 -- ---- why nothing comes
 
--- fewer bytes than this many are left
+-- fewer than `count` bytes are left
 abbrev pub HasFewer : (rest : Option (List ℕ)) → (count : ℕ) → Type 0
 HasFewer rest count = IfSome rest (λ bytes. length bytes < count)
 
@@ -84,7 +85,7 @@ HasFewer rest count = IfSome rest (λ bytes. length bytes < count)
 abbrev pub HasMore : Ahead → Type 0
 HasMore ahead = IfSome ahead.rest (λ bytes. ahead.left < length bytes)
 
--- 52, where the script has had all the bytes that it may have, and has more; 53
+-- why no line is read: 52, if the script has had all the bytes that it may have, and has more; or 53
 abbrev pub IsNotRead : (before : Ahead) → (left : ℕ) → ScriptFault → Type 0
 IsNotRead before left ScriptTooLong = (left ≡ 0) × HasMore before
 IsNotRead before left ReadFault = Unit {0}
@@ -93,7 +94,7 @@ IsNotRead before left EndOfScript = ⊥
 IsNotRead before left WriteFault = ⊥
 IsNotRead before left Stopped = ⊥
 
--- so for a source of this many bytes; and 51, where fewer are left
+-- the same for a source of this many bytes; also 51, if fewer are left
 abbrev pub IsNoSource : (before : Ahead) → (count left : ℕ) → ScriptFault → Type 0
 IsNoSource before count left EndOfScript = HasFewer before.rest count
 IsNoSource before count left ScriptTooLong = IsNotRead before left ScriptTooLong

@@ -1,3 +1,3 @@
--- What only private contracts speak of.
+-- What only private contracts use.
 pub mod Cutting
 pub mod Bytes

@@ -4,10 +4,10 @@ ghost use Rattle.std.specs.Prelude.{◌≡◌, ◌≤◌, ◌<◌, ◌+◌, ◌+
 ghost use Rattle.cc_script.specs.Line.{asked_by, asked_of, four_served_words, four_words, number_in, one_plain_word, one_served_word, one_word, two_plain_words, two_served_words, two_words, three_words, words};
 ghost use Rattle.cc_script.specs.internal.Cutting.{words_behind};
 
-/// The most instructions that a line may give a run.
+/// A line may give a run at most this many instructions.
 pub const MOST_STEPS: u64 = 1_000_000_000;
 
-// The most bytes of source that 6 digits can tell.
+// The largest number of bytes of source that 6 digits can state.
 const MOST_LENGTH: u64 = 999_999;
 
 /// Which lines a script may have.
@@ -15,8 +15,8 @@ const MOST_LENGTH: u64 = 999_999;
 pub enum Dialect {
     /// Those of a session's script.
     Plain,
-    /// Those, and `image NAME`, `source NAME`, `audit NAME`, `update NAME OLDLEN NEWLEN`, `call NAME STEPS LEN` and `space`: of a script
-    /// that is left for a server.
+    /// Those of a session's script, and `image NAME`, `source NAME`, `audit NAME`, `update NAME OLDLEN NEWLEN`, `call NAME STEPS
+    /// LEN` and `space`: the lines of a script that is left for a server.
     Served,
 }
 
@@ -24,7 +24,7 @@ pub enum Dialect {
 /// What a line of a script asks for.
 #[derive(Clone, Copy, Drop)]
 pub enum ScriptCommand<'a> {
-    /// Add a unit by that name, compiled from `length` bytes of source behind the line.
+    /// Add a unit by that name, compiled from `length` bytes of source after the line.
     Add {
         name: &'a [u8],
         length: usize,
@@ -45,15 +45,15 @@ pub enum ScriptCommand<'a> {
         name: &'a [u8],
         steps: u64,
     },
-    /// Write the library anew, with one record for each unit.
+    /// Write the library again, with one record for each unit.
     Compact,
-    /// Audit each unit along its certificate.
+    /// Audit each unit by its certificate.
     Audit,
-    /// Tell the image of the unit by that name.
+    /// Write the image of the unit by that name.
     Image {
         name: &'a [u8],
     },
-    /// Tell the source of the unit by that name.
+    /// Write the source of the unit by that name.
     Source {
         name: &'a [u8],
     },
@@ -61,14 +61,14 @@ pub enum ScriptCommand<'a> {
     AuditOne {
         name: &'a [u8],
     },
-    /// Replace the unit by that name if its source is the one of `expected` bytes behind the line, by one compiled from the `length` bytes
-    /// that come after it.
+    /// Replace the unit by that name if its source is the `expected` bytes after the line. The new one is compiled from the
+    /// `length` bytes that come after those.
     Update {
         name: &'a [u8],
         expected: usize,
         length: usize,
     },
-    /// Run the unit by that name for at most `steps` instructions, on the input words of `length` bytes behind the line.
+    /// Run the unit by that name for at most `steps` instructions, on the input words of `length` bytes after the line.
     Call {
         name: &'a [u8],
         steps: u64,
@@ -78,7 +78,7 @@ pub enum ScriptCommand<'a> {
     Space,
 }
 
-// The first word of a line, and what stands behind the space that ends it, if one does.
+// The first word of a line, and what comes after the space that ends it, if one does.
 fn cut(line: &[u8]) -> (&[u8], Option<&[u8]>)
     ensures { words line.now ≡ words_behind result.0.now result.1 }
 {
@@ -90,7 +90,7 @@ fn cut(line: &[u8]) -> (&[u8], Option<&[u8]>)
     (line, None)
 }
 
-// The number of 1 to `digits` digits, not above the limit, that stands there.
+// The number that these bytes spell, if they are 1 to `digits` digits and the number is not above the limit.
 fn number_in(bytes: &[u8], digits: usize, limit: u64) -> Option<u64>
     requires { digits ≤ 10 }
     ensures { result ≡ number_in digits limit bytes.now }
@@ -133,7 +133,7 @@ fn one_plain_word<'a>(verb: &[u8]) -> Option<ScriptCommand<'a>>
     }
 }
 
-// The same of a script that is left for a server.
+// A command of one word, if it is one of a script that is left for a server.
 fn one_served_word<'a>(verb: &[u8]) -> Option<ScriptCommand<'a>>
     ensures { option_map asked_by result ≡ one_served_word verb.now }
 {
@@ -154,7 +154,7 @@ fn one_word<'a>(dialect: Dialect, verb: &[u8]) -> Option<ScriptCommand<'a>>
     }
 }
 
-// A command of two words, where it is one of a session's script.
+// A command of two words, if it is one of a session's script.
 fn two_plain_words<'a>(verb: &[u8], name: &'a [u8]) -> Option<ScriptCommand<'a>>
     ensures { option_map asked_by result ≡ two_plain_words verb.now name.now }
 {
@@ -165,7 +165,7 @@ fn two_plain_words<'a>(verb: &[u8], name: &'a [u8]) -> Option<ScriptCommand<'a>>
     }
 }
 
-// The same of a script that is left for a server.
+// A command of one word, if it is one of a script that is left for a server.
 fn two_served_words<'a>(verb: &[u8], name: &'a [u8]) -> Option<ScriptCommand<'a>>
     ensures { option_map asked_by result ≡ two_served_words verb.now name.now }
 {
@@ -261,7 +261,7 @@ fn four_words<'a>(
     }
 }
 
-/// What a line of a script asks for, which is said without its newline; none where it is no command of that dialect.
+/// What a line of a script, given without its newline, asks for; none if it is no command of that dialect.
 pub fn command_of(dialect: Dialect, line: &[u8]) -> Option<ScriptCommand<'_>>
     ensures { option_map asked_by result ≡ asked_of dialect line.now }
 {

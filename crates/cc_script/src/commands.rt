@@ -4,9 +4,9 @@
 pub const PLAIN_COMMANDS: usize = 7;
 
 // ORDER ScriptCommand
-/// The commands of a script, in the order in which a person is told of them: those of a session's script, and then those that only one that
-/// is left for a server has. Where LEN is at the end, that many bytes of source come after the line, or of input words; OLDLEN and NEWLEN are
-/// of two sources.
+/// The commands of a script, in the order in which a person reads them: those of a session's script, and then those that only a
+/// script left for a server has. If LEN is at the end, that many bytes of source or of input words come after the line; OLDLEN
+/// and NEWLEN are the lengths of two sources.
 pub const COMMANDS: [&[u8]; 13] = [
     b"add NAME LEN",
     b"replace NAME LEN",

@@ -5,10 +5,10 @@ ghost use Rattle.cc_script.specs.Fault.{fault_number};
 
 use thiserror::Error;
 
-/// Why a script ends before its last line, or why a line of it is not done.
+/// Why a script ends before its last line, or why a line of it is not executed.
 #[derive(Clone, Copy, Debug, Drop, Error)]
 pub enum ScriptFault {
-    /// 50: a line that is no command, or a byte other than a newline behind a source.
+    /// 50: a line that is not a command, or a byte other than a newline after a source.
     #[error("BadLine")]
     BadLine,
     /// 51: the script ends within a source.
@@ -23,7 +23,7 @@ pub enum ScriptFault {
     /// 54: an answer could not be written.
     #[error("WriteFault")]
     WriteFault,
-    /// 61: it was at work for long, and others waited; never in a session.
+    /// 61: the script was at work for a long time while others waited; never in a session.
     #[error("Stopped")]
     Stopped,
 }

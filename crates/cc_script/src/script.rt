@@ -12,13 +12,13 @@ use std::alloc::Global;
 use std::io::Read;
 use std::marker::Model;
 
-/// The most bytes that a script may have.
-pub const MOST_BYTES: usize = 16_777_216;
+/// A script may have at most this many bytes.
+pub const SCRIPT_BYTES: usize = 16_777_216;
 
-/// The most bytes that a line may have, without its newline.
+/// A line may have at most this many bytes, without its newline.
 pub const LINE_BYTES: usize = 128;
 
-/// How many bytes of a source are kept: one more than a source may have, so that a longer one is seen to be one.
+/// How many bytes of a source are kept: one more than a source may have, so that a longer one can be recognized.
 const KEPT_BYTES: usize = 65_537;
 
 /// How many bytes are asked of a reader at a time.
@@ -27,7 +27,7 @@ const PIECE_BYTES: usize = 65_536;
 /// What comes next in a script.
 #[derive(Clone, Copy, Drop)]
 pub enum NextLine {
-    /// A line of this many bytes, without its newline. One is there where the script ends behind at least one byte.
+    /// A line of this many bytes, without its newline. If the script ends after at least one byte, that is a line too.
     Line(usize),
     /// More bytes of a line than it may have. The rest of it is still to be skipped.
     TooLong,
@@ -35,15 +35,15 @@ pub enum NextLine {
     End,
 }
 
-/// How far a script has been read. No more is asked of its reader than what is needed here. A clause sees what was read and not handed out,
-/// whether the reader was at its end, and how many bytes more the script may have.
+/// How far a script has been read. Its reader is asked for more only once all that was read has been used. A clause sees what was read
+/// but not used yet, whether the reader was at its end, and how many more bytes the script may have.
 #[derive(Drop)]
 pub struct Script {
     piece: [u8; PIECE_BYTES],
-    // What was read and not handed out yet stands between these two.
+    // What was read but not used yet lies between these two.
     next: usize,
     end: usize,
-    // How many bytes more the script may have.
+    // How many more bytes the script may have.
     left: usize,
     // Whether the reader was at its end.
     is_over: bool,
@@ -60,7 +60,7 @@ impl Model for Script {
 }
 
 impl Script {
-    /// A script of which nothing has been read.
+    /// A script that has not been read at all.
     pub fn new() -> Script
         ensures { result ≡ record { held = []; is_over = false; left = 16777216 } }
     {
@@ -68,28 +68,28 @@ impl Script {
             piece: [0; PIECE_BYTES],
             next: 0,
             end: 0,
-            left: MOST_BYTES,
+            left: SCRIPT_BYTES,
             is_over: false,
         }
     }
 
-    /// What was read and not handed out yet: the next bytes of the script, to be looked at before their turn. Nothing is read for it.
+    /// What was read but not used yet: the next bytes of the script, to be looked at before their turn. Nothing is read for this.
     pub fn held(&self) -> &[u8]
         ensures held { result.now ≡ self.now.held }
-        // Whatever the reader is still to give, what is ahead begins with them.
+        // Whatever the reader gives from now on, what is ahead begins with these bytes.
         ensures ahead { (remaining : Option (List ℕ)) → IfSome (ahead_of self.now remaining).rest (λ bytes. (rest : List ℕ) × (bytes ≡ result.now ++ rest)) }
     {
         &self.piece[self.next..self.end]
     }
 
-    /// How many bytes more the script may have: 16,777,216 less those that were handed out.
+    /// How many more bytes the script may have: 16,777,216 less those that were used.
     pub fn left(&self) -> usize
         ensures { result ≡ self.now.left }
     {
         self.left
     }
 
-    // Reads more, where all that was read has been handed out. Whether there is more.
+    // Reads more, if all that was read has been used. The result is whether there is more.
     fn fill<R: Read>(&mut self, reader: &mut R) -> Result<bool, ScriptFault>
         ensures filled { IfOk result (λ is_more. is_more ≡ true → 0 < length self.new.held) }
         ensures left { self.new.left ≡ self.old.left }
@@ -133,7 +133,7 @@ impl Script {
 
     /// Reads the next line into `line`, up to its newline or the end of the script.
     ///
-    /// 52 where the script has more bytes than it may have, 53 where it can't be read.
+    /// 52 if the script has more bytes than it may have, 53 if it can't be read.
     pub fn next_line<R: Read>(
         &mut self,
         reader: &mut R,
@@ -173,10 +173,10 @@ impl Script {
         Ok(())
     }
 
-    /// The source of this many bytes that comes next: of one with more than 65,536 the first 65,537. None where there is no room
-    /// for it, and then too it is read.
+    /// The source of this many bytes that comes next; if it has more than 65,536, the first 65,537 of them. None if there is no
+    /// room for it; it is read in that case too.
     ///
-    /// 51 where the script ends before it does, 52 and 53 as for a line.
+    /// 51 if the script ends before the source does, 52 and 53 as for a line.
     pub fn source<R: Read>(
         &mut self,
         alloc: Global,
@@ -202,7 +202,7 @@ impl Script {
         Ok(if is_kept { Some(source) } else { None })
     }
 
-    /// Whether a source ends here: by a newline, which is skipped, or by the end of the script.
+    /// Whether a source ends here: with a newline, which is skipped, or with the end of the script.
     ///
     /// 52 and 53 as for a line.
     pub fn is_at_line_end<R: Read>(&mut self, reader: &mut R) -> Result<bool, ScriptFault>

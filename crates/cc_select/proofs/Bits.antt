@@ -76,7 +76,7 @@ and_at x y r = ap (λ n. n == 1) (bit_at_and x y r) ∙ min_bits (bit_at x r) (b
 pub either_is : (x y : ℕ) → set_of (bit_or x y) ≡ either (set_of x) (set_of y)
 either_is x y = fun_ext (or_at x y)
 
--- ---- masks: the 32 registers are tried
+-- ---- masks: each of the 32 registers is tried
 
 abbrev same : Bool → Bool → Bool
 same true b = b

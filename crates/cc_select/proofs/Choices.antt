@@ -1,4 +1,4 @@
--- The steps that may be chosen for an item: a property that each of them has, the chosen one has.
+-- The steps that may be chosen for an item: a property that all of them have holds of the chosen one.
 use Rattle.std.proofs.Common.{◌≡◌, ℕ, Option, Some, None, true, false, Bool, refl}
 use Rattle.std.specs.Prelude.{if◌then◌else◌, ◌==◌, not}
 use Rattle.cc_words.specs.declared.operators.Width.{Width}
@@ -64,7 +64,7 @@ module _ (P : Step → Type 0) where
   pub zero_gives : (k : Known) (r n : ℕ) → ((w : ℕ) → k r ≡ Some w → (w == 0) ≡ true → P (One (Jump n))) → P (One (IfZero r n)) → P (choose k (IfZero r n))
   zero_gives k r n f x = test_gives false (k r) (IfZero r n) n f x
 
--- none of them is a label
+-- no step that is chosen is a label
 pub nonzero_there : (k : Known) (r n : ℕ) → IsThere (choose k (IfNonzero r n))
 nonzero_there k r n = nonzero_gives IsThere k r n (λ w e is. tt) tt
 

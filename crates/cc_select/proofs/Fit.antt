@@ -1,6 +1,6 @@
--- The steps of a function of Linear are those of a function of Selected: the labels are the same list, jumps and branches lead to labels of
--- it, registers stay registers, and each word and number is one that the step's instructions can have. Known words are words, since they
--- come from items.
+-- The steps that are made from a function of Linear form a function of Selected: the labels are the same list, jumps and branches
+-- lead to labels of it, registers stay registers, and each word and number is one that the step's instructions can have. Known
+-- words are words, since they come from items.
 use Rattle.std.proofs.Common.{◌≡◌, ℕ, List, [], ◌∷◌, Option, Some, None, true, false, Bool, ◌≢◌, refl, sym, ap, ◌∙◌, subst}
 use Rattle.std.specs.Prelude.{if◌then◌else◌, ◌==◌, ◌||◌, not, Contains}
 use Rattle.std.specs.List.{AllByRecursion, AllPairs}
@@ -85,7 +85,7 @@ trimmed_labels is =
     let steps = nearer None (chosen unknown is) in
     fused_labels (table steps) (lean (table steps) steps) ∙ lean_labels (table steps) steps ∙ near_labels None (chosen unknown is) ∙ chosen_labels unknown is
 
--- ---- what is known is words
+-- ---- known words are words
 
 abbrev AreWords : Known → Type 0
 AreWords k = (r w : ℕ) → k r ≡ Some w → IsWord w

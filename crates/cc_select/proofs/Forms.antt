@@ -1,5 +1,5 @@
--- An operator with a known word on its right or on its left is what the table of forms says: an operator on a register and a word that
--- gives the same for each register's word. A product, a quotient and a remainder with 2^k become a shift and a mask.
+-- The table of forms gives, for an operator with a known word on its right or on its left, an operator on a register and a word
+-- that gives the same for each register's word. A product, a quotient and a remainder with 2^k become a shift and a mask.
 use Rattle.std.proofs.Common.{◌≡◌, ℕ, ◌-◌, ◌/◌, ◌%◌, ◌*◌, ◌^◌, ◌<◌, Option, Some, None, true, false, Bool, refl, sym, ap, ◌∙◌, subst, mul_comm, arith}
 use Rattle.std.proofs.lemmas.Nat.{pow_pos, trailing_le, and_mask, and_comm, or_comm, xor_comm}
 use Rattle.std.specs.Prelude.{if◌then◌else◌, ◌==◌, not, nat_lt, bit_and}

@@ -35,7 +35,7 @@ use Rattle.cc_select.proofs.Making.{labelled, through, made_led, Plain, Owes, ow
 
 -- ---- tests
 
--- what is made of the steps after a test follows the test
+-- what is made from the steps after a test follows the test
 pub test_head : (at : ℕ → Registers) (steps : List Step) (t : Test) → test_of steps ≡ Some t → behind (fused at steps) ≡ fused at (behind steps)
 test_head at [] t e = refl
 test_head at (One (IfNonzero r n) ∷ steps) t e = refl
@@ -87,7 +87,7 @@ pub record IsTruth (s : Step) (v : Truth) : Type 0 where
   pub branches : (arity : ℕ → ℕ) (code steps : List Step) (l : Locations) (h : World) (ws : List ℕ) (nonzero : Bool) (n w : ℕ) → value l ≡ Some w
       → does arity code (v.branch nonzero n ∷ steps) l h ws ≡ Goes (at_steps (led nonzero w steps (place code n)) l h ws)
 
--- a branch on whether a word is zero, by the word
+-- a branch on whether a word is zero, given the word
 zero_led : (b : Bool) (on there : List Step) → (if b then there else on) ≡ led true (truth_value b) on there
 zero_led true on there = refl
 zero_led false on there = refl
@@ -140,7 +140,7 @@ binary_truth o to a b is = record {
   branches = λ arity code steps l h ws nonzero n w e. ap (λ z. tried z (λ v. Goes (at_steps (led nonzero v steps (place code n)) l h ws))) e;
 }
 
--- a branch on whether words differ, by their xor
+-- a branch on whether words differ, given their xor
 xor_same : (a b : ℕ) → xor a b ≡ 0 → a ≡ b
 xor_same a b e = sym (xor_zero_r a) ∙ ap (λ x. bit_xor a x) (sym (xor_self b)) ∙ sym (xor_assoc a b b) ∙ ap (λ x. bit_xor x b) e ∙ xor_zero_l b
 
@@ -199,7 +199,7 @@ immediate_truth o to a w gains = record {
   branches = λ arity code steps l h ws nonzero n u e. ap (λ z. tried z (λ v. Goes (at_steps (led nonzero v steps (place code n)) l h ws))) e;
 }
 
--- if there is a branch for the word that a step makes
+-- a property of the branch for the word that a step makes, if there is one
 if_is : (P : Truth → Type 0) (b : Bool) (u v : Truth) → (b ≡ true → P u) → if_so b u ≡ Some v → P v
 if_is P true u v p e = let q : u ≡ v = cc in subst P q (p refl)
 if_is P false u v p e = none_some v e
@@ -368,7 +368,7 @@ module _ (arity : ℕ → ℕ) (code : List Step) (at : ℕ → Registers) (sett
         related = inl (record { before = []; steps = refl; agree = r.agree; world = refl; words = refl; short = r.short });
       }))
 
-  -- from any related configuration
+  -- what a move owes from any related configuration
   owes_related : (c d : Configuration) → Related c d → Owed (old c) c.steps c.world d
   owes_related c d (inl r) =
       let e : at_steps (labelled r.before (make c.steps)) d.locations c.world c.words ≡ d = λ i. record { steps = sym r.steps i; locations = d.locations; world = r.world i; words = r.words i } in

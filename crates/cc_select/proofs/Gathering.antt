@@ -1,5 +1,5 @@
--- The table of the tests that go before labels, as the code makes it: from the back, the test after each label; then no test for each label
--- to which a branch leads. And the items so far with those of the items to come.
+-- The table of the tests that go before labels, as the code makes it: from the back, the test after each label; then no test for
+-- each label to which a branch leads. The walk: the steps so far, with those of the items to come.
 use Rattle.std.proofs.Common.{◌≡◌, ℕ, ◌+◌, ◌-◌, ◌<◌, ◌≤◌, List, ◌∷◌, ◌++◌, length, get_or, drop, refl, sym, ap, ◌∙◌, Bool, true, false, ◌==◌, ◌||◌, if◌then◌else◌, Option, Some, None, append_assoc, arith}
 use Rattle.std.proofs.lemmas.List.{drop_more, drop_all}
 use Rattle.cc_linear_language.specs.declared.item.LinearItem.{LinearItem}
@@ -101,7 +101,7 @@ cross_ends items at first found le so_far n = ap (λ (xs : List LinearItem). if 
 
 -- ---- the walk
 
--- the steps so far and those of the items to come are all steps
+-- the steps so far, followed by those of the items to come, are all the steps
 abbrev pub Threaded : Tests → List LinearItem → (index : ℕ) → Known → (gone : Bool) → List Step → Type 0
 Threaded ts items i k gone steps = steps ++ chosen k (threaded_by ts k gone (drop i items)) ≡ chosen unknown (threaded_by ts unknown false items)
 

@@ -1,7 +1,7 @@
 -- The parts of a pair of Selected, as the pass has them.
 use Rattle.std.proofs.Common.{◌≡◌, ℕ, List, sym, subst}
 use Rattle.cc_ast.specs.declared.unit.Unit as parsed
-use Rattle.cc_c_laws.specs.declared.mode.Mode.{Mode}
+use Rattle.cc_c_semantics.specs.declared.mode.Mode.{Mode}
 use Rattle.cc_ltl.specs.Ltl.{Ltl}
 use Rattle.cc_select.specs.declared.step.Step.{Step}
 use Rattle.cc_select.specs.Pair.{Pair, IsPair}

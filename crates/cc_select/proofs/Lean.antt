@@ -118,13 +118,13 @@ module _ (arity : ℕ → ℕ) (code : List Step) (at : ℕ → Registers) (sett
       by false e = gone (apply_immediate o (l (Register a)) w) (unread (live at steps to) (not (live at steps a)) e)
   owes (s ∷ steps) ns l k h ws le g = kept s steps ns l k h ws tt le g
 
-  -- from any related configuration
+  -- what a move owes from any related configuration
   owes_related : (c d : Configuration) → Related c d → Owed (selected_move arity code c) c.steps c.world d
   owes_related c d r =
       let e : at_steps (labelled r.before (make c.steps)) d.locations c.world c.words ≡ d = λ i. record { steps = sym r.steps i; locations = d.locations; world = r.world i; words = r.words i } in
       subst (Owed (selected_move arity code c) c.steps c.world) e (owes c.steps r.before c.locations d.locations c.world c.words r.short r.agree)
 
--- code that keeps up with a function keeps up without them, at a slower rate
+-- code that keeps up with a function keeps up without the constants that nobody reads, at a slower rate
 pub lean_tracks : (meaning : Meaning) (f rate slots : ℕ) (code : List Step) (at : ℕ → Registers) → IsSettled at code → ((g : ℕ) → meaning.arity g ≤ 8)
     → TracksForAll meaning f rate (selected_move meaning.arity code) selected_output (selected_start slots code)
     → TracksForAll meaning f (coarser rate (length code)) (selected_move meaning.arity (lean at code)) selected_output (selected_start slots (lean at code))

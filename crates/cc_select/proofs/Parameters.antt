@@ -7,8 +7,8 @@ use Rattle.cc_types.specs.Typed.{IsWithinLimits}
 use Rattle.cc_types.specs.Scope.{FileScope, file_scope_behind, first_file_scope}
 use Rattle.cc_types.specs.declared.rule.RuleError.{RuleError}
 use Rattle.cc_linear_language.specs.Meaning.{Function, functions_from, text_of}
-use Rattle.cc_c_laws.specs.Numbered.{IsMeaning, arity_in}
-use Rattle.cc_c_laws.specs.declared.mode.Mode.{Mode}
+use Rattle.cc_c_semantics.specs.Numbered.{IsMeaning, arity_in}
+use Rattle.cc_c_semantics.specs.declared.mode.Mode.{Mode}
 use Rattle.cc_simulation.specs.Meaning.{Meaning}
 
 prefix_none : (xs ys : List RuleError) → xs ++ ys ≡ [] → xs ≡ []
@@ -41,6 +41,6 @@ few_in (Objects t os ∷ rest) scope g none = few_in rest (file_scope_behind (Ob
 pub few_parameters : (unit : List External) → IsWithinLimits unit → (g : ℕ) → arity_in unit g ≤ 8
 few_parameters unit limits g = few_in unit first_file_scope g (prefix_none (externals_excesses unit) _ limits)
 
--- in its meaning
+-- a function has at most eight parameters in the unit's meaning
 pub few_of_meaning : {mode : Mode} (unit : List External) (meaning : Meaning) → IsWithinLimits unit → IsMeaning mode unit meaning → (g : ℕ) → meaning.arity g ≤ 8
 few_of_meaning unit meaning limits is g = subst (λ (arity : ℕ → ℕ). arity g ≤ 8) (sym is.arity) (few_parameters unit limits g)

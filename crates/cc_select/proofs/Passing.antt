@@ -35,7 +35,7 @@ pub record Keeping (steps : List Step) (sets : List bits.Registers) (at : ℕ) (
 pub keep_begins : (steps : List Step) (sets : List bits.Registers) → Keeping steps sets 0 [] []
 keep_begins steps sets = record { long = refl; so_far = λ t h. refl; same = λ t h j d lt. absurd (omega arith) }
 
--- what a step that is looked at leaves
+-- what is kept once a step has been looked at
 looked : (steps : List Step) (sets : List bits.Registers) (at : ℕ) (step : Step) (set d : bits.Registers) (b : Bool) (t : Table) → at < length steps → step ≡ get_or steps at step → set ≡ get_or sets at d
     → ((s : Registers) → Same (holds set) s → b ≡ stays step s) → AreBehind t steps sets → lean t (drop at steps) ≡ (if b then step ∷ lean t (drop (at + 1) steps) else lean t (drop (at + 1) steps))
 looked steps sets at step set d b t lt is is_set says h =
@@ -155,7 +155,7 @@ abbrev put_branch : Option Step → Step → (done : List Step) → List Step
 put_branch None s done = s ∷ done
 put_branch (Some b) s done = b ∷ behind done
 
--- whether it is the last reader, as `branch_of` asks
+-- whether the test is the last reader, as `branch_of` asks
 abbrev if_last : Table → (Test → Option Step) → Option Test → (steps : List Step) → Option Step
 if_last t f None steps = None
 if_last t f (Some v) steps = if is_last t v steps then f v else None
@@ -208,7 +208,7 @@ test_alone t _ steps v e = absurd (cc)
 fused_step : (t : Table) (s : Step) (steps : List Step) → fused t (s ∷ steps) ≡ put_branch (branch_of t s (test_of steps) steps) s (fused t steps)
 fused_step t s steps = joined_by t s (truth_of s) (branch_on s) (test_of steps) steps (fused t steps) (branches s) ∙ ap (λ x. put_branch x s (fused t steps)) (same_branch t s (test_of steps) steps)
 
--- what a list becomes, by its first branch
+-- what a list becomes, given its first branch
 fused_none : (t : Table) (s : Step) (steps : List Step) → None ≡ first_branch t (s ∷ steps) → fused t (s ∷ steps) ≡ s ∷ fused t steps
 fused_none t s [] e = fused_step t s []
 fused_none t s (next ∷ steps) e =

@@ -17,7 +17,7 @@ use Rattle.cc_select.proofs.Basics.{either_way, if_alike}
 
 -- ---- branches
 
--- a property of both lists is one of the list to which a branch leads
+-- a property of both lists holds of the list to which a branch leads
 pub led_either : (P : List Step → Type 0) (nonzero : Bool) (w : ℕ) (on there : List Step) → P on → P there → P (led nonzero w on there)
 led_either P true w on there p q = either_way P (w == 0) on there p q
 led_either P false w on there p q = either_way P (w == 0) there on q p

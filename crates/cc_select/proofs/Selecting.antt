@@ -1,10 +1,11 @@
--- From a pair of Linear to a pair of Selected: the run by the steps of a function's items keeps up with the function. Its rate is twice
--- that of the items, times the number of steps before constants were left out, and again times the number before comparisons were joined.
+-- From a pair of Linear to a pair of Selected: the run of the steps made from a function's items keeps up with the function. Its
+-- rate is twice that of the items, times the number of steps before constants were left out, and again times the number before
+-- comparisons were joined.
 use Rattle.std.proofs.Common.{ℕ, ◌≤◌, List, length, None}
 use Rattle.cc_ast.specs.Tree.{External}
 use Rattle.cc_types.specs.Typed.{IsWithinLimits}
 use Rattle.cc_linear_language.specs.Meaning.{functions}
-use Rattle.cc_c_laws.specs.declared.mode.Mode.{Mode}
+use Rattle.cc_c_semantics.specs.declared.mode.Mode.{Mode}
 use Rattle.cc_simulation.specs.Meaning.{Meaning}
 use Rattle.cc_simulation.specs.Tracks.{TracksForAll}
 use Rattle.cc_simulation.proofs.Simulating.{coarser}
@@ -56,7 +57,7 @@ keeps_up_selected mode unit f slots items limits distinct (rate, keeps) = (
   λ meaning is. selected_tracks meaning f rate slots items distinct (few_of_meaning unit meaning limits is) (keeps meaning is),
 )
 
--- with what `TypedUnit::externals` says of the unit's limits
+-- with what `TypedUnit::externals` says about the unit's limits
 pub pair_selected : (p : above.Pair) → above.IsPair p → IsWithinLimits (above.tree_of p) → IsPair (record { mode = p.mode; unit = p.unit; function = p.function; ltl = p.ltl; code = selected p.code })
 pair_selected p is limits =
     let unit = above.tree_of p in

@@ -23,13 +23,13 @@ IsTest (IfNonzero r m) = Unit {0}
 IsTest (IfZero r m) = Unit {0}
 IsTest i = ⊥
 
--- where it leads
+-- where a test leads
 abbrev pub target_of : LinearItem → ℕ
 target_of (IfNonzero r m) = m
 target_of (IfZero r m) = m
 target_of i = 0
 
--- whether it leads there
+-- whether a test leads there
 abbrev pub leads : LinearItem → Locations → Bool
 leads (IfNonzero r m) l = not (l (Register r) == 0)
 leads (IfZero r m) l = l (Register r) == 0
@@ -71,7 +71,7 @@ module _ (P : LinearItem → Type 0) (k : Known) (l : Locations) (holds : Holds 
       (λ e. let c = nonzero_known (k r) e in ap (λ v. v == 0) (holds r c.0 c.1) ∙ c.2) f g p
   way_gives i is f g p = absurd is
 
--- whatever is known
+-- what replaces a test is a jump or the test, whatever is known
 pub way_is : (P : LinearItem → Type 0) (k : Known) (t : LinearItem) (n : ℕ) → IsTest t → P (Jump (target_of t)) → P (Jump n) → P t → P (way k t n)
 way_is P k (IfNonzero r m) n is f g p = either_way P (is_taken true (k r)) (Jump m) (if is_taken false (k r) then Jump n else IfNonzero r m) f (either_way P (is_taken false (k r)) (Jump n) (IfNonzero r m) g p)
 way_is P k (IfZero r m) n is f g p = either_way P (is_taken false (k r)) (Jump m) (if is_taken true (k r) then Jump n else IfZero r m) f (either_way P (is_taken true (k r)) (Jump n) (IfZero r m) g p)
@@ -84,7 +84,7 @@ test_before_jump i n is = absurd is
 
 -- ---- where it is
 
--- at the label's place it is after the label
+-- at the label's place the test is after the label
 pub record Gone (code : List LinearItem) (n : ℕ) (t : LinearItem) : Type 0 where
   pub rest : List LinearItem
   pub at : place code n ≡ Label n ∷ t ∷ rest

@@ -165,7 +165,7 @@ module _ (code : List LinearItem) (ts : Tests) (stands : (n : ℕ) (t : LinearIt
     place_made : (n : ℕ) → place made n ≡ seen (ts n) (place code n)
     place_made n = place_is n unknown false code all_fine tt
 
-    -- a configuration at what is made from another's items
+    -- a configuration whose steps are made from another's items
     pub record Exact (c d : Configuration) : Type 0 where
       pub known : Known
       pub holds : Holds known c.locations
@@ -175,7 +175,7 @@ module _ (code : List LinearItem) (ts : Tests) (stands : (n : ℕ) (t : LinearIt
       pub world : d.world ≡ c.world
       pub words : d.words ≡ c.words
 
-    -- a configuration that moves as such a one does
+    -- a configuration that moves as an `Exact` one does
     pub record Normal (c d : Configuration) : Type 0 where
       pub known : Known
       pub holds : Holds known c.locations
@@ -369,7 +369,7 @@ module _ (code : List LinearItem) (ts : Tests) (stands : (n : ℕ) (t : LinearIt
       waits items behind m d at moves =
           subst (λ xs. Owes (does arity code xs l h ws) m h d) (sym (at ∙ (stands n t e).at)) (subst (λ x. Owes x m h d) (sym (test_does arity code t rest l h ws is)) (inl (passed d behind moves)))
 
-      -- there is no jump at its place
+      -- there is no jump at the label's place
       still : rank (place code n) ≡ 0
       still = ap rank (stands n t e).at ∙ by t is
         where

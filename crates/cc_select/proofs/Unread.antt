@@ -1,5 +1,5 @@
--- A run is the same whatever the registers that are not live hold, for any settled table: two configurations at the same steps that agree
--- on what is live there make the same move, to two that agree again (`does_alike`).
+-- For any settled table, a run is the same whatever is in the registers that are not live: two configurations at the same steps
+-- that agree on what is live there make the same move, and agree again after it (`does_alike`).
 use Rattle.std.proofs.Common.{◌≡◌, ℕ, zero, suc, ◌+◌, ◌<◌, ◌≤◌, List, [], ◌∷◌, Option, Some, None, true, false, Bool, refl, sym, ap, ap₂, ◌∙◌, subst, arith}
 use Rattle.std.proofs.lemmas.Bool.Decides.{nat_tests}
 use Rattle.std.specs.Prelude.{if◌then◌else◌, ◌==◌, ◌&&◌, ◌||◌, not, nat_le}
@@ -54,7 +54,7 @@ put_agrees to v w s l k e g = record { registers = λ r i. at r i (to == r) refl
     at r i true q = e
     at r i false q = g.registers r (ap (λ c. not c && s r) q ∙ i)
 
--- a register that is not in the set may be set on one side
+-- a register that is not in the set may be written on one side
 pub put_beside : (to v : ℕ) (s : Registers) (l k : Locations) → s to ≡ false → Agree (without to s) l k → Agree s (put (Register to) v l) k
 put_beside to v s l k dead g = record { registers = λ r i. at r i (to == r) refl; slots = g.slots }
   where
@@ -101,11 +101,11 @@ module _ (arity : ℕ → ℕ) (code : List Step) (at : ℕ → Registers) (sett
   same : (ss : List Step) (l k : Locations) (h : World) (ws : List ℕ) → Agreeing ss l k → Same (at_steps ss l h ws) (at_steps ss k h ws)
   same ss l k h ws g = record { steps = refl; agree = g; world = refl; words = refl }
 
-  -- at a label's place
+  -- locations that agree on what the table has at a label agree at the label's place
   pub there : (n : ℕ) (l k : Locations) → Agree (at n) l k → Agreeing (place code n) l k
   there n l k g = agree_less (at n) (live at (place code n)) l k (λ r i. settled n r i) g
 
-  -- where a branch leads to
+  -- where a branch leads
   led_same : (nonzero : Bool) (w n : ℕ) (ss : List Step) (l k : Locations) (h : World) (ws : List ℕ) → Agree (either (at n) (live at ss)) l k
       → Same (at_steps (led nonzero w ss (place code n)) l h ws) (at_steps (led nonzero w ss (place code n)) k h ws)
   led_same nonzero w n ss l k h ws g =

@@ -10,7 +10,7 @@ use Rattle.cc_select.specs.declared.step.WordOperator.TheVariants.{Add, Sub, Shl
 
 -- ---- what each does
 
--- the operator of Linear that it is
+-- the operator of Linear that an operator on a register and a word computes
 abbrev pub operator_of : WordOperator → binary.Binary
 operator_of Add = operators.Add
 operator_of Sub = operators.Sub
@@ -44,13 +44,13 @@ abbrev pub applied : (exchanged : Bool) → binary.Binary → (register word : �
 applied true o a w = apply_binary o w a
 applied false o a w = apply_binary o a w
 
--- its value for a register's word and a word
+-- the operator's value for a register's word and a word
 abbrev pub apply_immediate : WordOperator → (register word : ℕ) → Option ℕ
 apply_immediate o a w = applied (is_exchanged o) (operator_of o) a w
 
 -- ---- which words it can have
 
--- whether an instruction's immediate can be the word: -2048 to 2047 in two's complement
+-- whether the word fits in an instruction's immediate: -2048 to 2047 in two's complement
 abbrev pub is_short : (word : ℕ) → Bool
 is_short w = nat_lt ((w + 2 ^ 11) % 2 ^ 32) (2 ^ 12)
 
@@ -75,7 +75,7 @@ has_word LtU w = is_short w
 has_word LeS w = is_short (add w 1)
 -- 2^32 - 1 is the greatest unsigned word, and the word after it is 0
 has_word LeU w = is_short (add w 1) && not (w == 2 ^ 32 - 1)
--- "more than 0" is one instruction; "more than another word" would be two, and it is two with the word in its register
+-- "more than 0" is one instruction; "more than another word" would be two, as many as with the word in a register
 has_word GtS w = w == 0
 has_word GtU w = w == 0
 -- a word is at least w exactly if it is not less than w
@@ -91,7 +91,7 @@ exponent w = trailing_zeros w32 w
 abbrev pub is_power : (word : ℕ) → Bool
 is_power w = w == 2 ^ exponent w
 
--- ---- which operators have such a form
+-- ---- which operators have a form
 
 -- an operator on a register and a word, and the word
 abbrev pub Form : Type 0

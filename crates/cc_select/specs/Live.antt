@@ -25,7 +25,7 @@ without a s r = not (a == r) && s r
 abbrev pub either : (s t : Registers) → Registers
 either s t r = s r || t r
 
--- before a move, if these are live after it
+-- the registers that are live before a move, if these are live after it
 abbrev pub live_move : Move → Registers → Registers
 live_move (Between to from) s = with from (without to s)
 live_move (Reload to slot) s = without to s
@@ -35,7 +35,7 @@ live_move (Spill slot from) s = with from s
 abbrev pub is_argument : (register : ℕ) → Bool
 is_argument r = nat_le 10 r && nat_le r 17
 
--- before an item of Linear, if these are live after it
+-- the registers that are live before an item of Linear, if these are live after it
 abbrev pub live_item : LinearItem → (at_label : ℕ → Registers) → Registers → Registers
 live_item (Label label) at s = s
 live_item (Jump to) at s = at to
@@ -52,7 +52,7 @@ live_item Read at s = without 10 (without 17 s)
 live_item Write at s = with 10 (without 17 s)
 live_item Return at s = λ r. 10 == r
 
--- before a step
+-- the registers that are live before a step, if these are live after it
 abbrev pub live_before : Step → (at_label : ℕ → Registers) → Registers → Registers
 live_before (One item) at s = live_item item at s
 live_before (Immediate operator to from word) at s = with from (without to s)
@@ -63,7 +63,7 @@ live_before (StoreNear width object index word from) at s = with index (with fro
 live_before (Branch operator nonzero left right to) at s = with left (with right (either (at to) s))
 live_before (BranchImmediate operator nonzero from word to) at s = with from (either (at to) s)
 
--- before steps
+-- the registers that are live before steps
 abbrev pub live : (at_label : ℕ → Registers) → List Step → Registers
 live at [] = nothing
 live at (step ∷ steps) = live_before step at (live at steps)

@@ -14,16 +14,16 @@ use Rattle.cc_select.specs.declared.step.Step.TheVariants.{One, Immediate, LoadA
 
 -- ---- what is known
 
--- after a register is written
+-- the known sum after a register is written
 abbrev pub unless : (register : ℕ) → Option Sum → Option Sum
 unless r None = None
 unless r (Some s) = if (r == s.to) || (r == s.from) then None else Some s
 
--- after a sum is put in a register
+-- the known sum after a sum is put in a register
 abbrev pub summed : (to from word : ℕ) → Option Sum
 summed to from word = if to == from then None else Some (record { to = to; from = from; word = word })
 
--- after an item; no sum is known after a label, since a run may come there from elsewhere, nor after a call
+-- the known sum after an item; no sum is known after a label, since a run may come there from elsewhere, nor after a call
 abbrev pub sum_item : LinearItem → Option Sum → Option Sum
 sum_item (Label label) z = None
 sum_item (Jump to) z = None
@@ -42,7 +42,7 @@ sum_item Read z = unless 10 (unless 17 z)
 sum_item Write z = unless 17 z
 sum_item Return z = None
 
--- after an operator on a register and a word: a difference is the sum with the word's negative
+-- the known sum after an operator on a register and a word: a difference is the sum with the word's negative
 abbrev pub sum_immediate : WordOperator → (to from word : ℕ) → Option Sum → Option Sum
 sum_immediate Add to from word z = summed to from word
 sum_immediate Sub to from word z = summed to from (neg word)
@@ -65,7 +65,7 @@ abbrev pub sum_in : Option Sum → (register : ℕ) → Option Sum
 sum_in None r = None
 sum_in (Some s) r = if r == s.to then Some s else None
 
--- an access by it, if it is known; else another step
+-- an access by a sum, if it is known; else another step
 abbrev pub with_sum : Option Sum → (other : Step) → (access : Sum → Step) → Step
 with_sum None other access = other
 with_sum (Some s) other access = access s

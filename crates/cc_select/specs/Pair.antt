@@ -5,8 +5,8 @@ use Rattle.cc_ast.specs.Source.{source}
 use Rattle.cc_ast.specs.declared.unit.Unit as parsed
 use Rattle.cc_types.specs.Typed.{IsTyped}
 use Rattle.cc_linear_language.specs.Meaning.{functions}
-use Rattle.cc_c_laws.specs.Numbered.{IsMeaning}
-use Rattle.cc_c_laws.specs.declared.mode.Mode.{Mode}
+use Rattle.cc_c_semantics.specs.Numbered.{IsMeaning}
+use Rattle.cc_c_semantics.specs.declared.mode.Mode.{Mode}
 use Rattle.cc_simulation.specs.Meaning.{Meaning}
 use Rattle.cc_simulation.specs.Tracks.{TracksForAll}
 use Rattle.cc_ltl.specs.Ltl.{Ltl, IsLtl}

@@ -24,7 +24,7 @@ labels [] = []
 labels (One (Label label) ∷ steps) = label ∷ labels steps
 labels (step ∷ steps) = labels steps
 
--- a step of a function with this many slots, in a unit with this many functions: jumps and branches lead to labels of the list, the
+-- a step of a function with `slots` slots, in a unit with `functions` functions: jumps and branches lead to labels of the list, the
 -- operator of a branch is a comparison, and each word of an operator is one that its instructions can have
 abbrev pub IsStep : (slots functions : ℕ) → (labels : List ℕ) → Step → Type 0
 IsStep slots functions labels (One item) = IsItem slots functions labels item
@@ -62,17 +62,18 @@ place [] label = []
 place (One (Label other) ∷ steps) label = if other == label then One (Label other) ∷ steps else place steps label
 place (step ∷ steps) label = place steps label
 
--- after a call's answer: what the call destroys is unknown, and its value is the result
+-- the configuration after a call's answer: what the call destroys is unknown, and the answer's value is the result
 abbrev pub steps_after_answer : List Step → Locations → (words : List ℕ) → Answer → Configuration
 steps_after_answer steps at words a = at_steps steps (put result_location a.value (after_call words at)) a.world (left_after_call words)
 
--- where a branch leads, by its word: to the label's place if the word is not 0 (`nonzero`), or if it is 0 (not `nonzero`); else on
+-- where a branch leads, given its word: to the label's place if the word is not 0 (`nonzero`), or if it is 0 (not `nonzero`);
+-- else on
 abbrev pub led : (nonzero : Bool) → (word : ℕ) → (on there : List Step) → List Step
 led true word on there = if word == 0 then on else there
 led false word on there = if word == 0 then there else on
 
--- The next step, in the whole code; `arity` says how many parameters each function has. A label is no move: the step after it is executed.
--- A run goes wrong after the last step, and if a jump leads to no place.
+-- What the next step does; `code` has all the steps, and `arity` says how many parameters each function has. A label is no move:
+-- the step after it is executed. A run goes wrong after the last step, and if a jump leads to no place.
 abbrev pub does : (arity : ℕ → ℕ) → (code : List Step) → List Step → Locations → World → (words : List ℕ) → Moving Configuration
 does arity code [] at world words = Fails
 does arity code (One (Label label) ∷ steps) at world words = does arity code steps at world words

@@ -20,7 +20,7 @@ use Rattle.cc_select.specs.Table.{table}
 abbrev pub lean : (at_label : ℕ → Registers) → List Step → List Step
 lean at [] = []
 lean at (One (Const to word) ∷ steps) = if live at steps to then One (Const to word) ∷ lean at steps else lean at steps
--- an operator with a word also stays if its register is not live after it: so what is live before it stays so
+-- an operator with a word also stays if its register is not live after it, so that what is live before it does not change
 lean at (Immediate operator to from word ∷ steps) = if live at steps to || not (live at steps from) then Immediate operator to from word ∷ lean at steps else lean at steps
 lean at (step ∷ steps) = step ∷ lean at steps
 
@@ -65,7 +65,7 @@ truth_of step = None
 abbrev pub is_alone : (at_label : ℕ → Registers) → (register : ℕ) → Test → (steps : List Step) → Bool
 is_alone at r t steps = (r == t.register) && (not (live at (behind steps) r) && not (at t.to r))
 
--- a step before other steps; `done` is what those became
+-- a step put before other steps; `done` is what those became
 abbrev pub joined : (at_label : ℕ → Registers) → (step : Step) → Option Truth → Option Test → (steps done : List Step) → List Step
 joined at s (Some v) (Some t) steps done = if is_alone at v.register t steps then v.branch t.nonzero t.to ∷ behind done else s ∷ done
 joined at s (Some v) None steps done = s ∷ done

@@ -51,7 +51,7 @@ abbrev pub before_label : Known → Option LinearItem → (label : ℕ) → List
 before_label k None n = Label n ∷ []
 before_label k (Some test) n = way k test n ∷ Label n ∷ []
 
--- after a test that became a jump, the other jump would never be reached
+-- after a test that became a jump there is no other jump, since it would never be reached
 abbrev pub before_jump : (way : LinearItem) → (label : ℕ) → List LinearItem
 before_jump item n = item ∷ (if is_jump item then [] else Jump n ∷ [])
 
@@ -75,7 +75,8 @@ abbrev pub is_before_gone : Tests → LinearItem → Bool
 is_before_gone ts (Label n) = is_some (ts n)
 is_before_gone ts item = false
 
--- with what is known before the items, and whether the first one is a test that was moved before its label
+-- the items with tests before labels, given what is known before them, and whether the first one is a test that was moved before
+-- its label
 abbrev pub threaded_by : Tests → Known → (gone : Bool) → List LinearItem → List LinearItem
 threaded_by ts k gone [] = []
 threaded_by ts k true (item ∷ items) = threaded_by ts k false items

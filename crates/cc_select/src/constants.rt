@@ -1,4 +1,4 @@
-// The steps without the constants that nobody reads.
+// The steps without the constants that no step reads.
 
 ghost use Rattle.std.specs.Prelude.{◌≡◌, length, IfOk};
 ghost use Rattle.cc_select.specs.Live.{Registers as set};

@@ -54,7 +54,7 @@ fn branch_on_zero(from: Register, test: Test) -> Step
     }
 }
 
-// The comparison that a test of an operator's value makes: words differ exactly if their xor is not 0.
+// The comparison that a test of this operator's value amounts to: words differ exactly if their xor is not 0.
 fn compared(operator: Binary) -> Option<Binary>
     ensures { result ≡ compared operator }
 {
@@ -65,7 +65,7 @@ fn compared(operator: Binary) -> Option<Binary>
     }
 }
 
-// The one branch for a step and a test of the register that it writes.
+// The one branch that replaces a step and a test of the register that the step writes.
 fn branch_on(step: &Step, test: Test) -> Option<Step>
     ensures { result ≡ branch_on step.now (shown test) }
 {
@@ -112,7 +112,7 @@ fn branch_on(step: &Step, test: Test) -> Option<Step>
     }
 }
 
-// The one branch for a step and the step after it.
+// The one branch that replaces the step at this place and the step after it.
 fn branch_at(table: &LiveTable, steps: &[Step], behind: &[Registers], at: usize) -> Option<Step>
     requires at { at < length steps.now }
     requires long { length behind.now ≡ length steps.now }

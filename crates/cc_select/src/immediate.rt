@@ -1,4 +1,4 @@
-// The operators on a register and a word: which words each can have, and which operators of Linear have such a form.
+// The operators on a register and a word: which words each can take, and which operators of Linear have such a form.
 
 ghost use Rattle.std.specs.Prelude.{◌≡◌};
 ghost use Rattle.cc_select.specs.Immediates.{is_short, has_word, is_power, immediate_of, immediate_of_left, is_comparison, gains};
@@ -6,7 +6,7 @@ ghost use Rattle.cc_select.specs.Immediates.{is_short, has_word, is_power, immed
 use crate::step::WordOperator;
 use cc_words::{Binary, add, sub};
 
-// Whether an instruction's immediate can be the word: -2048 to 2047.
+// Whether the word fits in an instruction's immediate: -2048 to 2047.
 fn is_short(word: u32) -> bool
     ensures { result ≡ is_short word }
 {
@@ -42,7 +42,8 @@ fn is_power(word: u32) -> bool
     exponent < 32 && word == 1 << exponent
 }
 
-/// An operator with a word on its right, as an operator on a register and a word. The word may be another one: `x % 8` is `x & 7`.
+/// The form of an operator with a word on its right: an operator on a register and a word. That word can be a different one:
+/// `x % 8` is `x & 7`.
 pub(crate) fn immediate_of(operator: Binary, word: u32) -> Option<(WordOperator, u32)>
     ensures { result ≡ immediate_of operator word }
 {
@@ -69,7 +70,7 @@ pub(crate) fn immediate_of(operator: Binary, word: u32) -> Option<(WordOperator,
     }
 }
 
-/// Does the same for a word on the operator's left.
+/// An operator with a word on its left, as an operator on a register and a word.
 pub(crate) fn immediate_of_left(operator: Binary, word: u32) -> Option<(WordOperator, u32)>
     ensures { result ≡ immediate_of_left operator word }
 {
@@ -99,7 +100,8 @@ pub(crate) fn is_comparison(operator: Binary) -> bool
     )
 }
 
-/// Whether a branch on such a comparison with the word takes fewer instructions than the comparison and a branch on its value.
+/// Whether a branch on a comparison by this operator with the word takes fewer instructions than the comparison and a branch on
+/// its value.
 pub(crate) fn gains(operator: WordOperator, word: u32) -> bool
     ensures { result ≡ gains operator word }
 {

@@ -112,7 +112,7 @@ impl Known {
     }
 }
 
-// An operator with a word, if its instructions can have the word; else another step.
+// The step for an operator with a word, if its instructions can have the word; else `other`.
 fn with_word(form: Option<(WordOperator, u32)>, to: Register, from: Register, other: Step) -> Step
     ensures { result ≡ with_word form to from other }
 {
@@ -127,7 +127,7 @@ fn with_word(form: Option<(WordOperator, u32)>, to: Register, from: Register, ot
     }
 }
 
-// An operator whose left operand may be known.
+// The step for an operator whose left operand may be known.
 fn with_left(
     word: Option<u32>,
     operator: Binary,
@@ -143,7 +143,7 @@ fn with_left(
     }
 }
 
-// An operator whose right operand may be known.
+// The step for an operator whose right operand may be known.
 fn with_right(
     word: Option<u32>,
     operator: Binary,
@@ -159,7 +159,7 @@ fn with_right(
     }
 }
 
-// A load of an element whose number is known; else another step.
+// A load of an element whose number is known; else `other`.
 fn load_at(number: Option<u32>, width: Width, object: u32, to: Register, other: Step) -> Step
     ensures { result ≡ with_number number other (λ w. LoadAt width object to w) }
 {
@@ -174,7 +174,7 @@ fn load_at(number: Option<u32>, width: Width, object: u32, to: Register, other: 
     }
 }
 
-// A store into an element whose number is known; else another step.
+// A store into an element whose number is known; else `other`.
 fn store_at(number: Option<u32>, width: Width, object: u32, from: Register, other: Step) -> Step
     ensures { result ≡ with_number number other (λ w. StoreAt width object w from) }
 {

@@ -1,13 +1,14 @@
-//! Selection: from a function of Linear to the steps from which machine code is made, one by one.
+//! Selection: it turns a function of Linear into the steps from which machine code is made one by one.
 //!
-//! `step` has the steps, and `pair` the type that keeps the fact that a function's steps do what the function does. `specs/Selected.antt`
-//! defines what one step does, and `specs/Selection.antt` the steps of a function's items. Tests go before labels and into jumps. Constants
-//! that are known within a straight piece go into the operations that read them, and sums of a register and a word into the accesses that
-//! use them as numbers. Then what nobody reads is left out, and a comparison and the branch on its truth value become one.
+//! `step` has the steps, and `pair` the type that keeps the fact that a function's steps do what the function does.
+//! `specs/Selected.antt` defines what one step does, and `specs/Selection.antt` the steps of a function's items. Tests go before
+//! labels and into jumps. Constants that are known within a straight piece go into the operations that read them, and sums of a
+//! register and a word go into the accesses that use them as numbers. Then constants and sums that nobody reads are left out, and
+//! a comparison and the branch on its truth value become one.
 //!
-//! `selection` is the whole pass. `immediate` says which operators have a form with a word, `known` which words are known, and `threading`
-//! walks over the items with them. `near` makes accesses by sums. `registers` has sets of registers, `live` the registers that are live
-//! before a step, `table` those at labels, and `constants` and `fuse` are the two passes that need them.
+//! `selection` is the whole pass. `immediate` says which operators have a form with a word, `known` which words are known, and
+//! `threading` walks over the items with them. `near` puts sums into accesses. `registers` has sets of registers, `live` the
+//! registers that are live before a step, `table` those at labels, and `constants` and `fuse` are the two passes that need them.
 #![tactic(auto)]
 
 mod constants;

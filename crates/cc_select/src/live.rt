@@ -1,4 +1,4 @@
-// Which registers are live before a step, from those after it and a table of the labels.
+// Which registers are live before a step, given those after it and a table of the labels.
 
 ghost use Rattle.std.specs.Prelude.{◌≡◌, IfOk, ◌==◌, if◌then◌else◌, ℕ};
 ghost use Rattle.cc_select.specs.Live.{live_move, live_item, live_before};
@@ -11,7 +11,7 @@ use cc_linear_language::LinearItem;
 use cc_ltl::Move;
 use std::alloc::{AllocError, Global};
 
-/// The registers that are live at each label, by its number; `rest` has those of every label past the rows.
+/// For each label, by its number, the registers that are live there; `rest` has those of every label past the rows.
 #[derive(Drop)]
 pub(crate) struct LiveTable {
     rows: Vec<Registers>,
@@ -19,7 +19,7 @@ pub(crate) struct LiveTable {
 }
 
 impl LiveTable {
-    /// No register is live at any label.
+    /// A table in which no register is live at any label.
     pub(crate) fn nowhere(alloc: Global) -> LiveTable
         ensures { SameTable (table_of result) nowhere }
     {
@@ -29,7 +29,7 @@ impl LiveTable {
         }
     }
 
-    /// Every register is live at every label.
+    /// A table in which every register is live at every label.
     pub(crate) fn everywhere(alloc: Global) -> LiveTable
         ensures { SameTable (table_of result) everywhere }
     {
@@ -62,7 +62,7 @@ impl LiveTable {
     }
 }
 
-// What is live before a move.
+// The registers that are live before a move.
 fn live_move(between: Move, behind: Registers) -> Registers
     ensures { holds result ≡ live_move between (holds behind) }
 {
@@ -73,7 +73,7 @@ fn live_move(between: Move, behind: Registers) -> Registers
     }
 }
 
-// What is live before an item.
+// The registers that are live before an item.
 fn live_item(item: &LinearItem, table: &LiveTable, behind: Registers) -> Registers
     ensures { holds result ≡ live_item item.now (table_of table.now) (holds behind) }
 {
@@ -106,7 +106,7 @@ fn live_item(item: &LinearItem, table: &LiveTable, behind: Registers) -> Registe
     }
 }
 
-/// What is live before a step.
+/// The registers that are live before a step.
 pub(crate) fn live_before(step: &Step, table: &LiveTable, behind: Registers) -> Registers
     ensures { holds result ≡ live_before step.now (table_of table.now) (holds behind) }
 {

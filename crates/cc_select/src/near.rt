@@ -13,7 +13,7 @@ use cc_ltl::{Move, Register};
 use cc_words::{Width, sub};
 use std::alloc::{AllocError, Global};
 
-/// One register holds another's word plus a word.
+/// A register holds another register's word plus a word.
 #[derive(Clone, Copy)]
 pub(crate) struct Sum {
     to: Register,
@@ -119,7 +119,7 @@ fn sum_in(known: &Option<Sum>, register: Register) -> Option<Sum>
     }
 }
 
-// A load by the sum in its index, if the sum is known.
+// A load with the sum in its index, if the sum is known; else `other`.
 fn near_load(sum: &Option<Sum>, width: Width, object: u32, to: Register, other: Step) -> Step
     ensures { result ≡ with_sum sum.now other (λ s. LoadNear width object to s.from s.word) }
 {
@@ -135,7 +135,7 @@ fn near_load(sum: &Option<Sum>, width: Width, object: u32, to: Register, other: 
     }
 }
 
-// A store by the sum in its index, if the sum is known.
+// A store with the sum in its index, if the sum is known; else `other`.
 fn near_store(sum: &Option<Sum>, width: Width, object: u32, value: Register, other: Step) -> Step
     ensures { result ≡ with_sum sum.now other (λ s. StoreNear width object s.from s.word value) }
 {
@@ -151,7 +151,7 @@ fn near_store(sum: &Option<Sum>, width: Width, object: u32, value: Register, oth
     }
 }
 
-// The step for an item of Linear, from the sum that is known before it.
+// The step for an item of Linear, given the sum that is known before it.
 fn near_item(known: &Option<Sum>, item: LinearItem) -> Step
     ensures { result ≡ near known.now (One item) }
 {
@@ -172,7 +172,7 @@ fn near_item(known: &Option<Sum>, item: LinearItem) -> Step
     }
 }
 
-// A step, from the sum that is known before it.
+// The step to use for this one, given the sum that is known before it.
 fn near(known: &Option<Sum>, step: Step) -> Step
     ensures { result ≡ near known.now step }
 {

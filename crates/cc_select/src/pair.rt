@@ -11,7 +11,7 @@ ghost use Rattle.cc_select.specs.Selected.{IsSelected};
 ghost use Rattle.cc_select.specs.Pair.{Pair, tree_of, KeepsUp, IsPair};
 
 use crate::step::Step;
-use cc_c_laws::Mode;
+use cc_c_semantics::Mode;
 use cc_ltl::Ltl;
 use cc_types::TypedUnit;
 use std::marker::Model;
@@ -32,7 +32,7 @@ impl Model for SelectedPair {
     ghost use Rattle.std.specs.Arc.{arc_value};
     ghost use Rattle.std.specs.Coded.{codes};
     ghost use Rattle.cc_ast.specs.contracts.unit.Unit as parsed;
-    ghost use Rattle.cc_c_laws.specs.contracts.mode.Mode as modes;
+    ghost use Rattle.cc_c_semantics.specs.contracts.mode.Mode as modes;
     ghost use Rattle.cc_select.specs.Pair.{Pair, IsPair};
 
     ghost Value = { Pair };

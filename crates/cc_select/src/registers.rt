@@ -7,7 +7,7 @@ ghost use Rattle.cc_select.specs.internal.Sets.{holds, surviving, every, alone, 
 /// The register of a call's result, and of the word that is read or written: x10.
 pub(crate) const RESULT: u8 = 10;
 
-/// The register that a read and a write destroy: x17.
+/// The register that is destroyed by reading or writing a word: x17.
 pub(crate) const DESTROYED: u8 = 17;
 
 // The registers that a call keeps: x8, x9 and x18 to x27.

@@ -4,8 +4,8 @@ use cc_linear_language::LinearItem;
 use cc_ltl::Register;
 use cc_words::{Binary, Width};
 
-/// The operators on a register and a word: those that take fewer instructions than with the word in a register, if nothing else reads it
-/// there. `has_word` of `specs/Immediates.antt` says which words each can have.
+/// The operators on a register and a word: those that take fewer instructions this way than with the word in a register, if
+/// nothing else reads it there. `has_word` of `specs/Immediates.antt` says which words each can have.
 #[derive(Clone, Copy)]
 pub enum WordOperator {
     Add,
@@ -64,7 +64,7 @@ pub enum Step {
         index: Register,
         word: u32,
     },
-    /// A store into that element.
+    /// A store into the element whose number is a register's word plus a word.
     StoreNear {
         width: Width,
         object: u32,
@@ -80,7 +80,7 @@ pub enum Step {
         right: Register,
         to: u32,
     },
-    /// The same for a register and a word.
+    /// Like `Branch`, for a register and a word.
     BranchImmediate {
         operator: WordOperator,
         nonzero: bool,

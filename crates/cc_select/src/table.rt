@@ -1,6 +1,6 @@
-// The table of labels. Each sweep goes over the steps from the back and notes what is live at labels, using what the last sweep found. The
-// first table that a check finds to have what is live at each label's place is taken; if 32 sweeps give none, everything is live at each
-// label. The check notes what is live after each step, which the passes need.
+// The table of labels. Each sweep goes over the steps from the back and notes what is live at labels, using what the last sweep
+// found. The pass takes the first table in which a check finds everything that is live at each label's place; if 32 sweeps give
+// none, everything is live at each label. The check notes what is live after each step, which the passes need.
 
 ghost use Rattle.std.specs.Prelude.{◌≡◌, length, IfOk, true};
 ghost use Rattle.cc_select.specs.Table.{Table, table, rows, fits};

@@ -1,8 +1,9 @@
-// Jump threading: a test directly after a label goes before the label and into each jump there, if only jumps lead to the label. So a truth
-// value is tested where it is made, and if the value is known, a jump replaces the test. The steps of the items are chosen along the way.
+// Jump threading: a test directly after a label goes before the label and into each jump there, if only jumps lead to the label.
+// So a truth value is tested where it is made, and if the value is known, a jump replaces the test. The same walk chooses the
+// steps of the items.
 //
-// Two walks make the table of these tests. The first goes from the back and finds the test after each label; the second clears the labels
-// to which branches lead.
+// Two walks make the table of these tests. The first goes from the back and finds the test after each label; the second clears
+// the labels to which branches lead.
 
 ghost use Rattle.std.specs.Prelude.{◌≡◌, ◌++◌, ◌∷◌, [], ℕ, ◌+◌, ◌≤◌, drop, None, false, not, IfOk, vec_len, vec_capacity, if◌then◌else◌, ◌==◌};
 ghost use Rattle.cc_linear_language.specs.declared.item.LinearItem.TheVariants.{Jump};
@@ -16,7 +17,7 @@ use crate::step::Step;
 use cc_linear_language::LinearItem;
 use std::alloc::{AllocError, Global};
 
-/// The test that goes before each label, by its number.
+/// For each label, by its number, the test that goes before it.
 #[derive(Drop)]
 struct Tests {
     rows: Vec<Option<LinearItem>>,
@@ -127,7 +128,7 @@ fn decided(nonzero: bool, word: Option<u32>, to: u32, label: u32, test: LinearIt
     }
 }
 
-// A test before a jump to a label, or before the label itself.
+// What a test becomes before a jump to a label, or before the label itself.
 fn way(known: &Known, test: LinearItem, label: u32) -> LinearItem
     ensures { result ≡ way (known_in known.now) test label }
 {

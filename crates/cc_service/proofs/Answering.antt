@@ -4,11 +4,10 @@ use Rattle.std.specs.Prelude.{if◌then◌else◌}
 use Rattle.std.specs.FinMap.{contains_key, insert, remove}
 use Rattle.cc_library.specs.Apply.{Units, absent, exists}
 use Rattle.cc_library.specs.Name.{is_name}
-use Rattle.cc_history.specs.Calls.{reply_of, reply_of_change}
 use Rattle.cc_history.specs.declared.command.Asked.{Asked}
 use Rattle.cc_history.specs.declared.command.Asked.TheVariants.{Change}
-use Rattle.cc_history.specs.declared.command.Command.{Command}
-use Rattle.cc_history.specs.declared.command.Command.TheVariants as commands
+use Rattle.cc_history.specs.Calls.{Command, reply_of, reply_of_change}
+use Rattle.cc_library.specs.declared.command.Change.TheVariants as commands
 use Rattle.cc_history.specs.declared.entry.Entry.{Entry}
 use Rattle.cc_history.specs.declared.entry.Receipt.{Receipt}
 use Rattle.cc_history.specs.declared.reply.Reply.{Reply}
@@ -16,7 +15,7 @@ use Rattle.cc_history.specs.declared.reply.Reply.TheVariants as reply
 use Rattle.cc_history.specs.History.{Chronicle, MemberView, IsAnswered, IsRecorded}
 use Rattle.cc_recorded.specs.Answers.{CommitAnswers, LookAnswers}
 use Rattle.cc_recorded.specs.Book.{BookView, chronicle_of}
-use Rattle.cc_c_laws.specs.declared.mode.Mode.{Mode}
+use Rattle.cc_c_semantics.specs.declared.mode.Mode.{Mode}
 use Rattle.cc_service.specs.Compiling.{IsCompileRefusal, IsNotPrepared, IsPastText, IsProgram}
 use Rattle.cc_service.specs.Serving.{IsEntered, IsTurnedDown, PutAnswers, refusal_of}
 use Rattle.cc_service.specs.internal.Under.{IsSeen, MakesAnswers}
@@ -140,7 +139,7 @@ not_prepared mode text BadName none = none
 not_prepared mode text (Book f) none = none
 not_prepared mode text (Changed receipt) none = none
 
--- for a text that was not compiled
+-- what is answered for a text that was not compiled
 pub not_put : (mode : Mode) (Asks : Command → Type 0) (name source : List ℕ) (old new : MemberView) → IsTrue (is_name name) → new ≡ old → (fault : ServiceFault) → IsCompileRefusal mode source fault → PutAnswers mode Asks name source old new (Err fault)
 not_put mode Asks name source old new named same (Text f) e = (named, e, same)
 not_put mode Asks name source old new named same (Piece function f) e = (named, e, same)

@@ -1,7 +1,7 @@
 -- What the client sees of a commit that compacts if this makes room.
 use Rattle.std.proofs.Common.{◌≡◌, ◌⊎◌, inl, inr, IfOk, IfErr, Result, Ok, Err, sym, subst}
 use Rattle.cc_disk.specs.declared.disk.Disk.{Ghosts}
-use Rattle.cc_history.specs.declared.command.Command.{Command}
+use Rattle.cc_history.specs.Calls.{Command}
 use Rattle.cc_history.specs.declared.entry.Receipt.{Receipt}
 use Rattle.cc_history.specs.declared.reply.Reply.TheVariants as reply
 use Rattle.cc_history.specs.History.{MemberView}

@@ -1,5 +1,5 @@
--- An update is a look and a change with no other call between them: after a look that found the unit the book refuses the change neither by 32 nor by 36 or 39; and
--- what the client sees of it.
+-- An update is a look and a change with no other call between them: after a look that found the unit, the book refuses the change with none of 32, 36
+-- and 39; and what the client sees of an update.
 use Rattle.std.proofs.Common.{◌≡◌, ◌∙◌, ◌⊎◌, inl, inr, ℕ, ◌+◌, ◌-◌, Bool, true, false, IsTrue, IfOk, IfErr, List, [], ◌∷◌, ◌++◌, length, Option, Some, None, Result, Ok, Err, append_assoc, refl, sym, ap, subst, arith}
 use Rattle.std.specs.Prelude.{IfSome, if◌then◌else◌, is_some, slice_get}
 use Rattle.std.specs.FinMap.{contains_key, get, insert}
@@ -10,11 +10,10 @@ use Rattle.cc_library.specs.unit.StoredUnit.{StoredUnit}
 use Rattle.cc_library.specs.Apply.{Units, absent, after}
 use Rattle.cc_library.specs.Name.{is_name}
 use Rattle.cc_library.specs.Recovered.{RecoversOneOf, View}
-use Rattle.cc_history.specs.Calls.{change_of, reply_of_change, reply_of_found}
 use Rattle.cc_history.specs.declared.command.Asked.{Asked}
 use Rattle.cc_history.specs.declared.command.Asked.TheVariants.{Fetch}
-use Rattle.cc_history.specs.declared.command.Command.{Command}
-use Rattle.cc_history.specs.declared.command.Command.TheVariants.{Replace}
+use Rattle.cc_history.specs.Calls.{Command, reply_of_change, reply_of_found}
+use Rattle.cc_library.specs.declared.command.Change.TheVariants.{Replace}
 use Rattle.cc_history.specs.declared.entry.Entry.{Entry}
 use Rattle.cc_history.specs.declared.entry.Receipt.{Receipt}
 use Rattle.cc_history.specs.declared.reply.Reply.{Reply}
@@ -28,7 +27,7 @@ use Rattle.cc_recorded.specs.Promise.{IsSound}
 use Rattle.cc_recorded.specs.Since.{BookSince}
 use Rattle.cc_recorded.specs.declared.fault.BookFault.{BookFault}
 use Rattle.cc_recorded.specs.declared.fault.BookFault.TheVariants as book
-use Rattle.cc_c_laws.specs.declared.mode.Mode.{Mode}
+use Rattle.cc_c_semantics.specs.declared.mode.Mode.{Mode}
 use Rattle.cc_service.specs.Compiling.{IsCompileRefusal, IsProgram}
 use Rattle.cc_service.specs.Serving.{IsEntered, IsOf, IsTurnedDown, Replaces}
 use Rattle.cc_service.specs.Stored.{IsStored}
@@ -87,14 +86,14 @@ May book.DiskFault = Unit {0}
 May book.OutOfMemory = Unit {0}
 
 module _ {Disk : Type 0} (D : Ghosts Disk) where
-  -- a change is refused by none of 36, 39 and 32
+  -- a change is refused with none of 36, 39 and 32
   record IsReady (b : BookView Disk) (name : List ℕ) (heard : MemberView) : Type 0 where
     idle : b.library.closed ≡ false
     unit : StoredUnit
     found : get b.library.units name ≡ Some unit
     stands : LastStands b.history heard.receipts
 
-  -- it is so after a look-up
+  -- after a look-up the book is ready
   ready_after : (before between : BookView Disk) (old heard : MemberView) (name : List ℕ) (seen : Receipt) (unit : StoredUnit) → before.library.closed ≡ false
       → LookAnswers before old (Fetch name) between heard (Ok seen) → get before.library.units name ≡ Some unit → IsReady between name heard
   ready_after before between old heard name seen unit idle looked found =
@@ -109,7 +108,7 @@ module _ {Disk : Type 0} (D : Ghosts Disk) where
         stands = λ receipt is. subst (λ (o : Option Receipt). IfSome o (λ r. Stands between.history r)) (sym mine ∙ is) entered;
       }
 
-  -- and after a compaction
+  -- and after a compaction it is ready too
   ready_on : (b c : BookView Disk) (name : List ℕ) (heard : MemberView) (done : Unit {0}) → CompactAnswers D.failures b c (let r : Result (Unit {0}) BookFault = Ok done in r) → IsReady b name heard → IsReady c name heard
   ready_on b c name heard done it ready = record {
     idle = ap (λ (x : BookView Disk). x.library.closed) it.3;
@@ -150,7 +149,7 @@ module _ {Disk : Type 0} (D : Ghosts Disk) where
       behind c (Ok done) commits = turned_down_where_err D.failures c heard command after_it new answer commits.0
       behind c (Err why) commits = subst (λ (r : Result Receipt BookFault). IfErr r (λ f. IsTurnedDown (λ c. c ≡ command) heard new f)) (sym commits.0) commits.2
 
-  -- it has an entry, whose number is the next one
+  -- the change has an entry, whose number is the next one
   change_entered : (b after_it : BookView Disk) (heard new : MemberView) (command : Command) (receipt : Receipt)
       → IsBookChanged D b heard command after_it new (Ok receipt) ⊎ IsCompactedFor D b heard command after_it new (Ok receipt)
       → IsEntered (λ c. c ≡ command) heard reply.Done new receipt × (receipt.number ≡ length b.history + 1)
@@ -164,9 +163,9 @@ module _ {Disk : Type 0} (D : Ghosts Disk) where
           (entered_where_ok D.failures c heard command after_it new (Ok receipt) commits.0, commits.0.0.recorded.number ∙ ap (λ (x : BookView Disk). length x.history + 1) compacts.3)
       behind c (Err why) compacts commits = absurd (let is = commits.0 in cc)
 
-  -- ---- what it leaves on the disk
+  -- ---- what an update leaves on the disk
 
-  -- a look that was refused leaves the book
+  -- a look that was refused leaves the book as it was
   pub look_leaves : (before after_it : BookView Disk) (old new : MemberView) (asked : Asked) (fault : BookFault) → LookAnswers before old asked after_it new (Err fault) → after_it ≡ before
   look_leaves before after_it old new asked (book.Estranged number found) it = it.1
   look_leaves before after_it old new asked book.OutOfMemory it = it.0
@@ -176,28 +175,28 @@ module _ {Disk : Type 0} (D : Ghosts Disk) where
   look_leaves before after_it old new asked book.Closed it = absurd it
   look_leaves before after_it old new asked book.DiskFault it = absurd it
 
-  -- so whatever the change is that does not come
+  -- a book to which nothing happened is as required, whatever change was asked for
   pub nothing_at_once : (before after_it : BookView Disk) (command : Command) → after_it ≡ before
       → (IsTrue D.honest → (image : List ℕ) → D.left_since before.library.disk (D.moment before.library.disk) image → D.may_leave before.library.disk image) → AllRecover D before
       → (before.library.closed ≡ false → before.failed ≡ []) → ChangesAtOnce D command before after_it
   nothing_at_once before after_it command same only_now images idle =
-      subst (λ (b : BookView Disk). ChangesAtOnce D command before b) (sym same) (no_call_between D before (after before.library.units (change_of command)) only_now images idle)
+      subst (λ (b : BookView Disk). ChangesAtOnce D command before b) (sym same) (no_call_between D before (after before.library.units command) only_now images idle)
 
-  -- a change after a look, which leaves the library
+  -- what holds for a change holds for a look and then that change, since a look leaves the library as it was
   pub at_once_after : (before between after_it : BookView Disk) (command : Command) → between.library ≡ before.library → ChangesAtOnce D command between after_it → ChangesAtOnce D command before after_it
   at_once_after before between after_it command same moments =
-      subst (λ (l : View Disk). IsTrue D.honest → l.closed ≡ false → LeavesOnly D.moment D.left_since l.disk after_it.library.disk (RecoversOneOf l.units (after l.units (change_of command)))) same moments
+      subst (λ (l : View Disk). IsTrue D.honest → l.closed ≡ false → LeavesOnly D.moment D.left_since l.disk after_it.library.disk (RecoversOneOf l.units (after l.units command))) same moments
 
-  -- the books after a look, and those after what comes then
+  -- if the books since a are those up to b, and the books since b are those up to c, then the books since a are those up to c
   pub since_after : (a b c : BookSince Disk) → b.since ≡ a.since ++ b.book ∷ [] → (c ≡ b) ⊎ ((between : List (BookView Disk)) × (c.since ≡ b.since ++ (between ++ c.book ∷ [])))
       → (c ≡ a) ⊎ ((between : List (BookView Disk)) × (c.since ≡ a.since ++ (between ++ c.book ∷ [])))
   since_after a b c one (inl same) = inr ([], subst (λ (x : BookSince Disk). x.since ≡ a.since ++ x.book ∷ []) (sym same) one)
   since_after a b c one (inr two) =
       inr (b.book ∷ two.0, two.1 ∙ ap (λ (l : List (BookView Disk)). l ++ (two.0 ++ c.book ∷ [])) one ∙ append_assoc a.since (b.book ∷ []) (two.0 ++ c.book ∷ []))
 
-  -- ---- of a book
+  -- ---- for a book
 
-  -- a look-up that was refused
+  -- an update whose look-up was refused
   pub look_refused : (before after_it : BookView Disk) (old new : MemberView) (name expected : List ℕ) (command : Command) (fault : BookFault) → before.library.closed ≡ false
       → LookAnswers before old (Fetch name) after_it new (Err fault) → UpdatesBook D before old name expected command after_it new (Err (Book fault))
   look_refused before after_it old new name expected command (book.Estranged number found) idle it = (idle, it.0, it.1, it.2)
@@ -223,7 +222,7 @@ module _ {Disk : Type 0} (D : Ghosts Disk) where
     replied : seen.entry.reply ≡ reply_of_found (get before.library.units name)
     replied = ap (λ (e : Entry). e.reply) looked.0.answered.entry
 
-    -- nothing came after the look-up
+    -- if nothing came after the look-up
     still : after_it ≡ between → new ≡ heard → LookAnswers before old (Fetch name) after_it new (Ok seen)
     still same_book same_member =
         subst (λ (b : BookView Disk). LookAnswers before old (Fetch name) b new (Ok seen)) (sym same_book)
@@ -258,7 +257,7 @@ module _ {Disk : Type 0} (D : Ghosts Disk) where
         subst (λ (r : Result Receipt ServiceFault). UpdatesBook D before old name expected (Replace name made) after_it new r) (sym same.2)
         (changed_so same.0.0 same.0.1 same.0.2 same.1 same.3)
 
-  -- ---- as its client sees it
+  -- ---- as the client sees it
 
   found_answered : (before between : BookView Disk) (old heard : MemberView) (name : List ℕ) (seen : Receipt) (unit : StoredUnit) → LookAnswers before old (Fetch name) between heard (Ok seen)
       → get before.library.units name ≡ Some unit → IsAnswered old (Fetch name) (reply.Unit unit) heard seen
@@ -351,7 +350,7 @@ update mode name expected source made old new of named program (Err WorkersGone)
 update mode name expected source made old new of named program (Err ImageTooLarge) none = absurd none
 update mode name expected source made old new of named program (Err OutOfMemory) none = absurd none
 
--- for a text that was not compiled
+-- what is answered for a text that was not compiled
 pub not_updated : (mode : Mode) (name expected source : List ℕ) (old new : MemberView) → IsTrue (is_name name) → new ≡ old → (fault : ServiceFault) → IsCompileRefusal mode source fault
     → UpdateAnswers mode name expected source old new (Err fault)
 not_updated mode name expected source old new named same (Text f) e = (named, e, same)

@@ -2,7 +2,7 @@
 use Rattle.std.specs.Prelude.{◌≡◌, ◌⊎◌, ◌++◌, ℕ, List, length}
 use Rattle.cc_ast.specs.Tree.{External}
 use Rattle.cc_link.specs.Meaning.{functions}
-use Rattle.cc_c_laws.specs.declared.mode.Mode.{Mode}
+use Rattle.cc_c_semantics.specs.declared.mode.Mode.{Mode}
 use Rattle.cc_link.specs.Compile.{IsTooLargeIn}
 use Rattle.cc_link.specs.Text.{IsProgramText, IsTextRefusal}
 use Rattle.cc_pool.specs.Fault.{IsJobRefusal}
@@ -17,7 +17,7 @@ pub record Handed : Type 0 where
   pub mode : Mode
   pub text : List ℕ
 
--- the text spells a tree that breaks no rule and passes no limit
+-- the text spells a tree that breaks no rule and exceeds no limit
 pub record IsProgram (text : List ℕ) : Type 0 where
   pub tree : List External
   pub is : IsProgramText text tree
@@ -48,7 +48,7 @@ IsNotPrepared text (Book f) = ⊥
 IsNotPrepared text (Changed receipt) = ⊥
 
 -- A text that is not a program is refused as such. Only a program can have another fault: 22 or 24 for the first function that has no piece
--- in the mode; 41; 25 if linking refuses pieces of all functions with it.
+-- in the mode; 41; 25 if linking refuses with it, given pieces of all functions.
 abbrev pub IsCompileRefusal : Mode → List ℕ → ServiceFault → Type 0
 IsCompileRefusal mode text (Text f) = IsTextRefusal text f
 IsCompileRefusal mode text (Piece function f) = IsProgram text × IsJobRefusal mode text (pool.Piece function f)

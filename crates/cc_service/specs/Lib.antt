@@ -13,11 +13,11 @@ pub mod Serving
 pub mod Updating
 -- what a change that was answered has done to the book
 pub mod Stored
--- what is answered to how much of its area the library takes
+-- how much of its area the library takes
 pub mod Space
 -- what serves private contracts
 pub mod internal
--- Pages of lower crates that clauses here cite, handed on.
+-- Pages of lower crates that clauses here cite, re-exported.
 pub use Rattle.cc_recorded.specs.Book
 pub use Rattle.cc_recorded.specs.Fault as BookFault
 pub use Rattle.cc_recorded.specs.Opened

@@ -1,15 +1,15 @@
--- What a call of a service answers, as its client sees it. No client can name the value of the lock at that moment; the book's calls say
+-- What a call of a service answers, as its client sees it. No client can name the value under the lock at that moment; the book's calls say
 -- what becomes of it.
 use Rattle.std.specs.Prelude.{◌≡◌, ◌≢◌, ℕ, ◌-◌, Bool, IsTrue, List, length, Option, Some, slice_get, Result, Ok, Err}
 use Rattle.cc_library.specs.unit.StoredUnit.{StoredUnit}
-use Rattle.cc_c_laws.specs.declared.mode.Mode.{Mode}
+use Rattle.cc_c_semantics.specs.declared.mode.Mode.{Mode}
 use Rattle.cc_link.specs.Agree.{Agree, AgreeIn}
 use Rattle.cc_library.specs.Name.{is_name}
 use Rattle.cc_library.specs.Answers.{OpenFaults}
 use Rattle.cc_library.specs.Apply.{Units}
 use Rattle.cc_library.specs.Recovered.{Recovers}
-use Rattle.cc_history.specs.declared.command.Command.{Command}
-use Rattle.cc_history.specs.declared.command.Command.TheVariants.{Add, Replace, Withdraw}
+use Rattle.cc_history.specs.Calls.{Command}
+use Rattle.cc_library.specs.declared.command.Change.TheVariants.{Add, Replace, Withdraw}
 use Rattle.cc_history.specs.declared.command.Asked.TheVariants.{Change, Fetch, Names}
 use Rattle.cc_history.specs.declared.entry.Entry.{Entry}
 use Rattle.cc_history.specs.declared.entry.Receipt.{Receipt}
@@ -32,17 +32,17 @@ use Rattle.cc_service.specs.declared.fault.ServiceFault.TheVariants.{Opening, Ba
 abbrev pub IsOf : Mode → (source : List ℕ) → StoredUnit → Type 0
 IsOf mode source unit = (unit.source ≡ source) × Agree unit.source unit.image × AgreeIn mode unit.source unit.image
 
--- such a unit of this source is added with this name
+-- such a unit of this source is added under this name
 abbrev pub Adds : Mode → (name source : List ℕ) → Command → Type 0
 Adds mode name source (Add n unit) = (n ≡ name) × IsOf mode source unit
 Adds mode name source _ = ⊥
 
--- it replaces the name's unit
+-- such a unit of this source replaces the name's unit
 abbrev pub Replaces : Mode → (name source : List ℕ) → Command → Type 0
 Replaces mode name source (Replace n unit) = (n ≡ name) × IsOf mode source unit
 Replaces mode name source _ = ⊥
 
--- one or the other
+-- the change that a put asks for, to add or to replace
 abbrev pub Puts : Put → Mode → (name source : List ℕ) → Command → Type 0
 Puts put.Add = Adds
 Puts put.Replace = Replaces
@@ -66,7 +66,7 @@ pub record IsEntered (Asks : Command → Type 0) (old : MemberView) (answer : Re
   pub asked : Asks command
   pub answered : IsAnswered old (Change command) answer new receipt
 
--- the number is that of the client's last receipt, and what was found there is not its entry
+-- the number is that of the client's last receipt, and what was found there in the history is not the receipt's entry
 pub record IsOfAnother (old : MemberView) (number : ℕ) (found : Option Entry) : Type 0 where
   pub last : Receipt
   pub is_last : slice_get old.receipts (length old.receipts - 1) ≡ Some last
@@ -109,7 +109,7 @@ IsTurnedAway old new (book.Estranged number found) = IsOfAnother old number foun
 IsTurnedAway old new book.OutOfMemory = new ≡ old
 IsTurnedAway old new _ = ⊥
 
--- so is `get`, and also by 32, with a receipt, if the name has no unit
+-- `get` is refused in the same way, and also with 32, which has a receipt, if the name has no unit
 abbrev pub IsNotFound : (name : List ℕ) (old new : MemberView) → BookFault → Type 0
 IsNotFound name old new (book.Absent receipt) = IsAnswered old (Fetch name) reply.Absent new receipt
 IsNotFound name old new (book.Estranged number found) = IsTurnedAway old new (book.Estranged number found)
@@ -146,22 +146,23 @@ IsNotCompacted book.Closed = Unit {0}
 IsNotCompacted book.OutOfMemory = Unit {0}
 IsNotCompacted _ = ⊥
 
--- Why a service is not opened: as the library's opening has it; if that is Ok, 41 or 40 from the workers, and an honest disk's bytes then
--- recover to this map.
+-- Why a service is not opened: what the library's opening answers; if that is Ok, 41 or 40 from the workers, and an honest disk's bytes
+-- then recover to this map.
 abbrev pub IsNotOpened : (honest : Bool) (seen : List ℕ) (base : Units) (before after : ℕ) → ServiceFault → Type 0
 IsNotOpened honest seen base before after (Opening f) = OpenFaults honest seen before after f
 IsNotOpened honest seen base before after WorkersGone = (after ≡ before) × (IsTrue honest → Recovers seen base)
 IsNotOpened honest seen base before after OutOfMemory = (after ≡ before) × (IsTrue honest → Recovers seen base)
 IsNotOpened honest seen base before after _ = ⊥
 
--- why its workers could not be started: 41 or 40
+-- why the workers of a service could not be started: 41 or 40
 abbrev pub IsNotStarted : ServiceFault → Type 0
 IsNotStarted WorkersGone = Unit {0}
 IsNotStarted OutOfMemory = Unit {0}
 IsNotStarted _ = ⊥
 
--- Why a service is not ended: 40; or 39, and there is a history, legal from the map with which the service began, with which a receipt of
--- these clients does not match, the first such one, together with what is there instead; or these are not all the clients that were made.
+-- Why a service is not ended: 40; or 39, and then there is a history, legal from the map with which the service began. Either a receipt
+-- of these clients does not match it: the fault has the first such one, together with what is there instead. Or these are not all the
+-- clients that were made.
 pub record IsNotEnded (honest : Bool) (base : Units) (clients : List MemberView) (fault : ServiceFault) : Type 0 where
   pub found : Units
   pub found_is : IsTrue honest → found ≡ base

@@ -9,8 +9,8 @@ use Rattle.cc_history.specs.History.{entry_at, units_after}
 use Rattle.cc_recorded.specs.Book.{BookView}
 use Rattle.cc_recorded.specs.Promise.{IsSound}
 
--- When it was answered there was a book of this service, which keeps what every book of it does, and the call was one of its entries. What
--- a crash left then recovers to the first map after all of its entries, and to no other.
+-- At the moment of the answer there was a book of this service, which keeps what every book of the service keeps, and the call was one of
+-- its entries. What a crash left then recovers to the map that all of its entries make of the first map, and to no other.
 pub record IsStored {Disk : Type 0} (D : Ghosts Disk) (base : Units) (from : ℕ) (left : List ℕ → Type 0) (receipt : Receipt) : Type 0 where
   pub book : BookView Disk
   pub sound : IsSound D base from left book

@@ -1,13 +1,13 @@
--- What an update answers: a unit replaces that of a name if that one's source is the expected one. It is a look-up of the name and the
--- change, with no other call between them: the look-up leaves the library of the book as it was, and in the history the change has the
--- number after the look-up's.
+-- What an update answers: a new unit replaces the one under a name if the old one's source is the expected one. It is a look-up of the
+-- name and the change, with no other call between them: the look-up leaves the library of the book as it was, and in the history the
+-- change has the number after the look-up's.
 use Rattle.std.specs.Prelude.{◌≡◌, ◌≢◌, ◌⊎◌, ℕ, ◌+◌, true, false, IsTrue, List, Some, None, Result, Ok, Err}
 use Rattle.std.specs.FinMap.{get}
 use Rattle.cc_disk.specs.declared.disk.Disk.{Ghosts}
 use Rattle.cc_library.specs.unit.StoredUnit.{StoredUnit}
 use Rattle.cc_library.specs.Name.{is_name}
-use Rattle.cc_c_laws.specs.declared.mode.Mode.{Mode}
-use Rattle.cc_history.specs.declared.command.Command.{Command}
+use Rattle.cc_c_semantics.specs.declared.mode.Mode.{Mode}
+use Rattle.cc_history.specs.Calls.{Command}
 use Rattle.cc_history.specs.declared.command.Asked.TheVariants.{Fetch}
 use Rattle.cc_history.specs.declared.entry.Receipt.{Receipt}
 use Rattle.cc_history.specs.declared.reply.Reply.TheVariants as reply
@@ -73,7 +73,7 @@ module _ {Disk : Type 0} (D : Ghosts Disk) where
   UpdatesBook before old name expected command after new (Err ImageTooLarge) = ⊥
   UpdatesBook before old name expected command after new (Err OutOfMemory) = ⊥
 
--- ---- as its client sees it
+-- ---- as the client sees it
 
 -- the name's unit was asked for and found, with a source that has this property, and the receipt is the client's last
 pub record HasFound (name : List ℕ) (Holds : (source : List ℕ) → Type 0) (old new : MemberView) (seen : Receipt) : Type 0 where
@@ -82,7 +82,7 @@ pub record HasFound (name : List ℕ) (Holds : (source : List ℕ) → Type 0) (
   pub answered : IsAnswered old (Fetch name) (reply.Unit unit) new seen
 
 -- The unit was found with the expected source, and the change, which was made, is the next entry of the history: no call of another client
--- is between.
+-- is between them.
 pub record IsUpdated (Asks : Command → Type 0) (name expected : List ℕ) (old new : MemberView) (receipt : Receipt) : Type 0 where
   pub seen : Receipt
   pub heard : MemberView
@@ -90,12 +90,12 @@ pub record IsUpdated (Asks : Command → Type 0) (name expected : List ℕ) (old
   pub entered : IsEntered Asks heard reply.Done new receipt
   pub next : receipt.number ≡ seen.number + 1
 
--- it was found with that source, and no change was made
+-- the unit was found with that source, and no change was made
 abbrev pub HasLooked : (name expected : List ℕ) (old new : MemberView) → Type 0
 HasLooked name expected old new = (seen : Receipt) × HasFound name (λ source. source ≡ expected) old new seen
 
--- how the book refuses it: 32 with the receipt of the look-up; 34 and 35 after a look-up that found the source; 40 before the look-up or
--- after it; 36 and 39 before it
+-- how the book refuses an update: 32 with the receipt of the look-up; 34 and 35 after a look-up that found the source; 40 before the
+-- look-up or after it; 36 and 39 before it
 abbrev pub IsNotUpdated : (name expected : List ℕ) (old new : MemberView) → BookFault → Type 0
 IsNotUpdated name expected old new (book.Absent seen) = IsAnswered old (Fetch name) reply.Absent new seen
 IsNotUpdated name expected old new (book.Estranged number found) = IsOfAnother old number found × (new ≡ old)

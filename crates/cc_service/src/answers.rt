@@ -39,14 +39,14 @@ impl Found {
         Found { receipt }
     }
 
-    /// The receipt. It takes no memory.
+    /// The receipt. The call takes no memory.
     pub fn receipt(&self) -> &Receipt
         ensures { result.now ≡ self.now }
     {
         &self.receipt
     }
 
-    /// The unit. It takes no memory.
+    /// The unit. The call takes no memory.
     pub fn unit(&self) -> &SharedUnit
         ensures { self.now.entry.reply ≡ reply.Unit result.now }
     {
@@ -88,14 +88,14 @@ impl Listing {
         Listing { receipt }
     }
 
-    /// The receipt. It takes no memory.
+    /// The receipt. The call takes no memory.
     pub fn receipt(&self) -> &Receipt
         ensures { result.now ≡ self.now }
     {
         &self.receipt
     }
 
-    /// The names. It takes no memory.
+    /// The names. The call takes no memory.
     pub fn names(&self) -> &NameList
         ensures { self.now.entry.reply ≡ reply.Names result.now }
     {

@@ -1,4 +1,4 @@
-// What a client asks of a book.
+// What a client asks a book to do.
 
 ghost use Rattle.std.specs.Prelude.{◌≡◌, ◌⊎◌, ◌++◌, ◌∷◌, [], List, IfErr, IfOk};
 ghost use Rattle.cc_history.specs.declared.reply.Reply.TheVariants as reply;
@@ -9,7 +9,7 @@ ghost use Rattle.cc_recorded.specs.Compacting.{IsCompactedFor};
 ghost use Rattle.cc_service.specs.Serving.{IsEntered, IsTurnedDown};
 ghost use Rattle.cc_service.specs.Updating.{UpdatesBook};
 ghost use Rattle.cc_service.specs.internal.Under.{HasCompared, UpdatesSeen};
-ghost use Rattle.cc_history.specs.declared.command.Command.TheVariants.{Replace};
+ghost use Rattle.cc_library.specs.declared.command.Change.TheVariants.{Replace};
 
 use crate::client::Client;
 use crate::fault::ServiceFault;
@@ -26,7 +26,7 @@ use std::alloc::Global;
 pub(crate) enum Compared {
     // No unit.
     NoUnit,
-    // A unit with another source than the expected one.
+    // A unit with a source other than the expected one.
     Other,
     // One with that source.
     Same,
@@ -47,8 +47,8 @@ fn comparison_of(seen: &Receipt, expected: &[u8]) -> Compared
 }
 
 impl<N: Named> Client<N> {
-    /// Makes a change of the book: by `commit_compacting` if the client's changes compact, else by `commit`. What becomes of the book is
-    /// what these say.
+    /// Makes a change of the book: with `commit_compacting` if the client's changes compact, else with `commit`. The contracts of these
+    /// say what becomes of the book.
     #[tactic(auto, using(crate::proofs::Answering::entered_where_ok, crate::proofs::Answering::turned_down_where_err, crate::proofs::Mending::compacting_entered, crate::proofs::Mending::compacting_turned_down))]
     pub fn change<D: Disk>(
         &mut self,
@@ -91,7 +91,8 @@ impl<N: Named> Client<N> {
         book.look(alloc, &mut self.member, asked)
     }
 
-    /// Replaces the unit of a name, if that unit's source is the expected one: `look`, and then `change`, with no other call between them.
+    /// Replaces the unit under a name if its source is the expected one: this is `look`, and then `change`, with no other call between
+    /// them.
     ///
     /// Refusals, in this order: 36, 39, 32, 60 if the name's unit has another source, 34, 35. 40 if memory ran out. From 32 on the look-up
     /// has an entry, and its receipt is the client's last.
@@ -122,7 +123,7 @@ impl<N: Named> Client<N> {
         }
     }
 
-    // Does the rest after the look-up.
+    // Does what remains after the look-up.
     pub(crate) fn update_seen<D: Disk>(
         &mut self,
         alloc: Global,

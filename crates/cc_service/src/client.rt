@@ -52,8 +52,8 @@ impl<N: Named> Client<N> {
         }
     }
 
-    /// The same client, but its changes compact the library if 34 would refuse them now and would not after a compaction, as
-    /// `Book::commit_compacting` does.
+    /// The same client, but its changes compact the library if they would be refused with 34 now and would not be after a
+    /// compaction, as `Book::commit_compacting` does.
     pub fn compacting(self) -> Client<N>
         ensures { result ≡ self }
     {
@@ -72,22 +72,22 @@ impl<N: Named> Client<N> {
         self.member.number()
     }
 
-    /// The receipts so far. It takes no memory.
+    /// The receipts so far. The call takes no memory.
     pub fn receipts(&self) -> &[Receipt]
         ensures { result.now ≡ self.now.member.receipts }
     {
         self.member.receipts()
     }
 
-    /// The last receipt. It takes no memory.
+    /// The last receipt. The call takes no memory.
     pub fn last(&self) -> Option<&Receipt>
         ensures { option_map (λ r. r.now) result ≡ slice_get self.now.member.receipts (length self.now.member.receipts - 1) }
     {
         self.receipts().last()
     }
 
-    /// The bytes for which the entries of its receipts after the first `seen` ones are counted, as `held_by` counts them: for a caller that
-    /// has seen that many, the bytes of the new ones.
+    /// The bytes that the entries of its receipts after the first `seen` ones count for, as `held_by` counts them. If the caller has seen
+    /// that many receipts, these are the bytes of the new ones.
     pub fn held_since(&self, seen: usize) -> u64
         ensures { result ≡ at_most_told (receipts_bytes (drop seen self.now.member.receipts)) }
     {

@@ -17,7 +17,7 @@ use cc_recorded::{Book, BookFault, Ended};
 use std::alloc::{AllocError, Global};
 use std::sync::ledger::Share;
 
-/// What is left of a service: the map with which it began, its library, the history, and the receipts of each client, in the order of the
+/// What remains of a service: the map with which it began, its library, the history, and the receipts of each client, in the order of the
 /// clients.
 #[derive(Drop)]
 pub struct Closed<D: Disk> {
@@ -68,7 +68,8 @@ fn gather<N: Named>(rest: &mut Share<N>, clients: Vec<Client<N>>, left: &mut Lef
     }
 }
 
-// Ok if a book can be ended with these clients, as many as were made. Answers the room for what they leave, which is taken first.
+// Ok if a book can be ended with these clients, which have to be as many as were made. The answer is room for what they leave;
+// its memory is taken first.
 pub(crate) fn ready<N: Named, D: Disk>(
     alloc: Global,
     book: &Book<N, D>,
@@ -133,10 +134,11 @@ pub(crate) fn end<N: Named, D: Disk>(
     (closed, passes)
 }
 
-/// Ends a book with its clients, as many as were made, whose shares with the rest are the whole ledger. Their passes are dropped.
+/// Ends a book with its clients. `rest`, together with one part for each of the `made` clients, has to be the whole ledger. The clients'
+/// passes are dropped.
 ///
 /// 39 for the first receipt that does not match the history; 39 with the history's length and no entry if these are not all the clients
-/// that were made; 40 if memory ran out. Everything is handed back then.
+/// that were made; 40 if memory ran out. In each case everything is handed back.
 pub fn close<N: Named, D: Disk>(
     alloc: Global,
     book: Book<N, D>,

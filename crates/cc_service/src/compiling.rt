@@ -60,21 +60,21 @@ impl<N: Named> Model for Prepared<N> {
 }
 
 impl<N: Named> Prepared<N> {
-    /// The text. It takes no memory.
+    /// The text. The call takes no memory.
     pub fn text(&self) -> &[u8]
         ensures { result.now ≡ self.now.text }
     {
         self.unit.text()
     }
 
-    /// The mode for which code was asked. It takes no memory.
+    /// The mode in which code was asked for. The call takes no memory.
     pub fn mode(&self) -> Mode
         ensures { result ≡ self.now.mode }
     {
         self.mode
     }
 
-    /// The number of its functions. It takes no memory.
+    /// The number of its functions. The call takes no memory.
     pub fn functions(&self) -> usize
         ensures { (tree : List External) × IsProgramText self.now.text tree × (result ≡ length (functions tree)) }
     {
@@ -162,7 +162,7 @@ impl<N: Named + Send + Sync + 'static> Prepared<N> {
     }
 }
 
-// The pieces of a job's functions, one for each in their order.
+// The pieces of a job's functions, one for each, in their order.
 fn collected<N: Named + Send + Sync + 'static, R: Wait>(
     rt: &R,
     alloc: Global,
@@ -184,7 +184,7 @@ fn collected<N: Named + Send + Sync + 'static, R: Wait>(
     }
 }
 
-// The unit to which its pieces in a mode are linked.
+// The unit to which the pieces of its functions in a mode are linked.
 fn linked(
     alloc: Global,
     mode: Mode,

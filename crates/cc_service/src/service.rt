@@ -6,8 +6,8 @@ ghost use Rattle.cc_library.specs.Apply.{Units};
 ghost use Rattle.cc_library.specs.Name.{is_name};
 ghost use Rattle.cc_library.specs.Recovered.{Recovers};
 ghost use Rattle.cc_history.specs.Closing.{AreOwn, IsClosed};
-ghost use Rattle.cc_c_laws.specs.declared.mode.Mode.{Mode};
-ghost use Rattle.cc_c_laws.specs.declared.mode.Mode.TheVariants.{Plain};
+ghost use Rattle.cc_c_semantics.specs.declared.mode.Mode.{Mode};
+ghost use Rattle.cc_c_semantics.specs.declared.mode.Mode.TheVariants.{Plain};
 ghost use Rattle.cc_service.specs.Client.{members};
 ghost use Rattle.cc_service.specs.Compiling.{HasHandedIn, HasSentFor, IsNotPrepared, IsPastText};
 ghost use Rattle.cc_recorded.specs.Opened.{IsOpened};
@@ -19,7 +19,7 @@ ghost use Rattle.cc_service.specs.Stored.{IsStored};
 ghost use Rattle.cc_recorded.specs.Answers.{IsLook};
 ghost use Rattle.cc_service.specs.Updating.{UpdateAnswers};
 ghost use Rattle.cc_service.specs.internal.Under.{IsSeen, MakesAnswers, UpdatesBy};
-ghost use Rattle.cc_history.specs.declared.command.Command.TheVariants as commands;
+ghost use Rattle.cc_library.specs.declared.command.Change.TheVariants as commands;
 ghost use Rattle.cc_recorded.specs.declared.fault.BookFault.{BookFault};
 ghost use Rattle.cc_service.specs.declared.fault.ServiceFault.TheVariants as service;
 
@@ -46,11 +46,11 @@ use std::thread::Threads;
 pub enum Put {
     /// The name has no unit yet.
     Add,
-    /// It replaces the name's unit.
+    /// The unit replaces the name's unit.
     Replace,
 }
 
-// The change that puts a unit with a name in the library.
+// The change that puts a unit in the library under a name.
 fn change_of(put: Put, name: Name, unit: CompiledUnit) -> Command
     ensures { (mode : Mode) (source : List ℕ) → IsOf mode source unit → Puts put mode name source result }
 {
@@ -118,8 +118,8 @@ impl<N: Named + Send + Sync + 'static, D: Disk> Service<N, D> {
         requires parts { N.parts ≡ 1025 }
         requires queue { fresh.queue ≡ N.queue }
         requires named { IsTrue D.honest → (units : Units) → Recovers (D.seen disk) units → units ≡ N.base }
-        // It also names a moment up to now, and what a crash has left since then: `finish` says what one leaves later. And a number no
-        // larger than that of the device calls that had failed.
+        // It also names a moment up to now, what a crash may have left since then (`finish` says what one leaves later), and a number
+        // no larger than that of the device calls that had failed.
         requires past { IsTrue D.honest → IsPast D.Disk N.from N.left disk }
         requires failures { N.failures ≤ D.failures disk }
         requires some { 1 ≤ workers }
@@ -235,11 +235,11 @@ impl<N: Named + Send + Sync + 'static, D: Disk> Service<N, D> {
         self.put_in(rt, alloc, client, Mode::Plain, put, name, source)
     }
 
-    /// Compiles a text in a mode and puts its unit in the library: with a name that has none, or in place of the name's unit.
+    /// Compiles a text in a mode and puts its unit in the library: under a name that has none, or in place of the name's unit.
     ///
     /// Refusals, in this order: 33; 7, 1 to 6, 11 to 21 for the text; for the first function whose piece did not come, 22 or 24 if a worker
     /// refused it, else 41; 25; then under the lock 36, 39, 31 (for `Add`) and 32 (for `Replace`), 34, 35. 40 if memory ran out. Only 31
-    /// and 32 come with a receipt. The others leave number and receipts of the client as they were, but its pass may have sent some of the
+    /// and 32 come with a receipt. The others leave the client's number and receipts as they were, but its pass may have sent some of the
     /// functions.
     pub fn put_in<R: Wait>(
         &self,
@@ -255,11 +255,11 @@ impl<N: Named + Send + Sync + 'static, D: Disk> Service<N, D> {
         ensures stored { IfOk result (λ receipt. IsStored D.Disk N.base N.from N.left receipt) }
         ensures sent { HasSentFor source.now client.old.sent client.new.sent }
     {
-        let Ok(name) = Name::new(name) else {
+        let Ok(_) = Name::new(name) else {
             return Err(ServiceFault::BadName);
         };
         match begun(rt, alloc, &self.pool, &mut client.pass, mode, source) {
-            Ok(prepared) => self.put_counted(rt, alloc, client, put, name, prepared),
+            Ok(prepared) => self.put_prepared(rt, alloc, client, put, name, prepared),
             Err(fault) => Err(fault),
         }
     }
@@ -285,7 +285,7 @@ impl<N: Named + Send + Sync + 'static, D: Disk> Service<N, D> {
     /// Hands the functions of a text to the workers, for a `put_prepared` of an image in a mode. It does not wait for them to be compiled:
     /// it waits only while the queue is full.
     ///
-    /// Refusals, in this order: 7, 1 to 6, 11 to 21 for the text; 41. 40 if memory ran out. Each leaves number and receipts of the client
+    /// Refusals, in this order: 7, 1 to 6, 11 to 21 for the text; 41. 40 if memory ran out. Each leaves the client's number and receipts
     /// as they were, as an Ok does; after 40 and 41 its pass may have sent some of the functions.
     pub fn prepare_in<R: Wait>(
         &self,
@@ -308,8 +308,8 @@ impl<N: Named + Send + Sync + 'static, D: Disk> Service<N, D> {
     /// Waits for the functions of a prepared text, and puts its unit in the library, as `put_in` does in that mode.
     ///
     /// Refusals, in this order: 33; for the first function whose piece did not come, 22 or 24 if a worker refused it, else 41; 25; then
-    /// under the lock those of `put`. 40 if memory ran out. Only 31 and 32 come with a receipt; the others leave number and receipts of the
-    /// client as they were. The prepared text is used up in any case.
+    /// under the lock those of `put`. 40 if memory ran out. Only 31 and 32 come with a receipt; the others leave the client's number and
+    /// receipts as they were. The prepared text is used up in any case.
     pub fn put_prepared<R: Wait>(
         &self,
         rt: &R,
@@ -329,59 +329,27 @@ impl<N: Named + Send + Sync + 'static, D: Disk> Service<N, D> {
             drop(prepared);
             return Err(ServiceFault::BadName);
         };
-        self.put_counted(rt, alloc, client, put, name, prepared)
-    }
-
-    // Puts the unit of a prepared text in the library, and counts as a client that waits for it.
-    fn put_counted<R: Wait>(
-        &self,
-        rt: &R,
-        alloc: Global,
-        client: &mut Client<N>,
-        put: Put,
-        name: Name,
-        prepared: Prepared<N>,
-    ) -> Result<Receipt, ServiceFault>
-        requires named { IsTrue (is_name name) }
-        ensures answers { PutAnswers prepared.mode (Puts put prepared.mode name prepared.text) name prepared.text client.old.member client.new.member result }
-        ensures stored { IfOk result (λ receipt. IsStored D.Disk N.base N.from N.left receipt) }
-        ensures past_text { IfErr result (λ fault. IsPastText fault) }
-        ensures sent { client.new.sent ≡ client.old.sent }
-    {
+        // From now until the unit is put, its client counts as one that waits for it.
         self.putting.fetch_add(1, Ordering::SeqCst);
-        let answer = self.put_unit(rt, alloc, client, put, name, prepared);
-        self.putting.fetch_sub(1, Ordering::SeqCst);
-        answer
-    }
-
-    // Puts the unit of a prepared text in the library.
-    fn put_unit<R: Wait>(
-        &self,
-        rt: &R,
-        alloc: Global,
-        client: &mut Client<N>,
-        put: Put,
-        name: Name,
-        prepared: Prepared<N>,
-    ) -> Result<Receipt, ServiceFault>
-        requires named { IsTrue (is_name name) }
-        ensures answers { PutAnswers prepared.mode (Puts put prepared.mode name prepared.text) name prepared.text client.old.member client.new.member result }
-        ensures stored { IfOk result (λ receipt. IsStored D.Disk N.base N.from N.left receipt) }
-        ensures past_text { IfErr result (λ fault. IsPastText fault) }
-        ensures sent { client.new.sent ≡ client.old.sent }
-    {
         match prepared.unit(rt, alloc, &self.pool) {
-            Ok(unit) => self.change(rt, alloc, client, change_of(put, name, unit)),
-            Err(fault) => Err(fault),
+            Ok(unit) => {
+                let answer = self.change(rt, alloc, client, change_of(put, name, unit));
+                self.putting.fetch_sub(1, Ordering::SeqCst);
+                answer
+            }
+            Err(fault) => {
+                self.putting.fetch_sub(1, Ordering::SeqCst);
+                Err(fault)
+            }
         }
     }
 
-    /// Compiles a text in a mode and replaces the unit of a name with it, if that unit's source is the expected one. The comparison and the
-    /// change happen under one lock: in the history no call is between the look-up and the change.
+    /// Compiles a text in a mode and replaces the unit under a name with it, if the old unit's source is the expected one. The comparison
+    /// and the change happen under one lock: in the history no call is between the look-up and the change.
     ///
     /// Refusals, in this order: those of `put_in` up to 25; then under the lock 36, 39, 32, 60 if the name's unit has another source, 34,
     /// 35. 40 if memory ran out. 32 and 60 come with a receipt, that of the look-up; after 34, 35 and a 40 of the change the client has
-    /// that receipt too. The others leave number and receipts of the client as they were. The pass may have sent some of the functions.
+    /// that receipt too. The others leave the client's number and receipts as they were. The pass may have sent some of the functions.
     pub fn update_in<R: Wait>(
         &self,
         rt: &R,
@@ -400,33 +368,18 @@ impl<N: Named + Send + Sync + 'static, D: Disk> Service<N, D> {
             return Err(ServiceFault::BadName);
         };
         match begun(rt, alloc, &self.pool, &mut client.pass, mode, source) {
-            Ok(prepared) => self.update_counted(rt, alloc, client, name, expected, prepared),
+            Ok(prepared) => {
+                // The client counts as one that waits for the unit.
+                self.putting.fetch_add(1, Ordering::SeqCst);
+                let answer = self.update_unit(rt, alloc, client, name, expected, prepared);
+                self.putting.fetch_sub(1, Ordering::SeqCst);
+                answer
+            }
             Err(fault) => Err(fault),
         }
     }
 
-    // Does this with the unit of a prepared text, and counts as a client that waits for it.
-    fn update_counted<R: Wait>(
-        &self,
-        rt: &R,
-        alloc: Global,
-        client: &mut Client<N>,
-        name: Name,
-        expected: &[u8],
-        prepared: Prepared<N>,
-    ) -> Result<Receipt, ServiceFault>
-        requires named { IsTrue (is_name name) }
-        ensures answers { UpdateAnswers prepared.mode name expected.now prepared.text client.old.member client.new.member result }
-        ensures stored { IfOk result (λ receipt. IsStored D.Disk N.base N.from N.left receipt) }
-        ensures sent { client.new.sent ≡ client.old.sent }
-    {
-        self.putting.fetch_add(1, Ordering::SeqCst);
-        let answer = self.update_unit(rt, alloc, client, name, expected, prepared);
-        self.putting.fetch_sub(1, Ordering::SeqCst);
-        answer
-    }
-
-    // Does this with the unit of a prepared text.
+    // Replaces a unit with that of a prepared text, if the old one's source is the expected one.
     fn update_unit<R: Wait>(
         &self,
         rt: &R,
@@ -468,13 +421,13 @@ impl<N: Named + Send + Sync + 'static, D: Disk> Service<N, D> {
         answer
     }
 
-    /// Whether some client waits for a unit that it puts. No clause says so. A client that is in no call itself, and that hands texts in
-    /// early only if this is false, makes no other client wait longer.
+    /// Whether some client waits for a unit that it puts. No clause says this. A client that is in no call itself, and that hands texts
+    /// in early only if this is false, makes no other client wait longer.
     pub fn is_busy(&self) -> bool {
         self.putting.load(Ordering::SeqCst) != 0
     }
 
-    /// Compiles a text and adds its unit with a name that has none: `put` with `Add`.
+    /// Compiles a text and adds its unit under a name that has none: `put` with `Add`.
     pub fn add<R: Wait>(
         &self,
         rt: &R,
@@ -549,7 +502,7 @@ impl<N: Named + Send + Sync + 'static, D: Disk> Service<N, D> {
         }
     }
 
-    /// The unit of a name.
+    /// The unit under a name.
     ///
     /// Refusals, in this order: 33, 39, 32. 40 if memory ran out. Only 32 comes with a receipt; the others leave the client as it was.
     pub fn get<R: Wait>(
@@ -635,8 +588,8 @@ impl<N: Named + Send + Sync + 'static, D: Disk> Service<N, D> {
     /// Ends the service, with all its clients.
     ///
     /// 39 for the first receipt that does not match the history; 39 with the history's length and no entry if these are not all the clients
-    /// that it made; 40 if memory ran out. Service and clients are then handed back, and no worker was stopped. A failure to end the
-    /// workers does not change the answer.
+    /// that it made; 40 if memory ran out. The service and the clients are then handed back, and no worker was stopped. A failure to end
+    /// the workers does not change the answer.
     pub fn finish<R: Wait>(
         self,
         rt: &R,
@@ -644,7 +597,7 @@ impl<N: Named + Send + Sync + 'static, D: Disk> Service<N, D> {
         clients: Vec<Client<N>>,
     ) -> Result<Closed<D>, (ServiceFault, Service<N, D>, Vec<Client<N>>)>
         // One legal history from the base leads to the library. What a crash then leaves of the disk has each acknowledged command; what
-        // one has left at any moment since the opening has a prefix of them.
+        // one may have left at any moment since the opening has a prefix of them.
         ensures sound { IfOk result (λ r. IsSound D.Disk N.base N.from N.left (record { base = r.base; library = r.library; history = r.history.items; failed = r.failed.items })) }
         // Each change that failed did so in a device call that failed since the opening: if none did, whatever a crash leaves has exactly
         // the map.
@@ -654,7 +607,7 @@ impl<N: Named + Send + Sync + 'static, D: Disk> Service<N, D> {
         ensures receipts { IfOk result (λ r. map (λ v. v.items) r.receipts.items ≡ map (λ c. c.receipts) (members clients.items)) }
         ensures own { IfOk result (λ _. AreOwn (members clients.items)) }
         ensures back { IfErr result (λ e. e.2 ≡ clients) }
-        // 39 with an entry is about a receipt of these clients.
+        // If the refusal is 39 and has an entry, it concerns a receipt of one of these clients.
         ensures refused { IfErr result (λ e. IsNotEnded D.honest N.base (members clients.items) e.0) }
     {
         let Service {
@@ -684,9 +637,9 @@ impl<N: Named + Send + Sync + 'static, D: Disk> Service<N, D> {
         }
     }
 
-    /// Ends the service, whoever its clients were, and hands out its disk and whether these are all its clients: every receipt of theirs
-    /// matches the history, no two have the same number, and every entry of the history has a receipt. It takes no memory, so it ends a
-    /// service that `finish` refuses to end, or one that has lost a client.
+    /// Ends the service, whoever its clients were, and returns its disk and whether these are all its clients: every one of their
+    /// receipts matches the history, no two have the same number, and every entry of the history has a receipt. It takes no
+    /// memory, so it ends a service that `finish` refuses to end, or one that has lost a client.
     pub fn give_up<R: Wait>(self, rt: &R, alloc: Global, clients: Vec<Client<N>>) -> (D, bool)
         ensures { IsGivenUp D.Disk N.failures N.base N.from N.left (members clients.items) result.1 result.0 }
     {

@@ -3,7 +3,7 @@ use Rattle.std.proofs.Common.{◌≡◌, List, [], ◌∷◌, Option, None, Resu
 use Rattle.cc_script.specs.declared.command.Dialect.TheVariants.{Plain}
 use Rattle.cc_script.specs.declared.fault.ScriptFault.{ScriptFault}
 use Rattle.cc_history.specs.History.{MemberView}
-use Rattle.cc_c_laws.specs.declared.mode.Mode.{Mode}
+use Rattle.cc_c_semantics.specs.declared.mode.Mode.{Mode}
 use Rattle.cc_session.specs.Session.{HaveCalled}
 use Rattle.cc_session.specs.Playing.{IsPlayedBy, talk}
 use Rattle.cc_session.specs.internal.Steps.{EndsFor}

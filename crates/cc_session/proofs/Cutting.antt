@@ -1,4 +1,4 @@
--- A `run` that was cut, or that was done to its end.
+-- A `run` that was cut off, and one that was done to its end.
 use Rattle.std.proofs.Common.{◌≡◌, List, [], ℕ, Option, Some, None, Result, Ok, Err, refl, sym, subst, inr}
 use Rattle.std.specs.Prelude.{◌⊎◌}
 use Rattle.std.specs.Io.KnownBytes.{append_known}
@@ -9,7 +9,7 @@ use Rattle.cc_script.specs.declared.fault.ScriptFault.{ScriptFault}
 use Rattle.cc_script.specs.declared.fault.ScriptFault.TheVariants.{BadLine, EndOfScript, ScriptTooLong, ReadFault, WriteFault, Stopped}
 use Rattle.cc_history.specs.declared.entry.Receipt.{Receipt}
 use Rattle.cc_history.specs.History.{MemberView}
-use Rattle.cc_c_laws.specs.declared.mode.Mode.{Mode}
+use Rattle.cc_c_semantics.specs.declared.mode.Mode.{Mode}
 use Rattle.cc_service.specs.Serving.{GetAnswers}
 use Rattle.cc_service.specs.declared.fault.ServiceFault.{ServiceFault}
 use Rattle.cc_session.specs.Playing.{CutsLine, Grows, Obeys, Talk, talk}
@@ -27,7 +27,7 @@ IsOther fault = Unit {0}
 not_stopped : {A : Type 0} → Stopped ≡ WriteFault → A
 not_stopped {A} is = absurd (subst (λ (f : ScriptFault). IsOther f) is tt)
 
--- ---- what is written of a unit that was found
+-- ---- what is written for a unit that was found
 
 told_not : (fault : ScriptFault) (most : Option ℕ) (steps : ℕ) (receipt : Receipt) (old new : Option (List ℕ)) (text : List ℕ) → SaysRun steps (Ok receipt) text → fault ≡ WriteFault
     → TellsRunNot most steps receipt old new fault
@@ -43,7 +43,7 @@ pub told_run : {T : Type 0} (result : Result T ScriptFault) (most : Option ℕ) 
 told_run (Ok done) most steps receipt old new text says told = (text, says, told.1)
 told_run (Err fault) most steps receipt old new text says told = told_not fault most steps receipt old new text says told.0
 
--- ---- what is written of a name
+-- ---- what is written for a name
 
 runs_not : (fault : ScriptFault) (most : Option ℕ) (name : List ℕ) (steps : ℕ) (receipt : Receipt) (old new : Talk) → GetAnswers name old.client new.client (Ok receipt)
     → TellsRunNot most steps receipt old.written new.written fault → RunsNot most name steps old new fault
@@ -95,7 +95,7 @@ pub obeyed_run : (mode : Mode) → {T : Type 0} (result : Result T ScriptFault) 
 obeyed_run mode result most asked name steps x old new same it =
     subst (λ (it : Option ScriptRequest). IsObeyed mode most it x x old new result) same (obeyed_by mode result most name steps x old new it)
 
--- its client keeps its receipts
+-- the client of a `run` that was not written keeps its receipts
 grows_not : (fault : ScriptFault) (most : Option ℕ) (name : List ℕ) (steps : ℕ) (old new : Talk) → RunsNot most name steps old new fault → Grows old.client new.client
 grows_not BadLine most name steps old new it = get_grows name old.client new.client it.2.0 it.2.1
 grows_not EndOfScript most name steps old new it = get_grows name old.client new.client it.2.0 it.2.1
@@ -108,7 +108,7 @@ pub run_grows : {T : Type 0} (result : Result T ScriptFault) (most : Option ℕ)
 run_grows (Ok done) most name steps old new it = get_grows name old.client new.client it.0 it.1
 run_grows (Err fault) most name steps old new it = grows_not fault most name steps old new it
 
--- whoever called for a run that was cut, called for one whose answer was that memory ran out
+-- a client whose run was cut off made the same call as one that was answered that memory ran out
 pub cut_obeyed : (mode : Mode) → (asked : Option ScriptRequest) (rest : List ℕ) (old last new : Talk) → new.client ≡ last.client → CutsLine asked old last
     → (w : Option (List ℕ)) × Obeys mode asked rest rest old (talk new.client w)
 cut_obeyed mode (Some (Run name steps)) rest old last new same (receipt, get, cut, written) = (

@@ -1,4 +1,4 @@
--- What was read before a service was opened changes nothing of how it ended.
+-- What was read before a service was opened does not change how it ended.
 use Rattle.std.proofs.Common.{◌≡◌, ◌∙◌, ℕ, List, Bool, true, false, IsTrue, ap, inl, inr, refl, sym, subst, arith}
 use Rattle.std.specs.Prelude.{◌⊎◌}
 use Rattle.cc_disk.specs.declared.disk.Disk.{Ghosts}
@@ -8,14 +8,14 @@ use Rattle.cc_library.specs.Apply.{Units}
 use Rattle.cc_library.specs.Recovered.{Recovers, View}
 use Rattle.cc_library.specs.declared.fault.LibraryFault.{LibraryFault}
 use Rattle.cc_library.specs.declared.fault.LibraryFault.TheVariants as library
-use Rattle.cc_library.specs.Format.{HasHeader}
+use Rattle.cc_journal.specs.Format.{HasHeader}
 use Rattle.cc_history.specs.declared.entry.Entry.{Entry}
 use Rattle.cc_history.specs.Closing.{AreOwn, IsClosed, IsNotWhole}
 use Rattle.cc_history.specs.History.{MemberView}
-use Rattle.cc_service.specs.Book.{BookView}
+use Rattle.cc_recorded.specs.Book.{BookView}
 use Rattle.cc_service.specs.Fault.{fault_number}
-use Rattle.cc_service.specs.Promise.{FailedByDevice, IsGivenUp, IsSound}
-use Rattle.cc_service.specs.Since.{IsPast}
+use Rattle.cc_recorded.specs.Promise.{FailedByDevice, IsGivenUp, IsSound}
+use Rattle.cc_recorded.specs.Since.{IsPast}
 use Rattle.cc_service.specs.Serving.{IsNotOpened, IsNotStarted}
 use Rattle.cc_service.specs.declared.fault.ServiceFault.{ServiceFault}
 use Rattle.cc_service.specs.declared.fault.ServiceFault.TheVariants as service
@@ -24,7 +24,7 @@ use Rattle.cc_session.specs.internal.Ends.{given_up_after}
 use Rattle.cc_session.specs.declared.end.SessionEnd.{SessionEnd}
 use Rattle.cc_session.specs.declared.end.SessionEnd.TheVariants.{Finished, Fault}
 
--- the library's opening, of the bytes that were seen before
+-- the faults of the library's opening, stated for the bytes that were seen before
 pub open_faults_on : (honest : Bool) (seen later : List ℕ) (before after : ℕ) (fault : LibraryFault) → (IsTrue honest → later ≡ seen)
     → OpenFaults honest later before after fault → OpenFaults honest seen before after fault
 open_faults_on honest seen later before after library.DiskFault same it = it
@@ -38,7 +38,7 @@ open_faults_on honest seen later before after library.Absent same it = it
 open_faults_on honest seen later before after library.Full same it = it
 open_faults_on honest seen later before after library.Closed same it = it
 
--- the service's
+-- the faults of the service's opening, stated for the bytes that were seen before
 pub not_opened_on : (honest : Bool) (seen later : List ℕ) (base : Units) (before after : ℕ) (fault : ServiceFault) → (IsTrue honest → later ≡ seen)
     → IsNotOpened honest later base before after fault → IsNotOpened honest seen base before after fault
 not_opened_on honest seen later base before after (service.Opening f) same it = open_faults_on honest seen later before after f same it
@@ -54,7 +54,7 @@ not_opened_on honest seen later base before after service.ImageTooLarge same it 
 not_opened_on honest seen later base before after (service.Book f) same it = it
 not_opened_on honest seen later base before after (service.Changed receipt) same it = it
 
--- its workers were not started
+-- a service whose workers were not started was not opened
 pub not_started : (honest : Bool) (seen : List ℕ) (base : Units) (before after : ℕ) (fault : ServiceFault) → IsNotStarted fault → after ≡ before → (IsTrue honest → Recovers seen base)
     → IsNotOpened honest seen base before after fault
 not_started honest seen base before after service.WorkersGone not same recovers = (same, recovers)
@@ -68,7 +68,7 @@ not_started honest seen base before after service.ImageTooLarge not same recover
 not_started honest seen base before after (service.Book f) not same recovers = not
 not_started honest seen base before after (service.Changed receipt) not same recovers = not
 
--- so a session that was not opened
+-- the same for a session that was not opened
 pub unopened_on : (honest : Bool) (seen later : List ℕ) (before after : ℕ) (end : SessionEnd) → (IsTrue honest → later ≡ seen)
     → IsUnopened honest later before after end → IsUnopened honest seen before after end
 unopened_on honest seen later before after Finished same it = it
@@ -77,20 +77,20 @@ unopened_on honest seen later before after (Fault number) same it =
 
 -- ---- how a service was ended
 
--- all receipts are there
+-- if all receipts are there, a service that was given up ends as the work did, or with 40
 given_up_whole : (played : SessionEnd) → (given_up_after true played ≡ played) ⊎ ((played ≡ Finished) × (given_up_after true played ≡ Fault 40))
 given_up_whole Finished = inr (refl, refl)
 given_up_whole (Fault first) = inl refl
 
 module _ {Disk : Type 0} (D : Ghosts Disk) (failures : ℕ) (named : Units) (from : ℕ) (left : List ℕ → Type 0)
     (bytes : List ℕ) (begun : IsTrue D.honest → Recovers bytes named) (clients : List MemberView) (played : SessionEnd) where
-  -- with all that its end says of the book
+  -- a service that was closed ends as the work did, with all that its end says about the book
   pub kept_by : (book : BookView Disk) (after : Disk) → after ≡ book.library.disk → IsSound D named from left book → FailedByDevice D failures book → IsClosed book.history clients → AreOwn clients
       → IsEnded D failures bytes from left clients played played after
   kept_by book after disk sound blamed closed own =
       inl (inl refl, record { base = named; begun = begun; book = book; disk = sym disk; sound = sound; blamed = blamed; own = own; holds = closed })
 
-  -- it was given up
+  -- how a service ends that was given up
   pub given_up_by : (are_all : Bool) (after : Disk) → IsGivenUp D failures named from left clients are_all after → IsEnded D failures bytes from left clients played (given_up_after are_all played) after
   given_up_by true after it =
       inl (given_up_whole played, record { base = named; begun = begun; book = it.book; disk = it.disk_is; sound = it.sound; blamed = it.blamed; own = it.own; holds = it.closed refl })
@@ -99,7 +99,7 @@ module _ {Disk : Type 0} (D : Ghosts Disk) (failures : ℕ) (named : Units) (fro
 
 -- ---- what was read before it was opened
 
--- what is left of a service, said of the bytes that were seen before
+-- what is left of a service, stated for the bytes that were seen before
 left_on : {Disk : Type 0} (D : Ghosts Disk) (failures : ℕ) (bytes later : List ℕ) (from : ℕ) (left : List ℕ → Type 0) (Holds : List Entry → List MemberView → Type 0) (clients : List MemberView) (after : Disk)
     → (IsTrue D.honest → later ≡ bytes) → IsLeft D failures later from left Holds clients after → IsLeft D failures bytes from left Holds clients after
 left_on D failures bytes later from left Holds clients after same it =
@@ -114,7 +114,7 @@ left_on D failures bytes later from left Holds clients after same it =
       holds = it.holds;
     }
 
--- so of one that was ended or given up
+-- the same for a service that was ended or given up
 ended_on : {Disk : Type 0} (D : Ghosts Disk) (failures : ℕ) (bytes later : List ℕ) (from : ℕ) (left : List ℕ → Type 0) (clients : List MemberView) (played end : SessionEnd) (after : Disk)
     → (IsTrue D.honest → later ≡ bytes) → IsEnded D failures later from left clients played end after → IsEnded D failures bytes from left clients played end after
 ended_on D failures bytes later from left clients played end after same (inl kept) =
@@ -123,11 +123,11 @@ ended_on D failures bytes later from left clients played end after same (inr est
     inr (estranged.0, left_on D failures bytes later from left IsNotWhole clients after same estranged.1)
 
 module _ {Disk : Type 0} (D : Ghosts Disk) where
-  -- nothing was done
+  -- doing nothing only reads
   pub reads_none : (a : Disk) → OnlyReads D.seen D.may_leave D.moment D.left_since a a
   reads_none a = record { same = refl; images = λ image leaves. leaves; later = omega arith; moments = λ t image early left. left }
 
-  -- reads after reads
+  -- reading twice only reads
   pub reads_on : (a b c : Disk) → OnlyReads D.seen D.may_leave D.moment D.left_since a b → OnlyReads D.seen D.may_leave D.moment D.left_since b c → OnlyReads D.seen D.may_leave D.moment D.left_since a c
   reads_on a b c one two = record {
     same = two.same ∙ one.same;
@@ -136,7 +136,7 @@ module _ {Disk : Type 0} (D : Ghosts Disk) where
     moments = λ t image early left. one.moments t image early (two.moments t image (omega (arith, one.later, early)) left);
   }
 
-  -- how a service ended, said of the disk before it was looked at
+  -- how a service ended, stated for the disk before anything was read from it
   on_first : (from : ℕ) (begins : List ℕ → Type 0) (Untouched : Type 0) (HaveDone : List MemberView → SessionEnd → Type 0) (a b after : Disk) (end : SessionEnd)
       → D.failures b ≡ D.failures a → (IsTrue D.honest → OnlyReads D.seen D.may_leave D.moment D.left_since a b)
       → EndsSince D from begins Untouched HaveDone b after end
@@ -157,7 +157,7 @@ module _ {Disk : Type 0} (D : Ghosts Disk) where
             (ended_on D (D.failures b) (D.seen a) (D.seen b) from begins ended.0 ended.1 end after (λ h. (reads h).same) ended.3),
       )
 
-  -- the disk as it was at the beginning
+  -- how a service ended, stated for the disk as it was at the beginning
   pub ends_on : (Untouched : Type 0) (HaveDone : List MemberView → SessionEnd → Type 0) (first a b after : Disk) (end : SessionEnd)
       → first ≡ a → D.failures b ≡ D.failures a → (IsTrue D.honest → OnlyReads D.seen D.may_leave D.moment D.left_since a b)
       → EndsSince D (D.moment first) (D.may_leave first) Untouched HaveDone b after end
@@ -166,7 +166,7 @@ module _ {Disk : Type 0} (D : Ghosts Disk) where
       subst (λ (d : Disk). EndsSince D (D.moment d) (D.may_leave d) Untouched HaveDone a after end) is
       (on_first (D.moment first) (D.may_leave first) Untouched HaveDone a b after end sound reads it)
 
-  -- none was opened, for this reason, which is told
+  -- how serving ends if no service was opened for this reason, which is reported
   pub unserved_by : (from : ℕ) (begins : List ℕ → Type 0) (Untouched : Type 0) (HaveDone : List MemberView → SessionEnd → Type 0) (base : Units)
       (fault : ServiceFault) (a b after : Disk) (end : SessionEnd) → after ≡ b → end ≡ Fault (fault_number fault) → IsNotOpened D.honest (D.seen a) base (D.failures a) (D.failures b) fault
       → (IsTrue D.honest → OnlyReads D.seen D.may_leave D.moment D.left_since a b) → Untouched
@@ -176,7 +176,7 @@ module _ {Disk : Type 0} (D : Ghosts Disk) where
       (subst (λ (e : SessionEnd). EndsSince D from begins Untouched HaveDone a b e) (sym told)
       (inl ((base, fault, refl, why), reads, untouched)))
 
-  -- what a crash may have left at its beginning
+  -- what a crash may have left at the service's beginning
   pub past_at : (first a b : Disk) → ((image : List ℕ) → D.left_since a (D.moment a) image → D.may_leave a image) → first ≡ a → OnlyReads D.seen D.may_leave D.moment D.left_since a b
       → IsPast D (D.moment first) (D.may_leave first) b
   past_at first a b only is reads =
@@ -185,12 +185,12 @@ module _ {Disk : Type 0} (D : Ghosts Disk) where
 
   -- ---- over a library that was opened
 
-  -- its disk's bytes recover to the map that is named
+  -- the bytes of the library's disk recover to the map that the type names
   pub recovers_base : (base : Units) (library : View Disk) → (IsTrue D.honest → Recovers (D.seen library.disk) library.units) → (IsTrue D.honest → library.units ≡ base)
       → IsTrue D.honest → Recovers (D.seen library.disk) base
   recovers_base base library recovers named h = subst (λ (units : Units). Recovers (D.seen library.disk) units) (named h) (recovers h)
 
-  -- why there is no service over it, whose disk was handed back
+  -- why there is no service over a library whose disk was handed back
   pub not_over : (base : Units) (library : View Disk) (after : Disk) (fault : ServiceFault) → (IsTrue D.honest → Recovers (D.seen library.disk) library.units)
       → (IsTrue D.honest → library.units ≡ base) → IsNotStarted fault → after ≡ library.disk
       → IsNotOpened D.honest (D.seen library.disk) base (D.failures library.disk) (D.failures after) fault

@@ -4,12 +4,12 @@ use Rattle.std.proofs.lemmas.List.{append-nil}
 use Rattle.cc_script.specs.declared.fault.ScriptFault.{ScriptFault}
 use Rattle.cc_history.specs.declared.command.Asked.{Asked}
 use Rattle.cc_history.specs.declared.command.Asked.TheVariants.{Change, Fetch, Names}
-use Rattle.cc_history.specs.declared.command.Command.{Command}
+use Rattle.cc_history.specs.Calls.{Command}
 use Rattle.cc_history.specs.declared.entry.Receipt.{Receipt}
 use Rattle.cc_history.specs.declared.reply.Reply.{Reply}
 use Rattle.cc_history.specs.declared.reply.Reply.TheVariants as reply
 use Rattle.cc_history.specs.History.{IsAnswered, MemberView}
-use Rattle.cc_c_laws.specs.declared.mode.Mode.{Mode}
+use Rattle.cc_c_semantics.specs.declared.mode.Mode.{Mode}
 use Rattle.cc_service.specs.Serving.{GetAnswers, IsNotFound, IsTurnedAway, IsTurnedDown, ListAnswers, PutAnswers, WithdrawAnswers, Withdraws}
 use Rattle.cc_service.specs.book_fault.BookFault.{BookFault}
 use Rattle.cc_service.specs.book_fault.BookFault.TheVariants as book

@@ -1,4 +1,4 @@
--- The lines of a script are its steps, each of one byte at least, and where it stopped its client is as they left it.
+-- The lines of a script are its steps, each of at least one byte. If the script stopped, its client is as these steps left it.
 use Rattle.std.proofs.Common.{◌≡◌, ℕ, ◌+◌, ◌<◌, ◌≤◌, List, [], ◌∷◌, ◌++◌, length, take, Option, Some, None, ap, refl, sym, ◌∙◌, subst, arith, inl, inr}
 use Rattle.std.specs.Prelude.{◌⊎◌, ◌≢◌, IfSome}
 use Rattle.std.specs.Io.KnownBytes.{Appends}
@@ -12,7 +12,7 @@ use Rattle.cc_script.specs.declared.fault.ScriptFault.TheVariants.{BadLine, EndO
 use Rattle.cc_script.specs.declared.script.NextLine.TheVariants.{End, Line, TooLong}
 use Rattle.cc_answers.specs.Telling.{script_fault_text}
 use Rattle.cc_history.specs.History.{MemberView}
-use Rattle.cc_c_laws.specs.declared.mode.Mode.{Mode}
+use Rattle.cc_c_semantics.specs.declared.mode.Mode.{Mode}
 use Rattle.cc_session.specs.Playing.{BeginsBad, CutsLine, CutsNext, HasUnended, IsBegun, IsBounded, IsCutIn, IsCutShort, IsEnding, IsEndedBy, IsLight, IsPlayed, IsPlayedInPart, IsPlayedTill, IsPlayedUpTo, IsStep, IsStopped, IsStoppedBy, IsTooLong, IsWithin, Obeys, Plays, Talk, Turn, Writes, asked_by_line, talk}
 use Rattle.cc_session.specs.internal.Steps.{EndsBehind, IsLimit, IsNoLine, IsNotDone, IsObeyedNot, MayGoOn}
 use Rattle.cc_session.proofs.Cutting.{cut_obeyed}
@@ -20,7 +20,7 @@ use Rattle.cc_session.proofs.Playing.{asks_short, between_none, between_on, know
 
 -- ---- lines that are done
 
--- what has been played so far, by so many lines, from this client on
+-- what has been played so far: `count` lines, from `start` to `now`
 pub record Played (mode : Mode) (dialect : Dialect) (most : Option ℕ) (count : ℕ) (start now : Talk) (b a : List ℕ) : Type 0 where
   pub takes : count + length a ≤ length b
   pub few : IsWithin most count
@@ -32,7 +32,7 @@ within_none : (most : Option ℕ) → IsWithin most 0
 within_none None = tt
 within_none (Some most) = omega arith
 
--- one line more may be done where that were not all
+-- if the bound is not reached, one more line is within it
 within_more : (most : Option ℕ) (count : ℕ) → IsWithin most count → most ≢ Some count → IsWithin most (count + 1)
 within_more None count few more = tt
 within_more (Some most) count few more =
@@ -46,7 +46,7 @@ few_of mode dialect most count start now b a it = subst (λ (n : ℕ). IsWithin 
 pub begins : (mode : Mode) → (dialect : Dialect) (most : Option ℕ) (x : Ahead) (now : Talk) → Between x x (Played mode dialect most 0 now now)
 begins mode dialect most x now = between_none x (Played mode dialect most 0 now now) (λ b. record { takes = omega arith; few = within_none most; turns = []; many = refl; plays = (refl, refl) })
 
--- a step that takes a byte
+-- a step that takes at least one byte
 abbrev pub Steps : (mode : Mode) → (dialect : Dialect) (old new : Talk) → List ℕ → List ℕ → Type 0
 Steps mode dialect old new b a = (length a < length b) × IsStep mode dialect b a old new
 
@@ -54,7 +54,7 @@ some_length : (bytes : List ℕ) → bytes ≢ [] → 0 < length bytes
 some_length [] some = absurd (some refl)
 some_length (byte ∷ bytes) some = omega arith
 
--- a line takes a byte
+-- a line takes at least one byte
 line_takes : (before line after : List ℕ) → before ≢ [] → IsLine before line after → length after < length before
 line_takes before line after some is = elim is.ends [
   | inl newline ↦
@@ -86,7 +86,7 @@ step_on mode dialect most x y z count start old new more one two =
 short : (n : ℕ) (line : List ℕ) → n ≤ 128 → length (take n line) ≤ 128
 short n line few = let most = length-take n line in omega (arith, most, few)
 
--- a line is obeyed
+-- a line that is obeyed is a further step
 pub line_on : (mode : Mode) → (dialect : Dialect) (most : Option ℕ) (x y m z : Ahead) (count : ℕ) (start old new : Talk) (n : ℕ) (line : List ℕ) → n ≤ 128 → MayGoOn most start.client count old.client → Between x y (Played mode dialect most count start old)
     → Between y m (λ b a. IsNext b (Line n) line a) → Between m z (λ b a. Obeys mode (asked_of dialect (take n line)) b a old new) → Between x z (Played mode dialect most (count + 1) start new)
 line_on mode dialect most x y m z count start old new n line few more one next obeyed =
@@ -96,7 +96,7 @@ line_on mode dialect most x y m z count start old new n line few more one next o
     let less = line_takes b (take n line) k is.0 is.1 in
     (omega (arith, less, second), obeyed_step mode dialect b k a (take n line) old new (short n line few) is.0 is.1 does)))
 
--- a line that is too long is skipped
+-- a line that is too long and is skipped is a further step
 pub skip_on : (mode : Mode) → (dialect : Dialect) (most : Option ℕ) (x y m z : Ahead) (count : ℕ) (start old new : Talk) (line : List ℕ) → MayGoOn most start.client count old.client → Between x y (Played mode dialect most count start old)
     → Between y m (λ b a. IsNext b TooLong line a) → Between m z (λ b a. (rest : List ℕ) × IsLine b rest a) → Writes (script_fault_text BadLine) old new
     → Between x z (Played mode dialect most (count + 1) start new)
@@ -110,18 +110,18 @@ skip_on mode dialect most x y m z count start old new line more one next skipped
 
 -- ---- scripts that end
 
--- the whole script
+-- at the end of the script all of it is played
 pub script_ends : (mode : Mode) → (dialect : Dialect) (most : Option ℕ) (x y z : Ahead) (count : ℕ) (start now : Talk) (line : List ℕ) → Between x y (Played mode dialect most count start now)
     → Between y z (λ b a. IsNext b End line a) → IfSome x.rest (λ b. IsPlayed mode dialect most b start now)
 script_ends mode dialect most x y z count start now line one next =
     known_then x y (Played mode dialect most count start now) (λ b. b ≡ []) (λ b. IsPlayed mode dialect most b start now) one (known_by y z (λ b a. IsNext b End line a) (λ b. b ≡ []) next (λ b a none. none))
     (λ b m it none. played mode dialect most b start it.turns m now (few_of mode dialect most count start now b m it) it.plays none)
 
--- why it stopped after the lines so far: of what is left, whether a line of it was begun, and `Stops`
+-- why a script stopped after the lines so far: what is left, whether one more line was begun, and `Stops`
 abbrev pub Halts : (dialect : Dialect) (most : Option ℕ) (count : ℕ) (now last : Talk) (Stops : List ℕ → ℕ → List ℕ → MemberView → Type 0) (rest : List ℕ) → Type 0
 Halts dialect most count now last Stops rest = IsBegun (BeginsBad dialect rest) now last × ((script : List ℕ) → IsWithin most count → Stops script count rest now.client)
 
--- it stopped after the lines so far
+-- the script stopped after the lines so far
 up_to : (mode : Mode) → (dialect : Dialect) (most : Option ℕ) (x y : Ahead) (count : ℕ) (start now last : Talk) (Stops : List ℕ → ℕ → List ℕ → MemberView → Type 0) → Between x y (Played mode dialect most count start now)
     → IfSome y.rest (Halts dialect most count now last Stops) → IfSome x.rest (λ b. IsPlayedUpTo mode dialect most b (Stops b) start last)
 up_to mode dialect most x y count start now last Stops one stops =
@@ -146,7 +146,7 @@ anywhere mode dialect most x y count start now last one begun =
 unbegun : (dialect : Dialect) (o : Option (List ℕ)) (now : Talk) → IfSome o (λ rest. IsBegun (BeginsBad dialect rest) now now)
 unbegun dialect o now = known o (λ rest. IsBegun (BeginsBad dialect rest) now now) (λ rest. inl refl)
 
--- for it has more bytes than it may have
+-- a script that has too many bytes is too long
 by_bytes : (most : Option ℕ) (script : List ℕ) (first : MemberView) (lines : ℕ) (rest : List ℕ) (now : MemberView) → 16777216 < length script → IsTooLong most script first lines rest now
 by_bytes None script first lines rest now long = long
 by_bytes (Some most) script first lines rest now long = inl long
@@ -168,16 +168,16 @@ too_long_there mode dialect most x y count start now last whole one more begun =
       stops = by_bytes most b start.client (length it.1.turns) it.1.rest it.1.between.client it.0;
     })
 
--- for as many lines are done as may be, or the receipts hold too much
+-- a script is too long if as many lines are done as are allowed, or if the receipts hold too much
 at_bound : (most : Option ℕ) (script : List ℕ) (first : MemberView) (lines : ℕ) (rest : List ℕ) (now : MemberView) → EndsBehind most first lines now ScriptTooLong → rest ≢ []
     → IsTooLong most script first lines rest now
 at_bound most script first lines rest now bound some = subst (λ (o : Option ℕ). IsTooLong o script first lines rest now) (sym bound.1) (inr (some, bound.2))
 
--- a fault ended it
+-- a fault ended the script
 abbrev pub IsHaltedBy : (mode : Mode) → Dialect → (most : Option ℕ) → (script : Option (List ℕ)) (first last : Talk) → ScriptFault → Type 0
 IsHaltedBy mode dialect most script first last fault = IsEnding most fault × IfSome script (λ b. IsStoppedBy mode dialect most fault b first last)
 
--- the next line could not be read, or not to its end
+-- the script ends if the next line could not be read, or could not be read to its end
 unread_ends : (mode : Mode) → (dialect : Dialect) (most : Option ℕ) (x y : Ahead) (count : ℕ) (start now last : Talk) (left : ℕ) (fault : ScriptFault) → x.left ≡ 16777216 → Between x y (Played mode dialect most count start now)
     → IfSome y.rest (λ rest. IsBegun (BeginsBad dialect rest) now last) → IsNotRead y left fault → IsHaltedBy mode dialect most x.rest start last fault
 unread_ends mode dialect most x y count start now last left BadLine whole one begun why = absurd why
@@ -187,7 +187,7 @@ unread_ends mode dialect most x y count start now last left ReadFault whole one 
 unread_ends mode dialect most x y count start now last left WriteFault whole one begun why = absurd why
 unread_ends mode dialect most x y count start now last left Stopped whole one begun why = absurd why
 
--- more of it is left, which is to be ended so
+-- the script ends if more of it is left, and it is to be ended for that reason
 limit_ends : (mode : Mode) → (dialect : Dialect) (most : Option ℕ) (x y : Ahead) (count : ℕ) (start now : Talk) (fault : ScriptFault) → Between x y (Played mode dialect most count start now)
     → EndsBehind most start.client count now.client fault → IfSome y.rest (λ b. b ≢ []) → IsHaltedBy mode dialect most x.rest start now fault
 limit_ends mode dialect most x y count start now BadLine one bound some = absurd bound
@@ -213,7 +213,7 @@ limit_ends mode dialect most x y count start now Stopped one bound some = (
   }),
 )
 
--- none came, for that reason, or since it can't be read
+-- the script ends if no line came, for that reason, or because it can't be read
 pub no_line_ends : (mode : Mode) → (dialect : Dialect) (most : Option ℕ) (x y : Ahead) (count : ℕ) (start now : Talk) (left : ℕ) (limit : Option ScriptFault) (fault : ScriptFault) → x.left ≡ 16777216
     → Between x y (Played mode dialect most count start now) → IsLimit most start.client count now.client limit → IsNoLine limit y left fault → IsHaltedBy mode dialect most x.rest start now fault
 no_line_ends mode dialect most x y count start now left limit fault whole one bound (inl why) =
@@ -221,11 +221,11 @@ no_line_ends mode dialect most x y count start now left limit fault whole one bo
 no_line_ends mode dialect most x y count start now left limit fault whole one bound (inr (is, some)) =
     limit_ends mode dialect most x y count start now fault one (subst (λ (o : Option ScriptFault). IsLimit most start.client count now.client o) is bound) some
 
--- one came, so it may be done
+-- if a line came, it may be done
 pub line_follows : (most : Option ℕ) (first : MemberView) (lines : ℕ) (now : MemberView) (limit : Option ScriptFault) → IsLimit most first lines now limit → limit ≡ None → MayGoOn most first lines now
 line_follows most first lines now limit bound none = subst (λ (o : Option ScriptFault). IsLimit most first lines now o) none bound
 
--- a line that is too long was refused, which could not be written; or it could not be skipped
+-- the script ends if a line that is too long was refused, but the refusal could not be written, or the line could not be skipped
 pub skip_ends : (mode : Mode) → (dialect : Dialect) (most : Option ℕ) (x y m : Ahead) (count : ℕ) (start old new : Talk) (line : List ℕ) (left : ℕ) (fault : ScriptFault) → x.left ≡ 16777216 → new.client ≡ old.client
     → Between x y (Played mode dialect most count start old) → Between y m (λ b a. IsNext b TooLong line a)
     → (fault ≡ WriteFault) ⊎ (Appends old.written new.written (script_fault_text BadLine) × IsNotRead m left fault) → IsHaltedBy mode dialect most x.rest start new fault
@@ -240,7 +240,7 @@ skip_ends mode dialect most x y m count start old new line left fault whole same
     (known_by y m (λ b a. IsNext b TooLong line a) (λ b. IsBegun (BeginsBad dialect b) old new) next (λ b a is. inr (inl (is.0, a, is.1, is.2, is.3), (same, why.0))))
     (unread_before y m (λ b a. IsNext b TooLong line a) left fault next why.1)
 
--- a line whose source no newline ends
+-- a line whose source is not ended by a newline
 bad_line : (dialect : Dialect) (y m : Ahead) (old new : Talk) (n : ℕ) (line : List ℕ) → n ≤ 128 → Between y m (λ b a. IsNext b (Line n) line a)
     → IsBegun (IfSome m.rest (λ rest. HasUnended (asked_of dialect (take n line)) rest)) old new → IfSome y.rest (λ b. IsBegun (BeginsBad dialect b) old new)
 bad_line dialect y m old new n line few next (inl same) = known y.rest (λ b. IsBegun (BeginsBad dialect b) old new) (λ b. inl same)
@@ -256,7 +256,7 @@ bad_line dialect y m old new n line few next (inr (bad, wrote)) =
       wrote,
     ))
 
--- a line that was not obeyed, or whose answer could not be written
+-- the script ends at a line that was not obeyed, or whose answer could not be written
 line_ends : (mode : Mode) → (dialect : Dialect) (most : Option ℕ) (x y m : Ahead) (count : ℕ) (start old new : Talk) (n : ℕ) (line : List ℕ) (fault : ScriptFault) → n ≤ 128 → MayGoOn most start.client count old.client → x.left ≡ 16777216
     → Between x y (Played mode dialect most count start old) → Between y m (λ b a. IsNext b (Line n) line a)
     → IsNotDone (λ b a o w. Obeys mode (asked_of dialect (take n line)) b a o w) (λ rest. IsCutShort (asked_of dialect (take n line)) rest) (λ rest. HasUnended (asked_of dialect (take n line)) rest) m old new fault
@@ -305,7 +305,7 @@ line_ends mode dialect most x y m count start old new n line WriteFault few more
           ])),
     )
 
--- a `run` was cut
+-- the script ends at a `run` that was cut off
 cut_ends : (mode : Mode) → (dialect : Dialect) (most : Option ℕ) (x y m : Ahead) (count : ℕ) (start old new : Talk) (n : ℕ) (line : List ℕ) → n ≤ 128 → MayGoOn most start.client count old.client
     → Between x y (Played mode dialect most count start old) → Between y m (λ b a. IsNext b (Line n) line a) → IsBounded most → CutsLine (asked_of dialect (take n line)) old new
     → IsHaltedBy mode dialect most x.rest start new Stopped
@@ -331,7 +331,7 @@ cut_ends mode dialect most x y m count start old new n line few more one next bo
       }),
     )
 
--- a line was not obeyed
+-- the script ends at a line that was not obeyed
 pub obey_ends : (mode : Mode) → (dialect : Dialect) (most : Option ℕ) (x y m : Ahead) (count : ℕ) (start old new : Talk) (n : ℕ) (line : List ℕ) (fault : ScriptFault) → n ≤ 128 → MayGoOn most start.client count old.client → x.left ≡ 16777216
     → Between x y (Played mode dialect most count start old) → Between y m (λ b a. IsNext b (Line n) line a) → IsObeyedNot mode most (asked_of dialect (take n line)) m old new fault
     → IsHaltedBy mode dialect most x.rest start new fault
@@ -342,7 +342,7 @@ obey_ends mode dialect most x y m count start old new n line ReadFault few more 
 obey_ends mode dialect most x y m count start old new n line WriteFault few more whole one next ended = line_ends mode dialect most x y m count start old new n line WriteFault few more whole one next ended
 obey_ends mode dialect most x y m count start old new n line Stopped few more whole one next ended = cut_ends mode dialect most x y m count start old new n line few more one next ended.0 ended.1
 
--- more lines than a script may have bytes
+-- a script with more lines than a script may have bytes is too long
 pub lines_end : (mode : Mode) → (dialect : Dialect) (most : Option ℕ) (x y : Ahead) (count : ℕ) (start now : Talk) → 16777216 < count → Between x y (Played mode dialect most count start now)
     → IsHaltedBy mode dialect most x.rest start now ScriptTooLong
 lines_end mode dialect most x y count start now many one = (
@@ -359,7 +359,7 @@ lines_end mode dialect most x y count start now many one = (
       }),
 )
 
--- ---- the line of the fault itself
+-- ---- the line for the fault itself
 
 client_of : (Bad : Type 0) (old new : Talk) → IsBegun Bad old new → new.client ≡ old.client
 client_of Bad old new (inl same) = ap (λ (t : Talk). t.client) same
@@ -370,7 +370,7 @@ part_of : (mode : Mode) → (dialect : Dialect) (most : Option ℕ) (script : Li
 part_of mode dialect most script Stops old between new same it =
     played_up_to mode dialect most script old it.turns it.rest it.between new it.few it.plays (inl (same ∙ client_of (BeginsBad dialect it.rest) it.between between it.begun))
 
--- what is known of a client is known of one that is the same
+-- what is known about a client holds for an equal one
 in_part_of : (mode : Mode) → (dialect : Dialect) (most : Option ℕ) (script : List ℕ) (old between new : Talk) → new.client ≡ between.client → IsPlayedInPart mode dialect most script old between → IsPlayedInPart mode dialect most script old new
 in_part_of mode dialect most script old between new same it =
     played_up_to mode dialect most script old it.turns it.rest it.between new it.few it.plays (elim it.then_is [
@@ -393,13 +393,13 @@ in_part mode dialect most Stopped script old between new same it =
           inr (few, light, cuts.rest, step.0, record { some = it.left; line = cuts.line; rest = cuts.rest; is_line = cuts.is_line; obeyed = step.1 })
     ])
 
--- the script was done as far as the fault says, and then the fault's line was written
+-- the script was done up to the point that the fault says, and then the fault's line was written
 pub line_written : (mode : Mode) → (dialect : Dialect) (most : Option ℕ) (script : Option (List ℕ)) (old between new : Talk) (fault : ScriptFault) → IsEnding most fault × IfSome script (λ b. IsStoppedBy mode dialect most fault b old between)
     → Writes (script_fault_text fault) between new → IsStopped mode dialect most script old new fault
 line_written mode dialect most script old between new fault it wrote =
     (it.0, known_map script (λ b. IsStoppedBy mode dialect most fault b old between) (λ b. IsEndedBy mode dialect most fault b old new) it.1 (λ b by. (between, by, wrote)))
 
--- if the line could not be written the fault is 54
+-- if the line could not be written, the fault is 54
 pub line_unwritten : (mode : Mode) → (dialect : Dialect) (most : Option ℕ) (script : Option (List ℕ)) (old between new : Talk) (fault unwritten : ScriptFault) → new.client ≡ between.client → unwritten ≡ WriteFault
     → IsEnding most fault × IfSome script (λ b. IsStoppedBy mode dialect most fault b old between) → IsStopped mode dialect most script old new unwritten
 line_unwritten mode dialect most script old between new fault unwritten same is it =

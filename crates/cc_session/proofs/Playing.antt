@@ -1,4 +1,4 @@
--- What is known of the rest of a script is carried from step to step.
+-- What is known about the rest of a script is carried from step to step.
 use Rattle.std.proofs.Common.{◌≡◌, ◌∙◌, ℕ, ◌+◌, ◌<◌, ◌≤◌, Bool, true, false, List, [], ◌∷◌, ◌++◌, length, Option, Some, None, Result, Ok, Err, Vec, Global, refl, sym, ap, subst, append_assoc, arith, inl, inr}
 use Rattle.std.specs.Prelude.{◌⊎◌, ◌≢◌, All, IfErr, IfSome, OnOk}
 use Rattle.std.specs.Io.KnownBytes.{Appends, append_known}
@@ -15,7 +15,7 @@ use Rattle.cc_script.specs.declared.script.NextLine.{NextLine}
 use Rattle.cc_script.specs.declared.script.NextLine.TheVariants.{End, Line, TooLong}
 use Rattle.cc_answers.specs.Telling.{Tells, script_fault_text}
 use Rattle.cc_history.specs.History.{MemberView}
-use Rattle.cc_c_laws.specs.declared.mode.Mode.{Mode}
+use Rattle.cc_c_semantics.specs.declared.mode.Mode.{Mode}
 use Rattle.cc_session.specs.Playing.{IsBegun, IsLight, IsPlayed, IsPlayedInPart, IsStep, IsWithin, Obeys, Plays, Talk, Turn, Writes, asked_by_line, talk}
 use Rattle.cc_session.specs.internal.Calls.{DoesAndTells}
 use Rattle.cc_session.specs.internal.Steps.{HasSent, IsDone, IsNotDone, IsSentAs, IsShortOf}
@@ -23,7 +23,7 @@ use Rattle.cc_session.specs.declared.reading.Sent.{Sent}
 
 -- ---- from step to step
 
--- one part behind another, of which neither gave back a byte
+-- one part is read after another; neither gave back a byte
 read_then : (x y z : Option (List ℕ)) (n k m : ℕ) (P Q S : List ℕ → List ℕ → Type 0) → Known x y (IsRead n k P) → Known y z (IsRead k m Q)
     → ((b c a : List ℕ) → length c ≤ length b → length a ≤ length c → P b c → Q c a → S b a) → Known x z (IsRead n m S)
 read_then None y z n k m P Q S one two on = tt
@@ -66,7 +66,7 @@ read_same (Some b) n Q it = record { taken = []; prefix = refl; counted = omega 
 pub between_none : (x : Ahead) (Q : List ℕ → List ℕ → Type 0) → ((b : List ℕ) → Q b b) → Between x x Q
 between_none x Q it = read_same x.rest x.left Q it
 
--- what is known before follows from what is known after
+-- a fact before follows from one after
 read_by : (x y : Option (List ℕ)) (n m : ℕ) (P : List ℕ → List ℕ → Type 0) (Q S : List ℕ → Type 0) → Known x y (IsRead n m P) → IfSome y Q → ((b c : List ℕ) → P b c → Q c → S b) → IfSome x S
 read_by None y n m P Q S one two on = tt
 read_by (Some b) None n m P Q S one two on = absurd one
@@ -90,7 +90,7 @@ pub known_both : (x : Option (List ℕ)) (Q S : List ℕ → Type 0) → IfSome 
 known_both None Q S one two = tt
 known_both (Some b) Q S one two = (one, two)
 
--- more bytes are left than there may be, and so it was before
+-- if more bytes are left than there may be, it was the same before
 more_read : (x y : Option (List ℕ)) (n m : ℕ) (P : List ℕ → List ℕ → Type 0) → Known x y (IsRead n m P) → IfSome y (λ rest. m < length rest) → IfSome x (λ all. n < length all)
 more_read None y n m P one more = tt
 more_read (Some b) None n m P one more = absurd one
@@ -102,7 +102,7 @@ more_read (Some b) (Some a) n m P one more =
 pub more_before : (x y : Ahead) (P : List ℕ → List ℕ → Type 0) → Between x y P → HasMore y → HasMore x
 more_before x y P one more = more_read x.rest y.rest x.left y.left P one more
 
--- so the script is too long
+-- a script of which more bytes are left than there may be is too long
 pub too_long : (x : Ahead) → x.left ≡ 16777216 → HasMore x → IfSome x.rest (λ b. 16777216 < length b)
 too_long x whole more = known_map x.rest (λ b. x.left < length b) (λ b. 16777216 < length b) more (λ b few. omega (arith, whole, few))
 
@@ -113,7 +113,7 @@ pub appended : (a : Option (List ℕ)) (text : List ℕ) → Appends a (append_k
 appended None text = tt
 appended (Some bytes) text = refl
 
--- a step whose text was written, or could not be
+-- a step whose text was written, or could not be written
 pub done_of : {T : Type 0} (answer : Result T ScriptFault) (Does : List ℕ → List ℕ → Talk → Talk → Type 0) (IsShort IsBad : List ℕ → Type 0) (x y : Ahead) (old new : Talk) (text : List ℕ)
     → Tells old.written new.written text answer
     → ((written : Option (List ℕ)) → Appends old.written written text → Between x y (λ b a. Does b a old (talk new.client written))) → IsDone Does IsShort IsBad x y old new answer
@@ -124,7 +124,7 @@ done_of (Err e) Does IsShort IsBad x y old new text told gives =
     (known_by x y (λ b a. Does b a old (talk new.client written)) (λ b. (new.client ≡ old.client) ⊎ ((a : List ℕ) × (w : Option (List ℕ)) × Does b a old (talk new.client w)))
     (gives written (appended old.written text)) (λ b a does. inr (a, written, does)))
 
--- one behind whose line nothing is read
+-- a step that reads nothing after its line
 pub does_of : {T : Type 0} (answer : Result T ScriptFault) (Does : Talk → Talk → Type 0) (Obeyed : List ℕ → List ℕ → Talk → Talk → Type 0) (IsShort IsBad : List ℕ → Type 0) (x : Ahead) (old new : Talk)
     → DoesAndTells Does old new answer → ((b : List ℕ) (n : Talk) → Does old n → Obeyed b b old n) → IsDone Obeyed IsShort IsBad x x old new answer
 does_of (Ok t) Does Obeyed IsShort IsBad x old new it gives = between_none x (λ b a. Obeyed b a old new) (λ b. gives b new it)
@@ -132,7 +132,7 @@ does_of (Err e) Does Obeyed IsShort IsBad x old new it gives =
     subst (λ (fault : ScriptFault). IsNotDone Obeyed IsShort IsBad x old new fault) (sym it.0)
     (known x.rest (λ b. (new.client ≡ old.client) ⊎ ((a : List ℕ) × (w : Option (List ℕ)) × Obeyed b a old (talk new.client w))) (λ b. inr (b, it.1, gives b (talk new.client it.1) it.2)))
 
--- what could not be read behind a part that was read
+-- what could not be read after a part that was read
 pub unread_before : (x y : Ahead) (P : List ℕ → List ℕ → Type 0) (left : ℕ) (fault : ScriptFault) → Between x y P → IsNotRead y left fault → IsNotRead x left fault
 unread_before x y P left BadLine one why = absurd why
 unread_before x y P left EndOfScript one why = absurd why
@@ -141,7 +141,7 @@ unread_before x y P left ReadFault one why = tt
 unread_before x y P left WriteFault one why = absurd why
 unread_before x y P left Stopped one why = absurd why
 
--- a source, or the end of its line
+-- a source, or the end of its line, could not be read
 pub no_source : (x y : Ahead) (P : List ℕ → List ℕ → Type 0) (count left : ℕ) (fault : ScriptFault) → Between x y P → IsNotRead y left fault → IsNoSource x count left fault
 no_source x y P count left BadLine one why = absurd why
 no_source x y P count left EndOfScript one why = absurd why
@@ -150,7 +150,7 @@ no_source x y P count left ReadFault one why = tt
 no_source x y P count left WriteFault one why = absurd why
 no_source x y P count left Stopped one why = absurd why
 
--- then nothing was done
+-- if a source could not be read, nothing was done
 pub not_read : (Does : List ℕ → List ℕ → Talk → Talk → Type 0) (IsShort IsBad : List ℕ → Type 0) (x : Ahead) (left : ℕ) (old new : Talk) (fault : ScriptFault)
     → IsBegun (IfSome x.rest IsBad) old new → IsNotRead x left fault → IsNotDone Does IsShort IsBad x old new fault
 not_read Does IsShort IsBad x left old new BadLine begun why = absurd why
@@ -171,15 +171,15 @@ not_sent Does IsBad x count left h Stopped why = absurd why
 
 -- ---- lines
 
--- a line that is not too long
+-- what a line asks for that is not too long
 pub asks_short : (dialect : Dialect) (line : List ℕ) → length line ≤ 128 → asked_by_line dialect line ≡ asked_of dialect line
 asks_short dialect line short = grind (arith, nat_tests)
 
--- one that is
+-- a line that is too long asks for nothing
 pub asks_long : (dialect : Dialect) (line : List ℕ) → 128 < length line → asked_by_line dialect line ≡ None
 asks_long dialect line long = grind (arith, nat_tests)
 
--- bytes of a line, and the rest of it
+-- a prefix of a line, followed by the rest of that line, is a line
 pub line_behind : (before prefix between rest after : List ℕ) → before ≡ prefix ++ between → All (λ byte. byte ≢ 10) prefix → IsLine between rest after → IsLine before (prefix ++ rest) after
 line_behind before prefix between rest after is plain line = record {
   plain = All-append (λ (byte : ℕ). byte ≢ 10) prefix rest plain line.plain;
@@ -189,7 +189,7 @@ line_behind before prefix between rest after is plain line = record {
   ];
 }
 
--- a line is there, where one came
+-- if a line came, some bytes were left
 line_left : (before after line : List ℕ) (next : NextLine) → IsNext before next line after → next ≢ End → before ≢ []
 line_left before after line End is other = absurd (other refl)
 line_left before after line (Line n) is other = is.0
@@ -198,7 +198,7 @@ line_left before after line TooLong is other = λ none.
     let whole = ap (λ (l : List ℕ). length l) (sym is.1 ∙ none) in
     absurd (omega (arith, both, whole, is.2))
 
--- a line of more bytes than it may have is a step that calls nothing
+-- a line that is longer than allowed is a step that calls nothing
 pub too_long_step : (mode : Mode) → (dialect : Dialect) (before between after line : List ℕ) (old new : Talk) → IsNext before TooLong line between → ((rest : List ℕ) × IsLine between rest after)
     → Writes (script_fault_text BadLine) old new → IsStep mode dialect before after old new
 too_long_step mode dialect before between after line old new next skipped wrote =
@@ -236,7 +236,7 @@ plays_on mode dialect MayBegin before old [] between now after new it may step =
 plays_on mode dialect MayBegin before old (turn ∷ turns) between now after new it may step =
     (it.0, it.1, plays_on mode dialect MayBegin turn.rest turn.talk turns between now after new it.2 may step)
 
--- the whole script
+-- if nothing is left, the whole script is played
 pub played : (mode : Mode) → (dialect : Dialect) (most : Option ℕ) (script : List ℕ) (first : Talk) (turns : List Turn) (rest : List ℕ) (last : Talk) → IsWithin most (length turns)
     → Plays mode dialect (IsLight most first.client) script first turns rest last → rest ≡ [] → IsPlayed mode dialect most script first last
 played mode dialect most script first turns rest last few plays over =
@@ -248,7 +248,7 @@ NextIs mode dialect most first lines rest between last =
     (last ≡ between.client)
     ⊎ (IsWithin most (lines + 1) × IsLight most first between.client × (after : List ℕ) × (written : Option (List ℕ)) × IsStep mode dialect rest after between (talk last written))
 
--- a prefix of it, and perhaps the next step
+-- a prefix of the script, and perhaps the next step
 pub played_up_to : (mode : Mode) → (dialect : Dialect) (most : Option ℕ) (script : List ℕ) (first : Talk) (turns : List Turn) (rest : List ℕ) (between last : Talk) → IsWithin most (length turns)
     → Plays mode dialect (IsLight most first.client) script first turns rest between → NextIs mode dialect most first.client (length turns) rest between last.client
     → IsPlayedInPart mode dialect most script first last
@@ -259,7 +259,7 @@ some_left x y next line it other = known_by x y (λ b a. IsNext b next line a) (
 
 -- ---- lines that are refused, and sources
 
--- a step whose line is skipped, of which 50 is written first
+-- a step whose line is skipped; 50 is written for it first
 pub skipped : {T : Type 0} (answer : Result T ScriptFault) (Does : List ℕ → List ℕ → Talk → Talk → Type 0) (IsShort IsBad : List ℕ → Type 0) (x y z : Ahead) (left : ℕ) (old new : Talk)
     (P : List ℕ → List ℕ → Type 0) → new.client ≡ old.client → Between x y P → OnOk answer (Between y z (λ b a. (rest : List ℕ) × IsLine b rest a))
     → OnOk answer (Appends old.written new.written (script_fault_text BadLine))
@@ -274,7 +274,7 @@ skipped (Err e) Does IsShort IsBad x y z left old new P same one two wrote (inl 
 skipped (Err e) Does IsShort IsBad x y z left old new P same one two wrote (inr why) bad on =
     not_read Does IsShort IsBad x left old new e (inr (known_by x y P IsBad one (λ b m p. bad b m p), (same, why.0))) (unread_before x y P left e one why.1)
 
--- a source, and what stands behind it
+-- a source, and what comes after it
 pub sent_step : (b m a : List ℕ) (count : ℕ) (source : Option (Vec ℕ Global)) (is_ended : Bool) (sent : Sent) → IsSentAs source is_ended sent
     → IsSource b count (option_map (λ bytes. bytes.items) source) m → IsLineEnd m is_ended a → HasSent b count sent a
 sent_step b m a count (Some bytes) true sent is read ended =
@@ -295,7 +295,7 @@ sent_on x y z count source is_ended sent is read ended =
     between_then x y z (λ b a. IsSource b count (option_map (λ bytes. bytes.items) source) a) (λ b a. IsLineEnd b is_ended a) (λ b a. HasSent b count sent a) read ended
     (λ b m a one two. sent_step b m a count source is_ended sent is one two)
 
--- a script of which nothing has been read
+-- a script that has not been read at all
 pub unread : (remaining : Option (List ℕ)) → ◌≡◌ {A = Ahead} (record { rest = rest_from [] false remaining; left = 16777216 }) (record { rest = remaining; left = 16777216 })
 unread None = refl
 unread (Some bytes) = refl

@@ -7,11 +7,17 @@ use Rattle.cc_answers.specs.Telling.{Tells, script_fault_text}
 use Rattle.cc_script.specs.Reading.{Ahead, Between, IsLine, IsNotRead, IsNoSource}
 use Rattle.cc_script.specs.declared.fault.ScriptFault.{ScriptFault}
 use Rattle.cc_script.specs.declared.fault.ScriptFault.TheVariants.{BadLine, EndOfScript, ScriptTooLong, ReadFault, WriteFault, Stopped}
-use Rattle.cc_c_laws.specs.declared.mode.Mode.{Mode}
+use Rattle.cc_c_semantics.specs.declared.mode.Mode.{Mode}
+use Rattle.cc_history.specs.declared.entry.Receipt.{Receipt}
+use Rattle.cc_history.specs.History.{MemberView}
+use Rattle.cc_service.specs.Serving.{PutAnswers, Puts}
 use Rattle.cc_service.specs.Updating.{UpdateAnswers}
+use Rattle.cc_service.specs.declared.fault.ServiceFault.{ServiceFault}
+use Rattle.cc_service.specs.declared.fault.ServiceFault.TheVariants.{OutOfMemory, WorkersGone}
+use Rattle.cc_service.specs.declared.service.Put.{Put}
 use Rattle.cc_session.specs.Playing.{CallsAndWrites, IsBegun, IsSentTo, IsSentTwice, IsShortOfTwo, IsUnended, IsUnendedOfTwo, Talk, Writes, talk}
 use Rattle.cc_session.specs.Telling.{SaysChange, no_memory_text}
-use Rattle.cc_session.specs.internal.Calls.{DoesAndTells, DoesOr, UpdatesIf}
+use Rattle.cc_session.specs.internal.Calls.{CallsAndTells, DoesAndTells, DoesOr, UpdatesIf}
 use Rattle.cc_session.specs.internal.Steps.{HasSent, IsDone, IsNotDone, IsShortOf}
 use Rattle.cc_session.specs.declared.reading.Sent.TheVariants.{NoRoom, Source, Unended}
 use Rattle.cc_session.proofs.Playing.{between_map, between_then, done_of, known_by, known_map, known_then, line_behind, more_before, skipped}
@@ -28,7 +34,7 @@ sent_as Does bytes sent same count b a old new has it = record {
   called = inl (has.4, subst (λ (k : List ℕ). Does k old new ⊎ Writes no_memory_text old new) (same ∙ has.5) it);
 }
 
--- bytes that something was done with
+-- a step that does something with the bytes that were sent
 pub sent_step : {T : Type 0} (answer : Result T ScriptFault) (Does : List ℕ → Talk → Talk → Type 0) (bytes : Vec ℕ Global) (sent : List ℕ) → sent ≡ bytes.items
     → (count : ℕ) (x y : Ahead) (old new : Talk) → Between x y (λ b a. HasSent b count (Source bytes) a) → DoesAndTells (DoesOr (Does sent)) old new answer
     → IsDone (λ b a o n. IsSentTo Does count b a o n) (IsShortOf count) (IsUnended count) x y old new answer
@@ -39,7 +45,7 @@ sent_step (Err fault) Does bytes sent same count x y old new read it =
     (known_by x y (λ b a. HasSent b count (Source bytes) a) (λ b. (new.client ≡ old.client) ⊎ ((a : List ℕ) × (w : Option (List ℕ)) × IsSentTo Does count b a old (talk new.client w))) read
     (λ b a has. inr (a, it.1, sent_as Does bytes sent same count b a old (talk new.client it.1) has it.2)))
 
--- those after which another byte stands than a newline
+-- a step whose bytes are followed by something other than a newline
 pub skip_step : {T : Type 0} (answer : Result T ScriptFault) (Does : List ℕ → Talk → Talk → Type 0) (count : ℕ) (x y z : Ahead) (left : ℕ) (old new : Talk)
     → new.client ≡ old.client → Between x y (λ b a. HasSent b count Unended a) → OnOk answer (Between y z (λ b a. (rest : List ℕ) × IsLine b rest a))
     → OnOk answer (Appends old.written new.written (script_fault_text BadLine))
@@ -60,7 +66,7 @@ skip_step answer Does count x y z left old new same read skips wrote why =
       );
     })
 
--- those for which there was no room
+-- a step whose bytes had no room
 pub unsent_step : {T : Type 0} (answer : Result T ScriptFault) (Does : List ℕ → Talk → Talk → Type 0) (count : ℕ) (x y : Ahead) (old new : Talk)
     → new.client ≡ old.client → Between x y (λ b a. HasSent b count NoRoom a) → Tells old.written new.written no_memory_text answer
     → IsDone (λ b a o n. IsSentTo Does count b a o n) (IsShortOf count) (IsUnended count) x y old new answer
@@ -74,7 +80,7 @@ unsent_step answer Does count x y old new same read told =
       called = inl (it.4, inr (same, wrote));
     }))
 
--- those that were read, and another source had no room
+-- a step whose bytes were read, but another source had no room
 pub unasked_step : {T : Type 0} (answer : Result T ScriptFault) (Does : List ℕ → Talk → Talk → Type 0) (bytes : Vec ℕ Global) (count : ℕ) (x y : Ahead) (old new : Talk)
     → new.client ≡ old.client → Between x y (λ b a. HasSent b count (Source bytes) a) → Tells old.written new.written no_memory_text answer
     → IsDone (λ b a o n. IsSentTo Does count b a o n) (IsShortOf count) (IsUnended count) x y old new answer
@@ -125,7 +131,7 @@ updates_as : (mode : Mode) (name expected : List ℕ) (given : Option (List ℕ)
 updates_as mode name expected (Some e) source old new is it = subst (λ (k : List ℕ). CallsAndWrites (UpdateAnswers mode name k source) (SaysChange source) old new) is it
 updates_as mode name expected None source old new is it = absurd it
 
--- the update of an expected source, if there was room for it
+-- the update with an expected source, if there was room for that source
 sent_twice : (mode : Mode) (name expected rest between : List ℕ) (many count : ℕ) (given : Option (List ℕ)) (b a : List ℕ) (old new : Talk) → b ≡ expected ++ rest → length expected ≡ many
     → IsLine rest [] between → IfSome given (λ e. e ≡ take 65537 expected) → IsSentTo (λ source o n. UpdatesIf mode name given source o n) count between a old new
     → IsSentTwice mode name many count b a old new
@@ -152,7 +158,7 @@ twice_step mode answer name bytes sent same many count x y z old new read it =
     (λ b m a n one two. sent_twice mode name one.0 one.1 m many count (Some sent) b a old n one.2 one.3 one.4 (same ∙ one.5) two)
     (λ b m one two. inr (one.0, one.1, m, one.2, one.3, one.4, two)) (λ b m one two. inr (one.0, one.1, m, one.2, one.3, one.4, two))
 
--- the first one had no room
+-- an update whose first source had no room
 pub twice_unasked : (mode : Mode) → {T : Type 0} (answer : Result T ScriptFault) (name : List ℕ) (many count : ℕ) (x y z : Ahead) (old new : Talk) → Between x y (λ b a. HasSent b many NoRoom a)
     → IsDone (λ b a o n. IsSentTo (λ source p q. UpdatesIf mode name None source p q) count b a o n) (IsShortOf count) (IsUnended count) y z old new answer
     → IsDone (λ b a o n. IsSentTwice mode name many count b a o n) (IsShortOfTwo many count) (IsUnendedOfTwo many count) x z old new answer
@@ -162,7 +168,7 @@ twice_unasked mode answer name many count x y z old new read it =
     (λ b m a n one two. sent_twice mode name one.0 one.1 m many count None b a old n one.2 one.3 one.4 tt two)
     (λ b m one two. inr (one.0, one.1, m, one.2, one.3, one.4, two)) (λ b m one two. inr (one.0, one.1, m, one.2, one.3, one.4, two))
 
--- another byte stands after the first one
+-- an update whose first source is followed by something other than a newline
 pub twice_skip : (mode : Mode) → {T : Type 0} (answer : Result T ScriptFault) (name : List ℕ) (many count : ℕ) (x y z : Ahead) (left : ℕ) (old new : Talk)
     → new.client ≡ old.client → Between x y (λ b a. HasSent b many Unended a) → OnOk answer (Between y z (λ b a. (rest : List ℕ) × IsLine b rest a))
     → OnOk answer (Appends old.written new.written (script_fault_text BadLine))
@@ -183,7 +189,7 @@ twice_skip mode answer name many count x y z left old new same read skips wrote 
       );
     })
 
--- the first one could not be read
+-- an update whose first source could not be read
 pub twice_unread : (mode : Mode) → (name : List ℕ) (many count : ℕ) (x : Ahead) (left : ℕ) (h : Talk) (fault : ScriptFault) → IsNoSource x many left fault
     → IsNotDone (λ b a o n. IsSentTwice mode name many count b a o n) (IsShortOfTwo many count) (IsUnendedOfTwo many count) x h h fault
 twice_unread mode name many count x left h BadLine why = absurd why
@@ -192,3 +198,25 @@ twice_unread mode name many count x left h ScriptTooLong why = (inl refl, why.1)
 twice_unread mode name many count x left h ReadFault why = inl refl
 twice_unread mode name many count x left h WriteFault why = absurd why
 twice_unread mode name many count x left h Stopped why = absurd why
+
+-- ---- a unit that is put
+
+-- what was put is a text that was prepared: its mode and its bytes are those that were asked for, and the client was the same
+pub put_as : (put : Put) (name : List ℕ) (its mode : Mode) (text source : List ℕ) (before old new : MemberView) (answer : Result Receipt ServiceFault) → its ≡ mode → text ≡ source → before ≡ old
+    → PutAnswers its (Puts put its name text) name text before new answer → PutAnswers mode (Puts put mode name source) name source old new answer
+put_as put name its mode text source before old new answer one two three it =
+    subst (λ (h : MemberView). PutAnswers mode (Puts put mode name source) name source h new answer) three
+    (subst (λ (t : List ℕ). PutAnswers mode (Puts put mode name t) name t before new answer) two (subst (λ (m : Mode). PutAnswers m (Puts put m name text) name text before new answer) one it))
+
+-- a unit that was put by the same client
+pub put_from : {T : Type 0} (result : Result T ScriptFault) (mode : Mode) (put : Put) (name source : List ℕ) (before old new : MemberView) (one two : Option (List ℕ)) → before ≡ old
+    → CallsAndTells (PutAnswers mode (Puts put mode name source) name source) (SaysChange source) (talk before one) (talk new two) result
+    → CallsAndTells (PutAnswers mode (Puts put mode name source) name source) (SaysChange source) (talk old one) (talk new two) result
+put_from result mode put name source before old new one two same it =
+    subst (λ (h : MemberView). CallsAndTells (PutAnswers mode (Puts put mode name source) name source) (SaysChange source) (talk h one) (talk new two) result) same it
+
+-- a unit that was not put for want of memory, or of a worker: the client is as it was
+pub put_not : (mode : Mode) (put : Put) (name source : List ℕ) (old new : MemberView) (answer : Result Receipt ServiceFault) → (answer ≡ Err OutOfMemory) ⊎ (answer ≡ Err WorkersGone)
+    → PutAnswers mode (Puts put mode name source) name source old new answer → new ≡ old
+put_not mode put name source old new answer (inl is) it = (subst (λ (a : Result Receipt ServiceFault). PutAnswers mode (Puts put mode name source) name source old new a) is it).1
+put_not mode put name source old new answer (inr is) it = (subst (λ (a : Result Receipt ServiceFault). PutAnswers mode (Puts put mode name source) name source old new a) is it).2

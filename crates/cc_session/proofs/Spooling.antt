@@ -1,4 +1,4 @@
--- What is done of the scripts of a spool is carried from script to script, and then said of all clients.
+-- What is done with the scripts of a spool is carried from script to script, and then stated for all clients.
 use Rattle.std.proofs.Common.{◌≡◌, ◌∙◌, ℕ, ◌<◌, List, [], ◌∷◌, ◌++◌, length, map, take, get_or, Option, Some, None, Result, Ok, Err, refl, sym, ap, subst, append_assoc, arith, inl, inr}
 use Rattle.std.specs.Prelude.{All, slice_get}
 use Rattle.std.specs.Option.{option_map}
@@ -11,7 +11,7 @@ use Rattle.cc_script.specs.declared.command.Dialect.TheVariants.{Served}
 use Rattle.cc_script.specs.declared.fault.ScriptFault.{ScriptFault}
 use Rattle.cc_history.specs.History.{MemberView}
 use Rattle.cc_spool.specs.Spool.{Delivered, Taken, delivered_as, taken_as}
-use Rattle.cc_c_laws.specs.declared.mode.Mode.{Mode}
+use Rattle.cc_c_semantics.specs.declared.mode.Mode.{Mode}
 use Rattle.cc_session.specs.Playing.{Grows, IsPlayedBy, Talk, talk}
 use Rattle.cc_session.specs.Spooling.{AreDoneBy, EndsBy, Given, HasDone, HaveDone, IsDoneBy, most_lines}
 use Rattle.cc_session.specs.internal.Ends.{EndOf}
@@ -40,7 +40,7 @@ done_same mode x y h taken ended = record {
   done = refl;
 }
 
--- one script was
+-- one script was done
 pub done_script : (mode : Mode) → (x y : Given) (old new : MemberView) (script : Taken) (answer : Delivered) → y.taken ≡ x.taken ++ script ∷ [] → y.ended ≡ x.ended ++ answer ∷ []
     → IsDoneBy mode script answer old new → HasDone mode x old y new
 done_script mode x y old new script answer taken ended done = record {
@@ -57,7 +57,7 @@ are_done_on mode (x ∷ s) t (y ∷ d) e a b c one two = (one.0, one.1, are_done
 are_done_on mode [] t (y ∷ d) e a b c one two = absurd one
 are_done_on mode (x ∷ s) t [] e a b c one two = absurd one
 
--- some, and then some more
+-- some scripts were done, and then more
 pub done_on : (mode : Mode) → (x y z : Given) (a b c : MemberView) → HasDone mode x a y b → HasDone mode y b z c → HasDone mode x a z c
 done_on mode x y z a b c one two = record {
   scripts = one.scripts ++ two.scripts;
@@ -76,7 +76,7 @@ or_this None d = d
 from_some : {A : Type 0} (a b : A) → Some a ≡ Some b → a ≡ b
 from_some {A} a b same = ap (λ (o : Option A). or_this o a) same
 
--- what stands at an index of a mapped list
+-- what is at an index of a mapped list
 at : {P B : Type 0} (xs : List P) (f : P → B) (i : ℕ) (d : P) (b : B) → i < length xs → slice_get (map f xs) i ≡ Some b → f (get_or xs i d) ≡ b
 at {P} {B} xs f i d b within is =
     from_some (f (get_or xs i d)) b (sym (slice_get-map f xs i ∙ ap (λ (o : Option P). option_map f o) (slice_get-get_or xs i d within)) ∙ is)
@@ -113,11 +113,11 @@ module _ (mode : Mode) {P : Type 0} (given : P → Given) (member : P → Member
         ];
   }
 
--- what a vector of posts holds after its slice was changed
+-- the slice of a vector has this content after it was changed
 whole : {P : Type 0} (n : ℕ) (news rest : List P) → length news ≡ n → take n (news ++ rest) ≡ news
 whole n news rest many = subst (λ (m : ℕ). take m (news ++ rest) ≡ news) many (take-append_seam news rest)
 
--- so of clients with their spools, which are taken apart then
+-- the same for clients and their spools once they are taken apart
 module _ (mode : Mode) {P S C : Type 0} (spool : P → S) (client : P → C) (by : S → Given) (member : C → MemberView) where
   pub have_done_by : (olds news rest : List P) (given left : List S) (clients : List C) (n : ℕ) → map spool olds ≡ given → length news ≡ n → length olds ≡ n
       → All (λ p. (member (client p)).receipts ≡ []) olds → Each mode (λ p. by (spool p)) (λ p. member (client p)) olds news

@@ -1,11 +1,11 @@
--- What is said of a unit that was found.
+-- What an audit says about a unit that was found.
 use Rattle.cc_link.specs.Audit.{AuditSaysIn}
 use Rattle.cc_link.specs.declared.audit_answer.Audit.{Audit}
 use Rattle.cc_history.specs.declared.reply.Reply.{Reply}
 use Rattle.cc_history.specs.declared.reply.Reply.TheVariants.{Done, Exists, Absent, Unit, Names}
-use Rattle.cc_c_laws.specs.declared.mode.Mode.{Mode}
+use Rattle.cc_c_semantics.specs.declared.mode.Mode.{Mode}
 
--- of the unit of a reply an audit in a mode says this
+-- what an audit in a mode says about the unit of a reply
 abbrev pub IsSaidOf : Mode → Reply → Audit → Type 0
 IsSaidOf mode (Unit unit) audit = AuditSaysIn mode unit.source unit.certificate unit.image audit
 IsSaidOf mode Done audit = ⊥

@@ -1,4 +1,5 @@
--- What a script is to the client that does it: line by line a call of the service, what its answer makes of the client, and what is written of it.
+-- What a script means for the client that runs it. Line by line: the call of the service, what its answer makes of the client,
+-- and what is written of it.
 use Rattle.std.specs.Prelude.{◌≡◌, ◌≢◌, ◌⊎◌, ◌+◌, ◌<◌, ◌≤◌, ℕ, Bool, true, false, List, [], ◌∷◌, ◌++◌, All, drop, length, take, nat_le, if◌then◌else◌, Option, Some, None, IfSome, Result, Ok, Err, IfErr, codes}
 use Rattle.std.specs.Io.KnownBytes.{Appends}
 use Rattle.cc_script.specs.Line.{ScriptRequest, Add, Replace, Withdraw, Names, Run, Compact, Audit, Image, Source, AuditOne, Update, Call, Space, asked_of}
@@ -10,7 +11,7 @@ use Rattle.cc_answers.specs.Text.{line}
 use Rattle.cc_answers.specs.Telling.{script_fault_text}
 use Rattle.cc_task.specs.declared.part.Part.TheVariants as part
 use Rattle.cc_library.specs.declared.space.SpaceUse.{SpaceUse}
-use Rattle.cc_history.specs.declared.command.Command.{Command}
+use Rattle.cc_history.specs.Calls.{Command}
 use Rattle.cc_history.specs.declared.entry.Receipt.{Receipt}
 use Rattle.cc_history.specs.declared.reply.Reply.TheVariants as reply
 use Rattle.cc_history.specs.Held.{receipts_bytes}
@@ -18,7 +19,7 @@ use Rattle.cc_history.specs.History.{MemberView}
 use Rattle.cc_service.specs.Serving.{IsNotCompacted}
 use Rattle.cc_service.specs.book_fault.BookFault.{BookFault}
 use Rattle.cc_service.specs.declared.fault.ServiceFault.TheVariants.{Book}
-use Rattle.cc_c_laws.specs.declared.mode.Mode.{Mode}
+use Rattle.cc_c_semantics.specs.declared.mode.Mode.{Mode}
 use Rattle.cc_service.specs.Serving.{Adds, Replaces, GetAnswers, ListAnswers, PutAnswers, WithdrawAnswers}
 use Rattle.cc_service.specs.Updating.{UpdateAnswers}
 use Rattle.cc_service.specs.Space.{SpaceAnswers}
@@ -43,8 +44,9 @@ CallsAndWrites Answers Says old new =
 abbrev pub Writes : (text : List ℕ) → (old new : Talk) → Type 0
 Writes text old new = (new.client ≡ old.client) × Appends old.written new.written text
 
--- The bytes after a line: this many, then a newline or the end. What is done with them is done; of more than 65,536 it takes 65,537, which are too many. If there is no
--- room for them, or if another byte follows, nothing is called; in the second case the rest of that line is skipped.
+-- The bytes that come after a line: `count` of them, then a newline or the end. `Does` is applied to them; if they are more than
+-- 65,536, it gets the first 65,537, which are too many. If there is no room for them, or if another byte follows, nothing is
+-- called; in the second case the rest of that line is skipped.
 pub record IsSentTo (Does : (bytes : List ℕ) → Talk → Talk → Type 0) (count : ℕ) (before after : List ℕ) (old new : Talk) : Type 0 where
   pub source : List ℕ
   pub rest : List ℕ
@@ -54,12 +56,13 @@ pub record IsSentTo (Does : (bytes : List ℕ) → Talk → Talk → Type 0) (co
       (IsLine rest [] after × (Does (take 65537 source) old new ⊎ Writes no_memory_text old new))
       ⊎ ((behind : List ℕ) × (0 < length behind) × IsLine rest behind after × Writes (script_fault_text BadLine) old new)
 
--- The source after a line: the call takes it, to compile it in the mode.
+-- The source that comes after a line: the call takes it, to compile it in the mode.
 abbrev pub IsSent : (mode : Mode) (Asks : Mode → (name source : List ℕ) → Command → Type 0) (name : List ℕ) (count : ℕ) (before after : List ℕ) (old new : Talk) → Type 0
 IsSent mode Asks name count before after old new =
     IsSentTo (λ source o n. CallsAndWrites (PutAnswers mode (Asks mode name source) name source) (SaysChange source) o n) count before after old new
 
--- Two sources after a line, each so: the name's unit is to have the first one, and is replaced by one of the second.
+-- Two sources that come after a line, each followed by a newline or the end: the unit under the name has to have the first one as
+-- its source, and is replaced with a unit of the second.
 pub record IsSentTwice (mode : Mode) (name : List ℕ) (expected_count count : ℕ) (before after : List ℕ) (old new : Talk) : Type 0 where
   pub expected : List ℕ
   pub rest : List ℕ
@@ -74,13 +77,14 @@ pub record IsSentTwice (mode : Mode) (name : List ℕ) (expected_count count : �
 abbrev pub words_of : (bytes : List ℕ) → Option (List ℕ)
 words_of bytes = if nat_le (length bytes) 65536 then input_in bytes else None
 
--- the name's unit is run on the words; 50 if there are none
+-- the unit under the name is run on the words; the answer is 50 if there are none
 abbrev pub CallsOn : (name : List ℕ) (steps : ℕ) → (words : Option (List ℕ)) → (old new : Talk) → Type 0
 CallsOn name steps (Some words) old new = CallsAndWrites (GetAnswers name) (SaysRunOn words steps) old new
 CallsOn name steps None old new = Writes (script_fault_text BadLine) old new
 
--- The units of these names are fetched and audited in the mode, one call and one line for each, in their order. Either all are found and audited; or the last
--- is the first that is refused, or that is found but whose audit had no memory.
+-- The units under these names are fetched and audited in the mode, with one call and one line for each, in their order. Either
+-- all are found and audited; or the last one is the first that is refused, or the first that is found but whose audit had no
+-- memory.
 abbrev pub AuditsEach : Mode → (names : List (List ℕ)) (all : Bool) (old new : Talk) → Type 0
 AuditsEach mode [] true old new = new ≡ old
 AuditsEach mode [] false old new = ⊥
@@ -88,12 +92,12 @@ AuditsEach mode (name ∷ names) all old new =
     ((all ≡ false) × CallsAndWrites (GetAnswers name) (SaysAudit mode name false) old new)
     ⊎ ((between : Talk) × CallsAndWrites (GetAnswers name) (SaysAudit mode name true) old between × AuditsEach mode names all between new)
 
--- an audit ends by `ok` if all are audited, else without a line
+-- an audit ends with `ok` if all units are audited, otherwise without a line
 abbrev pub EndsAudit : (all : Bool) (old new : Talk) → Type 0
 EndsAudit true old new = Writes (line (codes "ok")) old new
 EndsAudit false old new = new ≡ old
 
--- the names are listed, of which nothing is written, and the units of those that were answered are audited
+-- the names are listed, which writes no line, and the units of the names in the answer are audited
 pub record ListsAndAudits (mode : Mode) (old new : Talk) : Type 0 where
   pub receipt : Receipt
   pub names : List (List ℕ)
@@ -109,23 +113,23 @@ pub record ListsAndAudits (mode : Mode) (old new : Talk) : Type 0 where
 abbrev pub Audits : Mode → (old new : Talk) → Type 0
 Audits mode old new = CallsAndWrites ListAnswers SaysRefusal old new ⊎ ListsAndAudits mode old new
 
--- the unit of a name is audited
+-- the unit under a name is audited
 abbrev pub AuditsOne : Mode → (name : List ℕ) (old new : Talk) → Type 0
 AuditsOne mode name old new = (all : Bool) × (last : Talk) × AuditsEach mode (name ∷ []) all old last × EndsAudit all last new
 
--- a compaction is refused by 34, 35, 36 or 40 alone
+-- a compaction is refused only with 34, 35, 36 or 40
 abbrev pub IsCompacted : Result (Unit {0}) ServiceFault → Type 0
 IsCompacted answer = IfErr answer (λ fault. (why : BookFault) × (fault ≡ Book why) × IsNotCompacted why)
 
--- the service answered a compaction; whoever asked for it is no client, and has no receipt
+-- the service answered a compaction; this is no client's call, and leaves no receipt
 abbrev pub Compacts : (old new : Talk) → Type 0
 Compacts old new = (answer : Result (Unit {0}) ServiceFault) × IsCompacted answer × Writes (done_text answer) old new
 
--- The service answered how much of its area the library takes, or 36. Whoever asked for it is no client, and has no receipt.
+-- The service answered how much of its area the library takes, or 36. This is no client's call, and leaves no receipt.
 abbrev pub Measures : (old new : Talk) → Type 0
 Measures old new = (answer : Result SpaceUse ServiceFault) × SpaceAnswers answer × Writes (room_text answer) old new
 
--- what a line asks for is done in the mode; 50 if it asks for nothing
+-- what a line asks for is done in the mode; the answer is 50 if it asks for nothing
 -- ORDER ScriptCommand
 abbrev pub Obeys : Mode → Option ScriptRequest → (before after : List ℕ) (old new : Talk) → Type 0
 Obeys mode (Some (Add name count)) before after old new = IsSent mode Adds name count before after old new
@@ -147,7 +151,8 @@ Obeys mode None before after old new = (after ≡ before) × Writes (script_faul
 abbrev pub asked_by_line : Dialect → List ℕ → Option ScriptRequest
 asked_by_line dialect line = if nat_le (length line) 128 then asked_of dialect line else None
 
--- One line of a script of this dialect is done in the mode, with the source after it if it has one. There is a line only if a byte is left.
+-- One line of a script of this dialect is done in the mode, with the source after it if it has one. There is a line only if a
+-- byte is left.
 pub record IsStep (mode : Mode) (dialect : Dialect) (before after : List ℕ) (old new : Talk) : Type 0 where
   pub some : before ≢ []
   pub line : List ℕ
@@ -155,28 +160,29 @@ pub record IsStep (mode : Mode) (dialect : Dialect) (before after : List ℕ) (o
   pub is_line : IsLine before line rest
   pub obeyed : Obeys mode (asked_by_line dialect line) rest after old new
 
--- what is left of the script after a step, and the client and its answers then
+-- what is left of the script after a step, with the client and its answers at that point
 pub record Turn : Type 0 where
   pub rest : List ℕ
   pub talk : Talk
 
--- Line by line, from what is left and the client before, each of which may begin a line. So the writer holds the lines of the turns in their order, and no
--- other byte.
+-- The script is done line by line, from what is left and from the client at the beginning. Each client before a line may begin
+-- it. So the writer holds the lines of the turns in their order, and no other byte.
 abbrev pub Plays : Mode → Dialect → (MayBegin : MemberView → Type 0) → (before : List ℕ) (old : Talk) → List Turn → (after : List ℕ) (new : Talk) → Type 0
 Plays mode dialect MayBegin before old [] after new = (after ≡ before) × (new ≡ old)
 Plays mode dialect MayBegin before old (turn ∷ turns) after new =
     MayBegin old.client × IsStep mode dialect before turn.rest old turn.talk × Plays mode dialect MayBegin turn.rest turn.talk turns after new
 
--- no more lines than the bound, if there is one
+-- there are at most as many lines as the bound allows, if there is one
 abbrev pub IsWithin : (most : Option ℕ) (lines : ℕ) → Type 0
 IsWithin None lines = Unit {0}
 IsWithin (Some most) lines = lines ≤ most
 
--- the bytes that a client's receipts are counted to hold which it got since then
+-- the number of bytes that the receipts of a client since `first` are counted to hold
 abbrev pub held_since : (first now : MemberView) → ℕ
 held_since first now = receipts_bytes (drop (length first.receipts) now.receipts)
 
--- If there is a bound on the lines, there is one on these bytes too, from the script's beginning: 256 MiB. A line may be begun while there are no more.
+-- If there is a bound on the lines, there is also a bound on these bytes since the script's beginning: 256 MiB. A line may be
+-- begun as long as they do not exceed it.
 abbrev pub IsLight : (most : Option ℕ) (first now : MemberView) → Type 0
 IsLight None first now = Unit {0}
 IsLight (Some most) first now = held_since first now ≤ 268435456
@@ -187,8 +193,8 @@ pub record IsPlayed (mode : Mode) (dialect : Dialect) (most : Option ℕ) (scrip
   pub few : IsWithin most (length turns)
   pub plays : Plays mode dialect (IsLight most first.client) script first turns [] last
 
--- A prefix of it is done. The client at the end is as these steps left it, or as the next one would, whose answer could not be written (of an audit:
--- as an audit that had no memory at that point). What the writer holds is not known.
+-- A prefix of it is done. The client at the end is as these steps left it, or as it would be after one more step, whose answer
+-- could not be written (for an audit: as an audit that had no memory at that point). What the writer holds is not known.
 pub record IsPlayedInPart (mode : Mode) (dialect : Dialect) (most : Option ℕ) (script : List ℕ) (first last : Talk) : Type 0 where
   pub turns : List Turn
   pub few : IsWithin most (length turns)
@@ -202,12 +208,12 @@ pub record IsPlayedInPart (mode : Mode) (dialect : Dialect) (most : Option ℕ) 
 
 -- ---- scripts that a fault ends
 
--- this many bytes are there, with a newline or the end after them, and then this holds of what is left
+-- this many bytes are there, with a newline or the end after them, and `Holds` is true of what is left then
 abbrev pub IsAfter : (count : ℕ) (Holds : List ℕ → Type 0) (rest : List ℕ) → Type 0
 IsAfter count Holds rest =
     (source : List ℕ) × (between : List ℕ) × (behind : List ℕ) × (rest ≡ source ++ between) × (length source ≡ count) × IsLine between [] behind × Holds behind
 
--- fewer bytes are left than two sources need: for the first, or for the second
+-- fewer bytes are left than two sources need: than the first needs, or than the second needs
 abbrev pub IsShortOfTwo : (expected count : ℕ) (rest : List ℕ) → Type 0
 IsShortOfTwo expected count rest = (length rest < expected) ⊎ IsAfter expected (λ behind. length behind < count) rest
 
@@ -219,7 +225,7 @@ IsCutShort (Some (Update name expected count)) rest = IsShortOfTwo expected coun
 IsCutShort (Some (Call name steps count)) rest = length rest < count
 IsCutShort asked rest = ⊥
 
--- the next line is such a one: the script ends within its source
+-- the script ends within a source of its next line
 pub record EndsInSource (dialect : Dialect) (before : List ℕ) : Type 0 where
   pub line : List ℕ
   pub rest : List ℕ
@@ -230,7 +236,7 @@ pub record EndsInSource (dialect : Dialect) (before : List ℕ) : Type 0 where
 abbrev pub IsUnended : (count : ℕ) (rest : List ℕ) → Type 0
 IsUnended count rest = (source : List ℕ) × (byte : ℕ) × (after : List ℕ) × (rest ≡ source ++ byte ∷ after) × (length source ≡ count) × (byte ≢ 10)
 
--- so one of two sources
+-- the same for one of two sources
 abbrev pub IsUnendedOfTwo : (expected count : ℕ) (rest : List ℕ) → Type 0
 IsUnendedOfTwo expected count rest = IsUnended expected rest ⊎ IsAfter expected (IsUnended count) rest
 
@@ -242,7 +248,7 @@ HasUnended (Some (Update name expected count)) rest = IsUnendedOfTwo expected co
 HasUnended (Some (Call name steps count)) rest = IsUnended count rest
 HasUnended asked rest = ⊥
 
--- so is the next line
+-- a source of the script's next line is followed by another byte than a newline
 pub record EndsNoSource (dialect : Dialect) (before : List ℕ) : Type 0 where
   pub line : List ℕ
   pub rest : List ℕ
@@ -257,18 +263,18 @@ BeginsLong before = (prefix : List ℕ) × (after : List ℕ) × (before ≡ pre
 abbrev pub BeginsBad : Dialect → (before : List ℕ) → Type 0
 BeginsBad dialect before = BeginsLong before ⊎ EndsNoSource dialect before
 
--- nothing was called; and nothing was written, or, of a line that is refused before it is read to its end, 50
+-- nothing was called; and nothing was written, or 50 for a line that is refused before it is read to its end
 abbrev pub IsBegun : (IsBad : Type 0) → (old new : Talk) → Type 0
 IsBegun IsBad old new = (new ≡ old) ⊎ (IsBad × Writes (script_fault_text BadLine) old new)
 
--- Why 52: the script has more bytes than it may have; or, if there is a bound on its lines, more of it is left, and so many are done, or the receipts that
--- the client got for them hold more than 256 MiB.
+-- Why 52: the script has more bytes than it may have; or, if there is a bound on its lines, more of it is left, and that many are
+-- done, or the receipts that the client got for them hold more than 256 MiB.
 abbrev pub IsTooLong : (most : Option ℕ) (script : List ℕ) (first : MemberView) (lines : ℕ) (rest : List ℕ) (now : MemberView) → Type 0
 IsTooLong None script first lines rest now = 16777216 < length script
 IsTooLong (Some most) script first lines rest now = (16777216 < length script) ⊎ ((rest ≢ []) × ((lines ≡ most) ⊎ (268435456 < held_since first now)))
 
--- A prefix of the script is done and nothing of what comes after it, but that 50 may be written of a line that was not read to its end. `Stops` holds of
--- the number of lines done, of what is left, and of the client then.
+-- A prefix of the script is done and nothing of what comes after it, except that 50 may be written for a line that was not read
+-- to its end. `Stops` holds for the number of lines done, for what is left, and for the client then.
 pub record IsPlayedUpTo (mode : Mode) (dialect : Dialect) (most : Option ℕ) (script : List ℕ) (Stops : (lines : ℕ) (rest : List ℕ) (now : MemberView) → Type 0) (first last : Talk) : Type 0 where
   pub turns : List Turn
   pub few : IsWithin most (length turns)
@@ -282,24 +288,24 @@ pub record IsPlayedUpTo (mode : Mode) (dialect : Dialect) (most : Option ℕ) (s
 abbrev pub IsCutIn : Dialect → (most : Option ℕ) (first : MemberView) (lines : ℕ) (rest : List ℕ) (now : MemberView) → Type 0
 IsCutIn dialect most first lines rest now = IsWithin most (lines + 1) × IsLight most first now × EndsInSource dialect rest
 
--- the unit of a `run` was fetched, whose image is not at its end behind some of the steps, and nothing was written of it
+-- the unit of a `run` was fetched, its image is not at its end after some of the steps, and nothing was written of it
 abbrev pub CutsRun : (name : List ℕ) (steps : ℕ) (old new : Talk) → Type 0
 CutsRun name steps old new = (receipt : Receipt) × GetAnswers name old.client new.client (Ok receipt) × IsCutRun steps receipt.entry.reply × (new.written ≡ old.written)
 
--- so of a line that asks for it
+-- the same for a line that asks for it
 abbrev pub CutsLine : Option ScriptRequest → (old new : Talk) → Type 0
 CutsLine (Some (Run name steps)) old new = CutsRun name steps old new
 CutsLine asked old new = ⊥
 
--- the next line is such a one
+-- the same for the script's next line
 pub record CutsNext (dialect : Dialect) (before : List ℕ) (old new : Talk) : Type 0 where
   pub line : List ℕ
   pub rest : List ℕ
   pub is_line : IsLine before line rest
   pub cut : CutsLine (asked_by_line dialect line) old new
 
--- A prefix of the script is done, all answers to it are written, and more of it is left. Nothing of that was done, or the next line is a `run` that was
--- cut.
+-- A prefix of the script is done, all answers to it are written, and more of it is left. Nothing of that was done, or the next
+-- line is a `run` that was cut.
 pub record IsPlayedTill (mode : Mode) (dialect : Dialect) (most : Option ℕ) (script : List ℕ) (first last : Talk) : Type 0 where
   pub turns : List Turn
   pub few : IsWithin most (length turns)
@@ -314,14 +320,14 @@ abbrev pub IsBounded : (most : Option ℕ) → Type 0
 IsBounded None = ⊥
 IsBounded (Some most) = Unit {0}
 
--- the faults that end a script: 51 to 54; of one with a bound also 61
+-- the faults that end a script: 51 to 54; also 61 if it has a bound
 abbrev pub IsEnding : (most : Option ℕ) → ScriptFault → Type 0
 IsEnding most BadLine = ⊥
 IsEnding most Stopped = IsBounded most
 IsEnding most fault = Unit {0}
 
--- How far a script was done that such a fault ended. That it could not be read, 53, or that an answer could not be written, 54, is known to
--- its reader and its writer alone; that it is to end, 61, to whoever is asked that.
+-- How far a script was done that such a fault ended. Only its reader knows that it could not be read, 53, and only its writer
+-- that an answer could not be written, 54. Only whoever is asked whether it is to end knows that it is, 61.
 abbrev pub IsStoppedBy : Mode → Dialect → (most : Option ℕ) → ScriptFault → (script : List ℕ) (first last : Talk) → Type 0
 IsStoppedBy mode dialect most BadLine script first last = ⊥
 IsStoppedBy mode dialect most EndOfScript script first last = IsPlayedUpTo mode dialect most script (IsCutIn dialect most first.client) first last
@@ -330,7 +336,7 @@ IsStoppedBy mode dialect most ReadFault script first last = IsPlayedUpTo mode di
 IsStoppedBy mode dialect most WriteFault script first last = IsPlayedInPart mode dialect most script first last
 IsStoppedBy mode dialect most Stopped script first last = IsPlayedTill mode dialect most script first last
 
--- so, and then the fault's line was written; 54 has none
+-- the same, and then the fault's line was written; 54 has none
 abbrev pub IsEndedBy : Mode → Dialect → (most : Option ℕ) → ScriptFault → (script : List ℕ) (first last : Talk) → Type 0
 IsEndedBy mode dialect most fault script first last =
     (between : Talk) × IsStoppedBy mode dialect most fault script first between × Writes (script_fault_text fault) between last
@@ -341,11 +347,11 @@ IsEndedBy mode dialect most fault script first last =
 abbrev pub Grows : (old new : MemberView) → Type 0
 Grows old new = (new.number ≡ old.number) × ((more : List Receipt) × (new.receipts ≡ old.receipts ++ more))
 
--- a fault that ends scripts ended it, and it is done as far as that says
+-- a fault that ends scripts ended it, and it is done up to the point that the fault says
 abbrev pub IsStopped : Mode → Dialect → (most : Option ℕ) (script : Option (List ℕ)) (old new : Talk) → ScriptFault → Type 0
 IsStopped mode dialect most script old new fault = IsEnding most fault × IfSome script (λ bytes. IsEndedBy mode dialect most fault bytes old new)
 
--- it is done whole; or a fault ended it, and it is done as far as that says
+-- it is done whole; or a fault ended it, and it is done up to the point that the fault says
 abbrev pub IsPlayedBy : Mode → {T : Type 0} → Dialect → (most : Option ℕ) (script : Option (List ℕ)) (old new : Talk) → Result T ScriptFault → Type 0
 IsPlayedBy mode dialect most script old new (Ok done) = IfSome script (λ bytes. IsPlayed mode dialect most bytes old new)
 IsPlayedBy mode dialect most script old new (Err fault) = IsStopped mode dialect most script old new fault

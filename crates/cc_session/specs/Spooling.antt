@@ -1,4 +1,4 @@
--- Many clients of one service, each of which does the scripts that its spool gives.
+-- Many clients of one service. Each does the scripts that its spool gives.
 use Rattle.std.specs.Prelude.{◌≡◌, ℕ, List, [], ◌∷◌, ◌++◌, length, Option, Some, None, IfSome, slice_get}
 use Rattle.cc_disk.specs.declared.disk.Disk.{Ghosts}
 use Rattle.cc_history.specs.History.{MemberView}
@@ -6,7 +6,7 @@ use Rattle.cc_script.specs.Fault as faults
 use Rattle.cc_script.specs.declared.command.Dialect.TheVariants.{Served}
 use Rattle.cc_script.specs.declared.fault.ScriptFault.{ScriptFault}
 use Rattle.cc_spool.specs.Spool.{Delivered, Taken}
-use Rattle.cc_c_laws.specs.declared.mode.Mode.{Mode}
+use Rattle.cc_c_semantics.specs.declared.mode.Mode.{Mode}
 use Rattle.cc_session.specs.Playing.{Grows, IsPlayed, IsStopped, Talk, talk}
 use Rattle.cc_session.specs.Session.{ServiceEnds}
 use Rattle.cc_session.specs.declared.end.SessionEnd.{SessionEnd}
@@ -14,18 +14,20 @@ use Rattle.cc_session.specs.declared.end.SessionEnd.TheVariants.{Finished, Fault
 
 -- ---- the scripts of one client
 
--- the most lines of a script from a spool that are done
+-- at most this many lines of a script from a spool are done
 abbrev pub most_lines : Option ℕ
 most_lines = Some 65536
 
--- How a script of a spool, which is a served one, ended in the mode, as its number says: all of it is done; or a fault that ends scripts ended it, and it is done as
--- far as that says. This speaks of scripts whose bytes are known.
+-- How a script of a spool, which is of the served dialect, ended in the mode, as its number says: either it is done whole; or a
+-- fault that ends scripts ended it, and it is done up to the point that the fault says. This concerns scripts whose bytes are
+-- known.
 abbrev pub EndsBy : Mode → (script : Option (List ℕ)) (end : Option ℕ) (old new : Talk) → Type 0
 EndsBy mode script None old new = IfSome script (λ bytes. IsPlayed mode Served most_lines bytes old new)
 EndsBy mode script (Some number) old new = (fault : ScriptFault) × (number ≡ faults.fault_number fault) × IsStopped mode Served most_lines script old new fault
 
--- The answer that was handed over is that of the script that was taken: from what its writer held then it has the lines of this script's turns, in their
--- order, and no other byte, if both are known. Whatever the script, it was the client's alone, which keeps its receipts.
+-- The answer that was handed over belongs to the script that was taken. After what its writer held when the script was taken, it
+-- has the lines of this script's turns, in their order, and no other byte, if both are known. Whatever the script, only this
+-- client did it, and the client keeps its receipts.
 abbrev pub IsDoneBy : Mode → Taken → Delivered → (old new : MemberView) → Type 0
 IsDoneBy mode taken delivered old new = EndsBy mode taken.script delivered.end (talk old taken.begun) (talk new delivered.answer) × Grows old new
 
@@ -61,15 +63,15 @@ pub record HaveDone (mode : Mode) (before after : List Given) (clients : List Me
   pub each : (i : ℕ) (old new : Given) (last : MemberView) → slice_get before i ≡ Some old → slice_get after i ≡ Some new → slice_get clients i ≡ Some last
       → (first : MemberView) × (first.receipts ≡ []) × HasDone mode old first new last
 
--- What the clients of the spools did, by how their work ended: all that these gave; or nothing, where the service has no client for a spool, 30:
--- then no script was taken and no answer handed over.
+-- What the clients of the spools did, depending on how their work ended: either all that the spools gave; or nothing, if the
+-- service has no client for a spool, 30: then no script was taken and no answer handed over.
 abbrev pub HaveServed : Mode → (before after : List Given) (clients : List MemberView) → SessionEnd → Type 0
 HaveServed mode before after clients Finished = HaveDone mode before after clients
 HaveServed mode before after clients (Fault number) =
     (number ≡ 30) × (after ≡ before) × ((i : ℕ) (client : MemberView) → slice_get clients i ≡ Some client → client.receipts ≡ [])
 
--- How serving ends that began with this disk and these spools: as the service ends whose clients do what the spools give, and where it was not
--- opened no script was taken and no answer handed over.
+-- How serving ends if it began with this disk and these spools: like a service whose clients do what the spools give. If the
+-- service was not opened, no script was taken and no answer handed over.
 abbrev pub ServingEnds : Mode → {Disk : Type 0} (D : Ghosts Disk) (spools_before spools_after : List Given) (before after : Disk) → SessionEnd → Type 0
 ServingEnds mode D spools_before spools_after before after end =
     ServiceEnds D (spools_after ≡ spools_before) (HaveServed mode spools_before spools_after) before after end

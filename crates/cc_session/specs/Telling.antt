@@ -15,7 +15,7 @@ use Rattle.cc_answers.specs.Run.{IsRunOf}
 use Rattle.cc_answers.specs.Text.{fault_line, function_text, line, place_text, run_text}
 use Rattle.cc_answers.specs.Telling.{audit_text, names_text, number_text, space_text}
 use Rattle.cc_answers.specs.declared.run.ImageRun.{ImageRun}
-use Rattle.cc_c_laws.specs.declared.mode.Mode.{Mode}
+use Rattle.cc_c_semantics.specs.declared.mode.Mode.{Mode}
 use Rattle.cc_service.specs.Fault.{fault_number}
 use Rattle.cc_service.specs.declared.fault.ServiceFault.{ServiceFault}
 use Rattle.cc_service.specs.declared.fault.ServiceFault.TheVariants as service
@@ -24,23 +24,23 @@ use Rattle.cc_session.specs.Showing.{IsShownOf}
 
 -- ---- refusals
 
--- the place of a fault in the source that was sent, or its function
+-- the place of a fault in the source that was sent, or the function that has it
 abbrev pub where_text : (source : List ℕ) → ServiceFault → List ℕ
 where_text source (service.Text f) = place_text (text_fault_place f)
 where_text source (service.Piece function f) = function_text source f
 where_text source fault = []
 
--- the line of a refusal of the service
+-- the line for a refusal of the service
 abbrev pub refusal_text : (source : List ℕ) → ServiceFault → List ℕ
 refusal_text source fault = fault_line (fault_number fault) (where_text source fault)
 
--- the line of 40: the service answered, but there was no memory for the rest
+-- the line for 40: the service answered, but there was no memory for the rest
 abbrev pub no_memory_text : List ℕ
 no_memory_text = fault_line 40 []
 
 -- ---- the text of each answer
 
--- of a change: the number of its receipt, or why there is none
+-- for a change: the number of its receipt, or why there is none
 abbrev pub change_text : (source : List ℕ) → Result Receipt ServiceFault → List ℕ
 change_text source (Ok receipt) = number_text receipt.number
 change_text source (Err fault) = refusal_text source fault
@@ -48,17 +48,17 @@ change_text source (Err fault) = refusal_text source fault
 abbrev pub SaysChange : (source : List ℕ) → Result Receipt ServiceFault → (text : List ℕ) → Type 0
 SaysChange source answer text = text ≡ change_text source answer
 
--- of a compaction
+-- for a compaction
 abbrev pub done_text : {T : Type 0} → Result T ServiceFault → List ℕ
 done_text (Ok done) = line (codes "ok")
 done_text (Err fault) = refusal_text [] fault
 
--- of how much of its area the library takes
+-- for the question how much of its area the library takes
 abbrev pub room_text : Result SpaceUse ServiceFault → List ℕ
 room_text (Ok space) = space_text space
 room_text (Err fault) = refusal_text [] fault
 
--- of a list: the names of the reply, and the number of its receipt
+-- for a list: the names of the reply, and the number of its receipt
 abbrev pub SaysNames : Result Receipt ServiceFault → (text : List ℕ) → Type 0
 SaysNames (Ok receipt) text = (names : List (List ℕ)) × (receipt.entry.reply ≡ Names names) × (text ≡ names_text names receipt.number)
 SaysNames (Err fault) text = text ≡ refusal_text [] fault
@@ -71,26 +71,26 @@ pub record IsRunText (words : List ℕ) (steps : ℕ) (reply : Reply) (text : Li
   pub ran : IsRunOf unit.image steps words run
   pub text_is : text ≡ run_text run
 
--- behind some of the steps, and fewer than all, an image is not at its end
+-- after some of the steps, fewer than `steps`, the image is not at its end
 abbrev pub IsCutOff : Image → (steps : ℕ) → Type 0
 IsCutOff image steps = (done : ℕ) × (done < steps) × ((machine_behavior image [] done).outcome ≡ Going)
 
--- so the image of the reply's unit
+-- the same for the image of the reply's unit
 pub record IsCutRun (steps : ℕ) (reply : Reply) : Type 0 where
   pub unit : StoredUnit
   pub found : reply ≡ Unit unit
   pub cut : IsCutOff unit.image steps
 
--- of a run on input words: what the image of the unit that was found does; or that memory ran out
+-- for a run on input words: what the image of the unit that was found does; or that memory ran out
 abbrev pub SaysRunOn : (words : List ℕ) (steps : ℕ) → Result Receipt ServiceFault → (text : List ℕ) → Type 0
 SaysRunOn words steps (Ok receipt) text = IsRunText words steps receipt.entry.reply text ⊎ (text ≡ no_memory_text)
 SaysRunOn words steps (Err fault) text = text ≡ refusal_text [] fault
 
--- of a run on no input
+-- for a run on no input
 abbrev pub SaysRun : (steps : ℕ) → Result Receipt ServiceFault → (text : List ℕ) → Type 0
 SaysRun steps = SaysRunOn [] steps
 
--- of a part: the image or the source of the unit that was found; or that memory ran out
+-- for a part: the image or the source of the unit that was found; or that memory ran out
 abbrev pub SaysShown : Part → Result Receipt ServiceFault → (text : List ℕ) → Type 0
 SaysShown part (Ok receipt) text = IsShownOf part receipt.entry.reply text ⊎ (text ≡ no_memory_text)
 SaysShown part (Err fault) text = text ≡ refusal_text [] fault
@@ -101,14 +101,14 @@ pub record IsAuditText (mode : Mode) (name : List ℕ) (reply : Reply) (text : L
   pub said : IsSaidOf mode reply audit
   pub text_is : text ≡ audit_text name audit
 
--- of an audit of one unit: what it says, if the unit was found and there was memory for it; if not, why not
+-- for an audit of one unit: what it says, if the unit was found and there was memory for it; if not, why not
 abbrev pub SaysAudit : Mode → (name : List ℕ) (is_said : Bool) → Result Receipt ServiceFault → (text : List ℕ) → Type 0
 SaysAudit mode name true (Ok receipt) text = IsAuditText mode name receipt.entry.reply text
 SaysAudit mode name true (Err fault) text = ⊥
 SaysAudit mode name false (Ok receipt) text = text ≡ no_memory_text
 SaysAudit mode name false (Err fault) text = text ≡ refusal_text [] fault
 
--- of a call that was refused
+-- for a call that was refused
 abbrev pub SaysRefusal : Result Receipt ServiceFault → (text : List ℕ) → Type 0
 SaysRefusal (Ok receipt) text = ⊥
 SaysRefusal (Err fault) text = text ≡ refusal_text [] fault

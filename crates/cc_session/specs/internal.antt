@@ -1,9 +1,8 @@
--- What only private contracts speak of.
--- what a command does and writes
+-- What only private contracts use. First: what a command does and writes.
 pub mod Calls
 -- how far a script has been done
 pub mod Steps
--- how a script from a spool ended, and a service that was given up
+-- how a script from a spool ended, and how a service ends that was given up
 pub mod Ends
 -- when a generation ends
 pub mod Enough

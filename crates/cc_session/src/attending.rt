@@ -1,14 +1,14 @@
 // A script done by a client of a service, and the scripts of a spool, done so one after another.
 
 ghost use Rattle.std.specs.Prelude.{◌≡◌, ◌++◌, ◌∷◌, []};
-ghost use Rattle.cc_c_laws.specs.declared.mode.Mode.TheVariants.{Plain};
+ghost use Rattle.cc_c_semantics.specs.declared.mode.Mode.TheVariants.{Plain};
 ghost use Rattle.cc_spool.specs.Spool.{Delivered, taken_as};
 ghost use Rattle.cc_session.specs.Playing.{Grows, IsPlayedBy, talk};
 ghost use Rattle.cc_session.specs.Spooling.{HasDone, IsDoneBy, given_by};
 ghost use Rattle.cc_session.specs.internal.Ends.{EndOf};
 
 use crate::bounds::Meter;
-use crate::calls::Player;
+use crate::calls::{Player, tell_halt};
 use crate::patience::{Others, Patience, Unhurried};
 use crate::reading::Reading;
 use cc_disk::Disk;
@@ -20,17 +20,20 @@ use std::alloc::Global;
 use std::io::{self, Read, Write};
 use std::sync::Wait;
 
-// The most lines of a script from a spool that are done. So one that asks for nothing but errors holds its client for a bounded time.
+// At most this many lines of a script from a spool are done. So a script that asks only for errors holds its client for a bounded
+// time.
 const MOST_LINES: usize = 65_536;
 
-/// Does what a script asks for in a mode by a client of a service, up to its end or a fault that ends it, 51 to 54, whose line is written then. If
-/// that line can't be written the fault is 54, which has no line. Clients on other threads may play theirs on the same service.
+/// Does what a script asks for, in a mode, with a client of a service, up to the script's end or a fault that ends it, 51 to 54.
+/// The line of that fault is then written. If that line can't be written the fault is 54, which has no line. Clients on other
+/// threads may play theirs on the same service.
 ///
-/// The script comes from `reader`; each answer goes to `writer`, which is flushed after it: at the end it holds the lines of the script's turns
-/// in their order, and no other byte. What helps a person with a fault goes to `explanations`; if such a write fails the script goes on.
-/// `dialect` says which lines it may have. If there is a bound on its lines, `most`, so many are done at most, and 52 ends a script that has
-/// more: at 0 every script that has a byte. A line counts with the source after it, whatever is answered. 52 also ends such a script behind the
-/// line with which the receipts that the client got for it hold more than 256 MiB (`held_since` of `Client`), if it has more.
+/// The script comes from `reader`; each answer goes to `writer`, which is flushed after it: at the end it holds the lines of the
+/// script's turns in their order, and no other byte. What helps a person with a fault goes to `explanations`; if such a write
+/// fails the script goes on. `dialect` says which lines it may have. If there is a bound on its lines, `most`, at most that many
+/// are done, and 52 ends a script that has more: at 0 every script that has a byte. A line and the source after it count as one
+/// line, whatever is answered. 52 also ends such a script after the line that brings the client's receipts for it above 256 MiB
+/// (`held_since` of `Client`), if the script goes on after that.
 pub fn play_in<N, H, R: Read, W: Write, E: Write, D>(
     rt: &H,
     alloc: Global,
@@ -50,22 +53,25 @@ where
     ensures played { IsPlayedBy mode dialect most (R.remaining reader.old) (talk client.old.member (W.contents writer.old)) (talk client.new.member (W.contents writer.new)) result }
     ensures grows { Grows client.old.member client.new.member }
 {
-    play_while(
+    let player = Player {
         rt,
         alloc,
-        mode,
         service,
+        mode,
+        most,
+        patience: &Unhurried,
+    };
+    let halted = player.play(
         client,
-        reader,
+        &mut Reading::new(reader),
+        dialect,
         writer,
         explanations,
-        dialect,
-        most,
-        &Unhurried,
-    )
+    );
+    tell_halt(halted, writer, explanations)
 }
 
-/// Does so in the plain mode: `play_in`.
+/// The same in the plain mode: `play_in`.
 pub fn play<N, H, R: Read, W: Write, E: Write, D>(
     rt: &H,
     alloc: Global,
@@ -98,39 +104,6 @@ where
     )
 }
 
-// Does so while there is patience, if there is a bound.
-fn play_while<N, H, R: Read, W: Write, E: Write, D, P: Patience>(
-    rt: &H,
-    alloc: Global,
-    mode: Mode,
-    service: &Service<N, D>,
-    client: &mut Client<N>,
-    reader: &mut R,
-    writer: &mut W,
-    explanations: &mut E,
-    dialect: Dialect,
-    most: Option<usize>,
-    patience: &P,
-) -> Result<(), ScriptFault>
-where
-    N: Named + Send + Sync + 'static,
-    H: Wait,
-    D: Disk,
-    ensures played { IsPlayedBy mode dialect most (R.remaining reader.old) (talk client.old.member (W.contents writer.old)) (talk client.new.member (W.contents writer.new)) result }
-    ensures grows { Grows client.old.member client.new.member }
-{
-    let mut script = Reading::new(reader);
-    let player = Player {
-        rt,
-        alloc,
-        service,
-        mode,
-        most,
-        patience,
-    };
-    player.play(client, &mut script, dialect, writer, explanations)
-}
-
 // The number of the fault that ended a script.
 fn end_of(played: Result<(), ScriptFault>) -> Option<u32>
     ensures { EndOf played result }
@@ -141,90 +114,24 @@ fn end_of(played: Result<(), ScriptFault>) -> Option<u32>
     }
 }
 
-// Does a script that a spool gave, and hands its answer over.
-#[tactic(auto, using(crate::proofs::Spooling::done_by))]
-fn attend_script<N, H, S, D>(
-    rt: &H,
-    alloc: Global,
-    mode: Mode,
-    service: &Service<N, D>,
-    client: &mut Client<N>,
-    spool: &mut S,
-    meter: &Meter,
-    mut script: S::Script,
-    mut answer: S::Answer,
-)
-where
-    N: Named + Send + Sync + 'static,
-    H: Wait,
-    S: Spool,
-    D: Disk,
+// Whether no further script of a spool is to be taken.
+fn is_closing<S: Spool>(spool: &mut S, meter: &Meter) -> bool
     ensures taken { S.taken spool.new ≡ S.taken spool.old }
-    ensures done { (delivered : Delivered) × (S.ended spool.new ≡ S.ended spool.old ++ delivered ∷ [])
-        × IsDoneBy mode (taken_as (S.Script.remaining script) (S.Answer.contents answer)) delivered client.old.member client.new.member }
+    ensures ended { S.ended spool.new ≡ S.ended spool.old }
 {
-    let played = play_while(
-        rt,
-        alloc,
-        mode,
-        service,
-        client,
-        &mut script,
-        &mut answer,
-        &mut io::sink(),
-        Dialect::Served,
-        Some(MOST_LINES),
-        &Others {
-            spool: &*spool,
-            meter,
-        },
-    );
-    spool.deliver(script, answer, end_of(played));
+    spool.is_over() || meter.is_full()
 }
 
-// Does the next script of a spool, where there is one; whether more may come. The meter counts it from when it was taken until its answer is
-// handed over, with the receipts that it brought.
-fn attend_one<N, H, S, D>(
-    rt: &H,
-    alloc: Global,
-    mode: Mode,
-    service: &Service<N, D>,
-    client: &mut Client<N>,
-    spool: &mut S,
-    meter: &Meter,
-) -> bool
-where
-    N: Named + Send + Sync + 'static,
-    H: Wait,
-    S: Spool,
-    D: Disk,
-    ensures { HasDone mode (given_by S.taken S.ended spool.old) client.old.member (given_by S.taken S.ended spool.new) client.new.member }
-{
-    if spool.is_over() {
-        return false;
-    }
-    if meter.is_full() {
-        return false;
-    }
-    if let Some((text, reply)) = spool.next() {
-        meter.begin_script();
-        let seen = client.receipts().len();
-        attend_script(rt, alloc, mode, service, client, spool, meter, text, reply);
-        let entries = client.receipts().len().saturating_sub(seen);
-        meter.end_script(entries as u64, client.held_since(seen));
-    }
-    true
-}
-
-/// Does the scripts of a spool in a mode one after another, by one client of a service, until the spool says that no more is to be taken, or the
-/// meter is full that all clients of the service share. Of each 65,536 lines are done at most, and none behind those whose receipts hold more
-/// than 256 MiB; of one that has more the answer ends in the line of 52.
+/// Does the scripts of a spool in a mode one after another, with one client of a service, until the spool says that no more is to
+/// be taken, or the meter that all clients of the service share is full. At most 65,536 lines of each script are done, and none
+/// after those whose receipts hold more than 256 MiB; if a script has more, its answer ends with the line for 52.
 ///
-/// A script that has been at work for long ends by 61 behind the line at work, or within a `run`, if others wait (`is_long`, `is_awaited`) or the
-/// meter is full, and if it has more.
+/// A script that has been at work for long ends with 61 after the line at work, or within a `run`, if it has more, and if others
+/// wait (`is_long`, `is_awaited`) or the meter is full.
 ///
-/// A fault that ends a script, 51 to 54 or 61, ends it alone: its answer is handed over with the fault's number, and the next is taken. The line
-/// of the fault is the answer's last, but of 54 there is none: what becomes of an answer that can't be written is the spool's matter.
+/// A fault that ends a script, 51 to 54 or 61, ends only that script: its answer is handed over with the fault's number, and the
+/// next is taken. The line of the fault is the answer's last, but 54 has no line: what becomes of an answer that can't be written
+/// is the spool's matter.
 pub fn attend_in<N, H, S, D>(
     rt: &H,
     alloc: Global,
@@ -242,13 +149,44 @@ where
     ensures { HasDone mode (given_by S.taken S.ended spool.old) client.old.member (given_by S.taken S.ended spool.new) client.new.member }
 {
     for _ in rt.forever() {
-        if !attend_one(rt, alloc, mode, service, client, spool, meter) {
+        if is_closing(spool, meter) {
             break;
         }
+        let Some((mut text, mut answer)) = spool.next() else {
+            continue;
+        };
+        // The meter counts a script from when it was taken until its answer is handed over, with the receipts that it brought.
+        meter.begin_script();
+        let seen = client.receipts().len();
+        let others = Others {
+            spool: &*spool,
+            meter,
+        };
+        let player = Player {
+            rt,
+            alloc,
+            service,
+            mode,
+            most: Some(MOST_LINES),
+            patience: &others,
+        };
+        let mut script = Reading::new(&mut text);
+        let halted = player.play(
+            client,
+            &mut script,
+            Dialect::Served,
+            &mut answer,
+            &mut io::sink(),
+        );
+        drop(script);
+        let played = tell_halt(halted, &mut answer, &mut io::sink());
+        spool.deliver(text, answer, end_of(played));
+        let entries = client.receipts().len().saturating_sub(seen);
+        meter.end_script(entries as u64, client.held_since(seen));
     }
 }
 
-/// Does so in the plain mode: `attend_in`.
+/// The same in the plain mode: `attend_in`.
 pub fn attend<N, H, S, D>(
     rt: &H,
     alloc: Global,

@@ -1,4 +1,4 @@
-// What an audit says of a unit that was found.
+// What an audit says about a unit that was found.
 
 ghost use Rattle.std.specs.Prelude.{◌≡◌, IfOk};
 ghost use Rattle.std.specs.Option.{option_map};
@@ -9,14 +9,14 @@ use cc_service::Found;
 use std::alloc::{AllocError, Global};
 use std::io::{self, Write};
 
-/// The result of an audit: the answer, and the first part of the unit that fails if its certificate does not show it.
+/// The result of an audit: the answer; and, if the unit's certificate does not show it, the first part of the unit that fails.
 #[derive(Drop)]
 pub(crate) struct Audited {
     pub(crate) audit: Audit,
     failed: Option<FailedPart>,
 }
 
-// The bytes of a unit's certificate, where it has one.
+// The bytes of a unit's certificate, if it has one.
 fn certificate_of(unit: &StoredUnit) -> Option<&[u8]>
     ensures { option_map (λ c. c.now) result ≡ unit.now.certificate }
 {
@@ -84,7 +84,7 @@ fn write_failed<E: Write>(
     explanations.flush()
 }
 
-/// Writes which part of the unit of a name fails, if an audit found one. If it can't be written it is left out.
+/// Writes which part of the unit under a name fails, if an audit found one. If it can't be written it is left out.
 pub(crate) fn explain_audit<E: Write>(
     name: &[u8],
     found: &Found,

@@ -1,9 +1,10 @@
 // How much the clients of one service do before it ends, so that what its history holds in memory stays bounded.
 //
-// A service keeps its history, with every unit that a change handed in, until its end. So whoever serves for months ends it and opens the
-// next one on the same disk: a generation. The clients share a meter. Each asks it before it takes a script, tells it when it has taken
-// one, and adds what its new receipts hold when the answer is handed over. Bytes are added before the script counts as done, so a client
-// that sees no script being done sees the bytes of all. That it is full, once a client has found it, stays so for all.
+// A service keeps its history, with every unit that a change handed in, until its end. So whoever serves for months ends it and
+// opens the next one on the same disk: a generation. The clients share a meter. Each client asks it before it takes a script,
+// reports to it when it has taken one, and adds what its new receipts hold when the answer is handed over. Bytes are added before
+// the script counts as done, so a client that sees no script being done sees the bytes of all. Once a client has found the meter
+// full, it stays full for all.
 
 ghost use Rattle.std.specs.Prelude.{◌↔◌, IsTrue};
 ghost use Rattle.cc_session.specs.internal.Enough.{IsEnough};
@@ -12,17 +13,18 @@ use crate::end::SessionEnd;
 use crate::steward::{Generation, GenerationEnd};
 use std::sync::atomic::{AtomicBool, AtomicU64, Ordering};
 
-/// When a generation ends: by the bytes that its history is counted to hold (`held_since` of `cc_service::Client`: 256 for each call; of a
-/// change the source, code, globals and certificate of its unit; of a list 48 for each name), or by the scripts that were taken.
+/// When a generation ends: depending on the bytes that its history is counted to hold (`held_since` of `cc_service::Client`: 256
+/// for each call; for a change also the source, code, globals and certificate of its unit; for a list also 48 for each name), or
+/// on the number of scripts that were taken.
 ///
 /// At least one script is done in each generation, whatever these numbers are.
 #[derive(Clone, Copy, Debug, Drop, PartialEq, Eq)]
 pub struct Bounds {
-    /// The bytes at which it ends at the first moment at which no script is being done.
+    /// If the history holds this many bytes, the generation ends at the first moment at which no script is being done.
     pub ends: u64,
-    /// The bytes at which no client takes a further script.
+    /// If the history holds this many bytes, no client takes a further script.
     pub most: u64,
-    /// The scripts behind which no client takes a further one.
+    /// Once this many scripts were taken, no client takes a further one.
     pub scripts: u64,
 }
 
@@ -33,8 +35,8 @@ pub const BOUNDS: Bounds = Bounds {
     scripts: 4_096,
 };
 
-// What the clients of a generation had done at a moment: the bytes of their receipts, the scripts that were taken, those of them that were
-// being done.
+// What the clients of a generation had done at a moment: the bytes of their receipts, the scripts that were taken, and how many
+// of these were being done.
 #[derive(Clone, Copy, Drop)]
 pub(crate) struct Counts {
     pub(crate) bytes: u64,
@@ -52,8 +54,8 @@ fn is_enough(bounds: Bounds, counts: Counts) -> bool
             || bounds.scripts <= counts.scripts)
 }
 
-/// What the clients of a generation have done so far. All of them share it. `attend` asks it and tells it; so may whoever does scripts by
-/// `play`.
+/// What the clients of a generation have done so far. All of them share it. `attend` asks it and reports to it; so may whoever
+/// does scripts with `play`.
 #[derive(Drop)]
 pub struct Meter {
     bounds: Bounds,
@@ -64,7 +66,7 @@ pub struct Meter {
     full: AtomicBool,
 }
 
-// Adds to a count, as far as it goes.
+// Adds to a count, which stops at its largest value.
 fn add(count: &AtomicU64, more: u64) {
     let _ = count.fetch_update(Ordering::SeqCst, Ordering::SeqCst, |n| {
         Some(n.saturating_add(more))
@@ -72,7 +74,7 @@ fn add(count: &AtomicU64, more: u64) {
 }
 
 impl Meter {
-    /// Of a generation in which nothing was done.
+    /// The meter of a generation in which nothing was done.
     pub fn new(bounds: Bounds) -> Meter {
         Meter {
             bounds,
@@ -84,7 +86,7 @@ impl Meter {
         }
     }
 
-    // The bytes are read first: they only grow, so where no script is being done then, they were all there.
+    // The bytes are read first: they only grow, so if no script is being done then, they were all there.
     fn counts(&self) -> Counts {
         let bytes = self.bytes.load(Ordering::SeqCst);
         let scripts = self.scripts.load(Ordering::SeqCst);
@@ -96,8 +98,8 @@ impl Meter {
         }
     }
 
-    /// Whether no client is to take a further script. Once it is so it stays so. Clients that were waiting for a script when it came to be
-    /// so may take one more each.
+    /// Whether no client is to take a further script. Once this is so, it stays so. Clients that were waiting for a script at
+    /// that moment may take one more each.
     pub fn is_full(&self) -> bool {
         if self.full.load(Ordering::SeqCst) {
             return true;
@@ -115,7 +117,7 @@ impl Meter {
         add(&self.scripts, 1);
     }
 
-    /// A script's answer was handed over. It brought so many calls, which are counted to hold these bytes.
+    /// A script's answer was handed over. It brought this many calls, which are counted to hold these bytes.
     pub fn end_script(&self, entries: u64, bytes: u64) {
         add(&self.entries, entries);
         add(&self.bytes, bytes);
@@ -126,7 +128,7 @@ impl Meter {
             });
     }
 
-    // What the generation did, whose service ended so.
+    // What a generation did, if its service ended like this.
     pub(crate) fn generation(&self, end: SessionEnd) -> Generation {
         let counts = self.counts();
         let why = if !self.full.load(Ordering::SeqCst) {

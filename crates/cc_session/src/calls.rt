@@ -1,13 +1,16 @@
 // The commands of a script, done by one client.
 
-ghost use Rattle.std.specs.Prelude.{◌≡◌, [], List, ℕ, Ok};
+ghost use Rattle.std.specs.Prelude.{◌≡◌, ◌⊎◌, true, [], List, ℕ, Option, Ok, Err, IfOk, IfSome};
 ghost use Rattle.std.specs.Option.{option_map};
 ghost use Rattle.cc_answers.specs.Telling.{Tells};
 ghost use Rattle.cc_script.specs.Line.{asked_of};
+ghost use Rattle.cc_script.specs.declared.command.Dialect.{Dialect};
+ghost use Rattle.cc_c_semantics.specs.declared.mode.Mode.{Mode};
 ghost use Rattle.cc_history.specs.History.{MemberView};
 ghost use Rattle.cc_service.specs.Serving.{GetAnswers, ListAnswers, PutAnswers, Puts, WithdrawAnswers};
+ghost use Rattle.cc_service.specs.declared.fault.ServiceFault.TheVariants.{OutOfMemory, WorkersGone};
 ghost use Rattle.cc_service.specs.Updating.{UpdateAnswers};
-ghost use Rattle.cc_session.specs.Playing.{Audits, AuditsOne, CallsOn, Compacts, Grows, IsPlayedBy, IsSent, IsSentTo, IsSentTwice, IsShortOfTwo, IsUnended, IsUnendedOfTwo, Measures, talk, words_of};
+ghost use Rattle.cc_session.specs.Playing.{Audits, AuditsOne, CallsOn, Compacts, Grows, IsEnding, IsPlayedBy, IsSent, IsSentTo, IsSentTwice, IsShortOfTwo, IsStoppedBy, IsUnended, IsUnendedOfTwo, Measures, Talk, talk, words_of};
 ghost use Rattle.cc_session.specs.Telling.{SaysChange, SaysNames, SaysRunOn, SaysShown};
 ghost use Rattle.cc_session.specs.internal.Calls.{AuditsName, AuditsNames, CallsAndTells, DoesAndTells, DoesOr, RunsAndTells, TellsAudit, TellsRun, UpdatesIf};
 ghost use Rattle.cc_session.specs.internal.Steps.{IsDone, IsHalted, IsObeyed, IsShortOf};
@@ -28,18 +31,19 @@ use cc_library::Name;
 use cc_link::Mode;
 use cc_runs::words_in;
 use cc_script::{
-    Dialect, LINE_BYTES, MOST_BYTES, NextLine, ScriptCommand, ScriptFault, command_of,
+    Dialect, LINE_BYTES, NextLine, SCRIPT_BYTES, ScriptCommand, ScriptFault, command_of,
 };
-use cc_service::{Client, Found, Named, Put, Service, ServiceFault};
+use cc_service::{Client, Found, Named, Prepared, Put, Service, ServiceFault};
 use cc_task::Part;
 use std::alloc::Global;
 use std::io::{Read, Write};
 use std::sync::Wait;
 
-// The most bytes of input words after a line.
+// The input words after a line may have at most this many bytes.
 const MOST_INPUT: usize = 65_536;
 
-// What plays the scripts of a service's clients, in a mode: of each so many lines at most, if there is a bound, and then while there is patience.
+// Plays the scripts of a service's clients, in a mode. If there is a bound, at most `most` lines of each are done, and only while
+// there is patience.
 #[derive(Drop)]
 pub(crate) struct Player<'a, N: Named, H, D: Disk, P> {
     pub(crate) rt: &'a H,
@@ -51,54 +55,87 @@ pub(crate) struct Player<'a, N: Named, H, D: Disk, P> {
 }
 
 impl<'a, N: Named + Send + Sync + 'static, H: Wait, D: Disk, P: Patience> Player<'a, N, H, D, P> {
-    // Puts a unit whose source this is, read up to here, and hands those of the next commands to the workers while it waits. If memory was refused, or a
-    // worker is gone, no hint stays, and it is tried once more.
-    fn put_source<R: Read>(
+    // The text of a source that is read up to here, as it was handed to the workers before its turn, or is now.
+    fn begun<R: Read>(
         &self,
         client: &mut Client<N>,
         script: &Reading<R>,
         hints: &mut Hints<N>,
-        put: Put,
-        name: &[u8],
         source: &[u8],
-    ) -> Result<Receipt, ServiceFault>
-        ensures { PutAnswers self.now.mode (Puts put self.now.mode name.now source.now) name.now source.now client.old.member client.new.member result }
+    ) -> Result<Prepared<N>, ServiceFault>
+        ensures text { IfOk result (λ prepared. prepared.text ≡ source.now) }
+        ensures mode { IfOk result (λ prepared. prepared.mode ≡ self.now.mode) }
+        ensures member { client.new.member ≡ client.old.member }
     {
-        let (rt, alloc, service, mode) = (self.rt, self.alloc, self.service, self.mode);
-        let prepared = match hints.take(mode, script.position(), source) {
+        match hints.take(self.mode, script.position(), source) {
             Some(prepared) => Ok(prepared),
-            None => service.prepare_in(rt, alloc, client, mode, source),
-        };
-        let refused = match prepared {
-            Ok(prepared) => {
-                if !service.is_busy() {
-                    hints.look_ahead(
-                        rt,
-                        alloc,
-                        service,
-                        client,
-                        mode,
-                        script.position(),
-                        script.held(),
-                    );
-                }
-                service.put_prepared(rt, alloc, client, put, name, prepared)
-            }
-            Err(fault) => {
-                drop(fault);
-                return service.put_in(rt, alloc, client, mode, put, name, source);
-            }
-        };
-        match refused {
-            Err(ServiceFault::OutOfMemory) | Err(ServiceFault::WorkersGone) => {
-                hints.forget();
-                service.put_in(rt, alloc, client, mode, put, name, source)
-            }
-            answer => answer,
+            None => self
+                .service
+                .prepare_in(self.rt, self.alloc, client, self.mode, source),
         }
     }
 
-    // Adds or replaces a unit, whose source this is.
+    // Hands the sources of the next commands to the workers, unless some client waits for them.
+    fn look_ahead<R: Read>(&self, client: &mut Client<N>, script: &Reading<R>, hints: &mut Hints<N>)
+        ensures { client.new.member ≡ client.old.member }
+    {
+        if !self.service.is_busy() {
+            hints.look_ahead(
+                self.rt,
+                self.alloc,
+                self.service,
+                client,
+                self.mode,
+                script.position(),
+                script.held(),
+            );
+        }
+    }
+
+    // Puts a unit of this source, whatever was handed in before.
+    fn put_anew<W: Write, E: Write>(
+        &self,
+        client: &mut Client<N>,
+        put: Put,
+        name: &[u8],
+        source: &[u8],
+        answers: &mut W,
+        explanations: &mut E,
+    ) -> Result<(), ScriptFault>
+        ensures { CallsAndTells (PutAnswers self.now.mode (Puts put self.now.mode name.now source.now) name.now source.now) (SaysChange source.now)
+            (talk client.old.member (W.contents answers.old)) (talk client.new.member (W.contents answers.new)) result }
+    {
+        let answer = self
+            .service
+            .put_in(self.rt, self.alloc, client, self.mode, put, name, source);
+        tell_change(self.alloc, answer, source, answers, explanations)
+    }
+
+    // Writes the answer of a unit that was put. If memory was refused, or a worker is gone, no hint stays, and it is put once more.
+    fn settle<W: Write, E: Write>(
+        &self,
+        answer: Result<Receipt, ServiceFault>,
+        client: &mut Client<N>,
+        hints: &mut Hints<N>,
+        put: Put,
+        name: &[u8],
+        source: &[u8],
+        answers: &mut W,
+        explanations: &mut E,
+    ) -> Result<(), ScriptFault>
+        ensures { (old : MemberView) → PutAnswers self.now.mode (Puts put self.now.mode name.now source.now) name.now source.now old client.old.member answer
+            → CallsAndTells (PutAnswers self.now.mode (Puts put self.now.mode name.now source.now) name.now source.now) (SaysChange source.now)
+            (talk old (W.contents answers.old)) (talk client.new.member (W.contents answers.new)) result }
+    {
+        if is_short(&answer) {
+            drop(answer);
+            hints.forget();
+            return self.put_anew(client, put, name, source, answers, explanations);
+        }
+        tell_change(self.alloc, answer, source, answers, explanations)
+    }
+
+    // Adds or replaces a unit, whose source this is. While it waits for the workers they have the sources of the next commands too.
     fn change<R: Read, W: Write, E: Write>(
         &self,
         client: &mut Client<N>,
@@ -113,8 +150,27 @@ impl<'a, N: Named + Send + Sync + 'static, H: Wait, D: Disk, P: Patience> Player
         ensures { CallsAndTells (PutAnswers self.now.mode (Puts put self.now.mode name.now source.now) name.now source.now) (SaysChange source.now)
             (talk client.old.member (W.contents answers.old)) (talk client.new.member (W.contents answers.new)) result }
     {
-        let answer = self.put_source(client, script, hints, put, name, source);
-        tell_change(self.alloc, answer, source, answers, explanations)
+        let (rt, alloc, service) = (self.rt, self.alloc, self.service);
+        match self.begun(client, script, hints, source) {
+            Ok(prepared) => {
+                self.look_ahead(client, script, hints);
+                let answer = service.put_prepared(rt, alloc, client, put, name, prepared);
+                self.settle(
+                    answer,
+                    client,
+                    hints,
+                    put,
+                    name,
+                    source,
+                    answers,
+                    explanations,
+                )
+            }
+            Err(fault) => {
+                drop(fault);
+                self.put_anew(client, put, name, source, answers, explanations)
+            }
+        }
     }
 
     // Adds or replaces a unit whose source comes next.
@@ -152,8 +208,8 @@ impl<'a, N: Named + Send + Sync + 'static, H: Wait, D: Disk, P: Patience> Player
         }
     }
 
-    // Puts a unit of this source in the place of that of a name, if that one's source is the expected one. No source of a later command is
-    // handed in meanwhile.
+    // Replaces the unit under a name with one compiled from this source, if the old unit has the expected source. No source of a
+    // later command is handed in meanwhile.
     fn exchange<W: Write, E: Write>(
         &self,
         client: &mut Client<N>,
@@ -172,7 +228,7 @@ impl<'a, N: Named + Send + Sync + 'static, H: Wait, D: Disk, P: Patience> Player
         tell_change(self.alloc, answer, source, answers, explanations)
     }
 
-    // Does so with the source that comes next, unless there was no room for the expected one.
+    // The same with the source that comes next, unless there was no room for the expected one.
     fn update_from<R: Read, W: Write, E: Write>(
         &self,
         client: &mut Client<N>,
@@ -205,7 +261,7 @@ impl<'a, N: Named + Send + Sync + 'static, H: Wait, D: Disk, P: Patience> Player
         }
     }
 
-    // Puts a unit in the place of that of a name, if that one's source is the one that comes next; the unit's own source comes after it.
+    // Replaces the unit under a name, if its source is the one that comes next; the new unit's source comes after that.
     fn update<R: Read, W: Write, E: Write>(
         &self,
         client: &mut Client<N>,
@@ -295,7 +351,7 @@ impl<'a, N: Named + Send + Sync + 'static, H: Wait, D: Disk, P: Patience> Player
         }
     }
 
-    // Runs the image of a name's unit.
+    // Runs the image of the unit under a name.
     fn run<W: Write, E: Write>(
         &self,
         client: &mut Client<N>,
@@ -330,7 +386,7 @@ impl<'a, N: Named + Send + Sync + 'static, H: Wait, D: Disk, P: Patience> Player
         }
     }
 
-    // Runs the image of a name's unit on input words.
+    // Runs the image of the unit under a name on input words.
     fn call_words<W: Write, E: Write>(
         &self,
         client: &mut Client<N>,
@@ -348,7 +404,7 @@ impl<'a, N: Named + Send + Sync + 'static, H: Wait, D: Disk, P: Patience> Player
         }
     }
 
-    // Runs it on the input words that these bytes are.
+    // Runs the image of the unit under a name on the input words in these bytes.
     fn call_on<W: Write, E: Write>(
         &self,
         client: &mut Client<N>,
@@ -378,7 +434,7 @@ impl<'a, N: Named + Send + Sync + 'static, H: Wait, D: Disk, P: Patience> Player
         }
     }
 
-    // Runs the image of a name's unit on the input words that come next.
+    // Runs the image of the unit under a name on the input words that come next.
     fn call<R: Read, W: Write, E: Write>(
         &self,
         client: &mut Client<N>,
@@ -407,7 +463,7 @@ impl<'a, N: Named + Send + Sync + 'static, H: Wait, D: Disk, P: Patience> Player
         }
     }
 
-    // Writes this part of a name's unit.
+    // Writes this part of the unit under a name.
     fn show<W: Write, E: Write>(
         &self,
         client: &mut Client<N>,
@@ -440,7 +496,7 @@ impl<'a, N: Named + Send + Sync + 'static, H: Wait, D: Disk, P: Patience> Player
         }
     }
 
-    // Writes the library anew. It is no client's call.
+    // Compacts the library. This is no client's call.
     fn compact<W: Write, E: Write>(
         &self,
         answers: &mut W,
@@ -452,7 +508,7 @@ impl<'a, N: Named + Send + Sync + 'static, H: Wait, D: Disk, P: Patience> Player
         tell_done(self.alloc, answer, answers, explanations)
     }
 
-    // Writes how much of its area the library takes. It is no client's call.
+    // Writes how much of its area the library takes. This is no client's call.
     fn space<W: Write, E: Write>(
         &self,
         answers: &mut W,
@@ -464,7 +520,8 @@ impl<'a, N: Named + Send + Sync + 'static, H: Wait, D: Disk, P: Patience> Player
         tell_room(self.alloc, answer, answers, explanations)
     }
 
-    // Writes what an audit says of a unit that was found, or that memory ran out in it: whether it said anything.
+    // Writes what an audit says about a unit that was found, or that memory ran out during the audit. The result is whether the
+    // audit said anything.
     fn audit_unit<W: Write, E: Write>(
         &self,
         name: &[u8],
@@ -489,7 +546,7 @@ impl<'a, N: Named + Send + Sync + 'static, H: Wait, D: Disk, P: Patience> Player
         }
     }
 
-    // Audits the unit of a name: whether it was found and the audit said anything.
+    // Audits the unit under a name. The result is whether it was found and the audit said anything.
     fn audit_name<W: Write, E: Write>(
         &self,
         client: &mut Client<N>,
@@ -508,7 +565,8 @@ impl<'a, N: Named + Send + Sync + 'static, H: Wait, D: Disk, P: Patience> Player
         }
     }
 
-    // Audits the units of these names, up to the first that is not found or whose audit says nothing: whether none was.
+    // Audits the units under these names, up to the first that is not found or whose audit says nothing. The result is whether
+    // there was no such unit.
     fn audit_names<W: Write, E: Write>(
         &self,
         client: &mut Client<N>,
@@ -528,7 +586,7 @@ impl<'a, N: Named + Send + Sync + 'static, H: Wait, D: Disk, P: Patience> Player
         Ok(true)
     }
 
-    // Audits the unit of a name.
+    // Audits the unit under a name.
     fn audit_one<W: Write, E: Write>(
         &self,
         client: &mut Client<N>,
@@ -654,12 +712,11 @@ impl<'a, N: Named + Send + Sync + 'static, H: Wait, D: Disk, P: Patience> Player
         }
     }
 
-    // Does what a script of this dialect asks for, up to its end or a fault that ends it.
-    fn play_lines<R: Read, W: Write, E: Write>(
+    // Does what a script of this dialect asks for, up to its end or a fault that ends it, whose line `tell_halt` writes.
+    pub(crate) fn play<R: Read, W: Write, E: Write>(
         &self,
         client: &mut Client<N>,
         script: &mut Reading<R>,
-        hints: &mut Hints<N>,
         dialect: Dialect,
         answers: &mut W,
         explanations: &mut E,
@@ -669,16 +726,17 @@ impl<'a, N: Named + Send + Sync + 'static, H: Wait, D: Disk, P: Patience> Player
         ensures grows { Grows client.old.member client.new.member }
     {
         let mut line = [0u8; LINE_BYTES];
+        let mut hints = Hints::new(self.alloc);
         let mut held = Held::new(client);
-        // Each line but the last takes a byte at least.
-        for lines in 0..=MOST_BYTES {
+        // Each line except the last takes at least one byte.
+        for lines in 0..=SCRIPT_BYTES {
             held.count(client);
             let limit = held.limit(self.most, lines, self.patience);
             match script.next_line(&mut line, limit)? {
                 NextLine::Line(length) => self.obey(
                     client,
                     script,
-                    hints,
+                    &mut hints,
                     dialect,
                     &line[..length],
                     answers,
@@ -690,29 +748,47 @@ impl<'a, N: Named + Send + Sync + 'static, H: Wait, D: Disk, P: Patience> Player
         }
         Err(ScriptFault::ScriptTooLong)
     }
+}
 
-    // Does so, and then writes the line of the fault that ended the script. If that cannot be written the fault is 54.
-    pub(crate) fn play<R: Read, W: Write, E: Write>(
-        &self,
-        client: &mut Client<N>,
-        script: &mut Reading<R>,
-        dialect: Dialect,
-        answers: &mut W,
-        explanations: &mut E,
-    ) -> Result<(), ScriptFault>
-        requires { script.old.left ≡ 16777216 }
-        ensures played { IsPlayedBy self.now.mode dialect self.now.most script.old.rest (talk client.old.member (W.contents answers.old)) (talk client.new.member (W.contents answers.new)) result }
-        ensures grows { Grows client.old.member client.new.member }
-    {
-        let mut hints = Hints::new(self.alloc);
-        let played = self.play_lines(client, script, &mut hints, dialect, answers, explanations);
-        drop(hints);
-        match played {
-            Ok(()) => Ok(()),
-            Err(fault) => match tell_fault(fault, answers, explanations) {
-                Ok(()) => Err(fault),
-                Err(unwritten) => Err(unwritten),
-            },
-        }
+// Whether memory was refused, or a worker is gone.
+fn is_short(answer: &Result<Receipt, ServiceFault>) -> bool
+    ensures { result ≡ true → (answer.now ≡ Err OutOfMemory) ⊎ (answer.now ≡ Err WorkersGone) }
+{
+    match answer {
+        Err(ServiceFault::OutOfMemory) => true,
+        Err(ServiceFault::WorkersGone) => true,
+        Ok(_) | Err(_) => false,
+    }
+}
+
+// Writes the line of the fault that ended a script. If that cannot be written the fault is 54.
+fn tell_line<W: Write, E: Write>(
+    fault: ScriptFault,
+    answers: &mut W,
+    explanations: &mut E,
+) -> Result<(), ScriptFault>
+    ensures { (mode : Mode) (dialect : Dialect) (most : Option ℕ) (script : Option (List ℕ)) (old : Talk) (client : MemberView)
+        → IsEnding most fault × IfSome script (λ bytes. IsStoppedBy mode dialect most fault bytes old (talk client (W.contents answers.old)))
+        → IsPlayedBy mode dialect most script old (talk client (W.contents answers.new)) result }
+{
+    match tell_fault(fault, answers, explanations) {
+        Ok(()) => Err(fault),
+        Err(unwritten) => Err(unwritten),
+    }
+}
+
+// Writes the line of the fault that ended a script, if one did: how the script ended.
+pub(crate) fn tell_halt<W: Write, E: Write>(
+    halted: Result<(), ScriptFault>,
+    answers: &mut W,
+    explanations: &mut E,
+) -> Result<(), ScriptFault>
+    ensures { (mode : Mode) (dialect : Dialect) (most : Option ℕ) (script : Option (List ℕ)) (old : Talk) (client : MemberView)
+        → IsHalted mode dialect most script old (talk client (W.contents answers.old)) halted
+        → IsPlayedBy mode dialect most script old (talk client (W.contents answers.new)) result }
+{
+    match halted {
+        Ok(()) => Ok(()),
+        Err(fault) => tell_line(fault, answers, explanations),
     }
 }

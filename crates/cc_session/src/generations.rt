@@ -1,7 +1,7 @@
 // Serving on and on: each generation is one service, and the next begins with the disk and the spools that it left.
 
 ghost use Rattle.std.specs.Prelude.{◌≡◌, ◌≢◌, ◌≤◌, ℕ, All, zero, suc, true, false, map};
-ghost use Rattle.cc_c_laws.specs.declared.mode.Mode.TheVariants.{Plain};
+ghost use Rattle.cc_c_semantics.specs.declared.mode.Mode.TheVariants.{Plain};
 ghost use Rattle.cc_session.specs.Generations.{GoesOn, ServesOn};
 ghost use Rattle.cc_session.specs.declared.end.SessionEnd.TheVariants.{Finished};
 ghost use Rattle.cc_session.specs.Spooling.{ServingEnds, given_by};
@@ -40,7 +40,7 @@ fn are_over<S: Spool>(spools: &mut [S]) -> bool
     true
 }
 
-// Waits for so many seconds, or until each spool is over; whether it is.
+// Waits for this many seconds, or until each spool is over. The result is whether each is over.
 fn rest<H: Clock, S: Spool>(rt: &H, seconds: u64, spools: &mut [S]) -> bool
     ensures over { result ≡ true → All S.over spools.new }
     ensures spools { map (given_by S.taken S.ended) spools.new ≡ map (given_by S.taken S.ended) spools.old }
@@ -54,7 +54,7 @@ fn rest<H: Clock, S: Spool>(rt: &H, seconds: u64, spools: &mut [S]) -> bool
     are_over(spools)
 }
 
-// Whether the first generation ended so that a next one may begin.
+// Whether the first generation ended in such a way that a next one may begin.
 fn is_well(end: SessionEnd) -> bool
     ensures well { result ≡ true → GoesOn zero end }
     ensures not { result ≡ false → end ≢ Finished }
@@ -65,7 +65,7 @@ fn is_well(end: SessionEnd) -> bool
     }
 }
 
-// Whether a later one did: without a fault, or by one that may pass.
+// Whether a later generation ended in such a way that a next one may begin: without a fault, or with one that may pass.
 fn may_pass(end: SessionEnd) -> bool
     ensures passes { result ≡ true → GoesOn (suc zero) end }
     ensures not { result ≡ false → end ≢ Finished }
@@ -76,7 +76,7 @@ fn may_pass(end: SessionEnd) -> bool
     }
 }
 
-// For how many seconds the server waits behind a generation that ended so, behind which it waited for so many the last time.
+// How many seconds the server waits after a generation that ended like this, if it waited for `last` seconds the last time.
 fn pause_behind(end: SessionEnd, last: u64) -> u64
     ensures { result ≤ 60 }
 {
@@ -86,7 +86,8 @@ fn pause_behind(end: SessionEnd, last: u64) -> u64
     }
 }
 
-// Tells a person that a generation ended by a fault that may pass: of faults in a row the first.
+// Explains to a person that a generation ended with a fault that may pass. Only the first of several faults in a row is
+// explained.
 fn tell_pause<E: Write>(end: SessionEnd, pause: u64, explanations: &mut E) {
     match end {
         SessionEnd::Fault(number) if pause == 1 => {
@@ -101,8 +102,8 @@ fn tell_pause<E: Write>(end: SessionEnd, pause: u64, explanations: &mut E) {
     }
 }
 
-// Whether a next generation is to begin: the last one ended without a fault or by one that may pass, and some spool is not over. Behind a fault
-// there is a pause.
+// Whether a next generation is to begin: the last one ended without a fault or with one that may pass, and some spool is not
+// over. After a fault there is a pause.
 fn goes_on<H: Clock, E: Write, D: Drop, S: Spool + Drop>(
     rt: &H,
     left: &mut Served<D, S>,
@@ -123,80 +124,15 @@ fn goes_on<H: Clock, E: Write, D: Drop, S: Spool + Drop>(
     !rest(rt, *pause, left.spools.as_mut_slice())
 }
 
-// Serves so, and writes no line of the fault that ended it.
-fn serve_all<H, S, E, D, T>(
-    rt: &H,
-    alloc: Global,
-    mode: Mode,
-    spools: Vec<S>,
-    explanations: &mut E,
-    disk: D,
-    workers: usize,
-    bounds: Bounds,
-    steward: &mut T,
-) -> Served<D, S>
-where
-    H: Threads + Wait + Clock + Copy + Send + Sync + 'static,
-    S: Spool + Send + Drop,
-    E: Write,
-    D: Disk + Send + Drop,
-    T: Steward,
-    requires some { 1 ≤ workers }
-    requires few { workers ≤ 8 }
-    ensures generations { (earlier : ℕ) × ServesOn (ServingEnds mode D.Disk) earlier
-        (map (given_by S.taken S.ended) spools.items) (map (given_by S.taken S.ended) result.spools.items) disk result.disk result.end }
-    ensures over { result.end ≡ Finished → All S.over result.spools.items }
-{
-    let mut left = serve_quietly(
-        rt,
-        alloc,
-        mode,
-        spools,
-        explanations,
-        disk,
-        workers,
-        NoGate,
-        bounds,
-        steward,
-    );
-    if !is_well(left.end) {
-        return left;
-    }
-    let mut pause = 0;
-    for _ in rt.forever() {
-        if !goes_on(rt, &mut left, &mut pause, explanations) {
-            return left;
-        }
-        let Served {
-            disk,
-            spools,
-            end: _,
-        } = left;
-        left = serve_quietly(
-            rt,
-            alloc,
-            mode,
-            spools,
-            explanations,
-            disk,
-            workers,
-            NoGate,
-            bounds,
-            steward,
-        );
-    }
-    unreachable!()
-}
-
-/// Serves as `serve_in` does, one generation behind the other, until each spool is over or a service ends by a fault. A generation begins with
-/// the disk and the spools that the one before left; the numbers of its receipts begin at 1. Between two of them no script is taken, for as
-/// long as the service's end, the opening of the library and `steward` take.
+/// Serves as `serve_in` does, one generation after the other, until each spool is over or a service ends with a fault. A
+/// generation begins with the disk and the spools that the one before left; the numbers of its receipts begin at 1. Between two
+/// of them no script is taken, for as long as the service's end, the opening of the library and `steward` take.
 ///
-/// If a later generation ends by 40 or 41, which may pass, the next is tried after a pause: of a second, and then twice as long each time, up
-/// to a minute. The first fault of a row is explained on `explanations`. It ends by that fault only if each spool is over then. Any fault of the
-/// first generation ends it.
+/// If a later generation ends with 40 or 41, which may pass, the next is tried after a pause: of a second at first, and then
+/// twice as long each time, up to a minute. The first of several faults in a row is explained on `explanations`. Serving ends
+/// with such a fault only if each spool is over then. Any fault of the first generation ends it.
 ///
-/// What goes to `writer` and `explanations`, and what is handed back, is as with `serve_in`, of the last generation.
+/// What goes to `writer` and `explanations`, and what is handed back, is as with `serve_in`, for the last generation.
 pub fn serve_on_in<H, S, W, E, D, T>(
     rt: &H,
     alloc: Global,
@@ -222,10 +158,10 @@ where
         (map (given_by S.taken S.ended) spools.items) (map (given_by S.taken S.ended) result.spools.items) disk result.disk result.end }
     // If no fault ended it, each spool has said that it is over.
     ensures over { result.end ≡ Finished → All S.over result.spools.items }
-    // Nothing is written where no fault ended it.
+    // Nothing is written if no fault ended it.
     ensures still { result.end ≡ Finished → W.contents writer.new ≡ W.contents writer.old }
 {
-    let left = serve_all(
+    let mut left = serve_quietly(
         rt,
         alloc,
         mode,
@@ -233,14 +169,38 @@ where
         explanations,
         disk,
         workers,
+        NoGate,
         bounds,
         steward,
     );
-    tell_end(alloc, left.end, writer, explanations);
-    left
+    if !is_well(left.end) {
+        tell_end(alloc, left.end, writer, explanations);
+        return left;
+    }
+    let mut pause = 0;
+    for _ in rt.forever() {
+        if !goes_on(rt, &mut left, &mut pause, explanations) {
+            tell_end(alloc, left.end, writer, explanations);
+            return left;
+        }
+        let Served { disk, spools, .. } = left;
+        left = serve_quietly(
+            rt,
+            alloc,
+            mode,
+            spools,
+            explanations,
+            disk,
+            workers,
+            NoGate,
+            bounds,
+            steward,
+        );
+    }
+    unreachable!()
 }
 
-/// Does so in the plain mode: `serve_on_in`.
+/// The same in the plain mode: `serve_on_in`.
 pub fn serve_on<H, S, W, E, D, T>(
     rt: &H,
     alloc: Global,
@@ -265,7 +225,7 @@ where
         (map (given_by S.taken S.ended) spools.items) (map (given_by S.taken S.ended) result.spools.items) disk result.disk result.end }
     // If no fault ended it, each spool has said that it is over.
     ensures over { result.end ≡ Finished → All S.over result.spools.items }
-    // Nothing is written where no fault ended it.
+    // Nothing is written if no fault ended it.
     ensures still { result.end ≡ Finished → W.contents writer.new ≡ W.contents writer.old }
 {
     serve_on_in(

@@ -1,8 +1,9 @@
 // The sources of a script's next commands, handed to the workers before their turn.
 //
-// What a script's reader has given already is looked through for them. Nothing is read for that, so a script that somebody types line by line is
-// answered line by line. What was handed in is a hint: at its turn the source of a command is compared with it, and a hint that was refused, or
-// whose memory or worker is gone, is as if there were none. So answers and their order are those of a script whose sources are compiled one by one.
+// They are found in what the script's reader has already given. Nothing is read for that, so a script that somebody types line by
+// line is answered line by line. What was handed in is a hint: at its turn the source of a command is compared with it. A hint
+// that was refused, or whose memory or worker is gone, counts as no hint. So answers and their order are those of a script whose
+// sources are compiled one by one.
 
 ghost use Rattle.std.specs.Prelude.{◌≡◌, IfSome};
 
@@ -14,13 +15,13 @@ use std::alloc::Global;
 use std::collections::VecDeque;
 use std::sync::Wait;
 
-/// The most sources that are handed in before their turn.
+/// At most this many sources are handed in before their turn.
 const MOST_SOURCES: usize = 4;
 
-/// How many functions of such sources are enough: no further source is handed in.
+/// Once the handed-in sources have this many functions, no further source is handed in.
 const ENOUGH_FUNCTIONS: usize = 16;
 
-// A source that was handed in, and how many bytes of the script will have been read when it and its newline have.
+// A source that was handed in, and how many bytes of the script will have been read once the source and its newline are read.
 #[derive(Drop)]
 struct Hint<N: Named> {
     at: usize,
@@ -31,11 +32,11 @@ struct Hint<N: Named> {
 #[derive(Drop)]
 pub(crate) struct Hints<N: Named> {
     hints: VecDeque<Hint<N>>,
-    // Up to which byte the script was looked through.
+    // The script was looked through up to this byte.
     looked: usize,
 }
 
-// The line that begins at a byte, without its newline; none if it is not there as a whole, or is too long.
+// The line that begins at a byte, without its newline; none if it is not yet there as a whole, or is too long.
 fn line_at(held: &[u8], begin: usize) -> Option<&[u8]> {
     let rest = held.get(begin..).unwrap_or(b"");
     let few = rest.get(..=LINE_BYTES).unwrap_or(rest);
@@ -45,7 +46,7 @@ fn line_at(held: &[u8], begin: usize) -> Option<&[u8]> {
     }
 }
 
-// Where the next source stands that is there as a whole, with the newline after it: where it begins, and where it ends.
+// The place of the next source that is there as a whole, with the newline after it: its beginning and its end.
 fn next_source(held: &[u8], from: usize) -> Option<(usize, usize)> {
     let mut begin = from;
     for _ in 0..held.len() {
@@ -93,7 +94,7 @@ impl<N: Named + Send + Sync + 'static> Hints<N> {
         }
     }
 
-    // Lets all go.
+    // Drops all hints.
     pub(crate) fn forget(&mut self) {
         self.hints.clear();
     }
@@ -107,7 +108,8 @@ impl<N: Named + Send + Sync + 'static> Hints<N> {
         MOST_SOURCES <= self.hints.len() || ENOUGH_FUNCTIONS <= functions
     }
 
-    // What was handed in of a source, which was read up to here, if it is this one. Those of commands before it are let go.
+    // What was handed in for a source that was read up to here, if it is this source. What was handed in for earlier commands is
+    // dropped.
     pub(crate) fn take(&mut self, mode: Mode, at: usize, source: &[u8]) -> Option<Prepared<N>>
         ensures text { IfSome result (λ prepared. prepared.text ≡ source.now) }
         ensures mode { IfSome result (λ prepared. prepared.mode ≡ mode) }
@@ -128,7 +130,8 @@ impl<N: Named + Send + Sync + 'static> Hints<N> {
         None
     }
 
-    // Hands the sources of the next commands to the workers, of a script that was read up to here and of which these bytes are there.
+    // Hands the sources of the next commands to the workers, for a script that was read up to here. `held` is the part of the
+    // rest that has been read already.
     pub(crate) fn look_ahead<H: Wait, D: Disk>(
         &mut self,
         rt: &H,
@@ -155,7 +158,7 @@ impl<N: Named + Send + Sync + 'static> Hints<N> {
         }
     }
 
-    // Hands a source to the workers, up to whose newline the script was looked through.
+    // Hands in a source to the workers; the script was looked through up to the newline after it.
     fn hand_in<H: Wait, D: Disk>(
         &mut self,
         rt: &H,

@@ -1,4 +1,4 @@
-// Whether a script is to end though more of it is left, and the run of an image, at which that is asked from time to time.
+// Whether a script is to end although more of it is left. The run of an image asks this from time to time.
 
 ghost use Rattle.std.specs.Prelude.{◌+◌, ℕ, [], IfOk};
 ghost use Rattle.cc_rv32.specs.Simulation.{IsAfter};
@@ -13,16 +13,16 @@ use cc_rv32::outcome::MachineOutcome;
 use cc_spool::Spool;
 use std::alloc::{AllocError, Global};
 
-// How many instructions of a run are done between two looks at whether others wait.
+// How many instructions of a run are done before it is looked again whether others wait.
 const SLICE: u64 = 10_000_000;
 
-// Who says whether a script is to end.
+// Decides whether a script is to end.
 pub(crate) trait Patience {
-    // Whether it is to end now. It is asked after each line, and behind each slice of a run.
+    // Whether the script is to end now. This is asked after each line, and after each slice of a run.
     fn is_out(&self) -> bool;
 }
 
-// Nobody waits.
+// No one waits.
 #[derive(Drop)]
 pub(crate) struct Unhurried;
 
@@ -32,7 +32,7 @@ impl Patience for Unhurried {
     }
 }
 
-// Others wait for a script of a spool's.
+// Others may wait for a script of a spool to end.
 #[derive(Drop)]
 pub(crate) struct Others<'a, S> {
     pub(crate) spool: &'a S,
@@ -40,13 +40,13 @@ pub(crate) struct Others<'a, S> {
 }
 
 impl<'a, S: Spool> Patience for Others<'a, S> {
-    // It has been at work for long, and a script waits, or the server or the generation is to end.
+    // The script has been at work for long, and another script waits, or the server or the generation is to end.
     fn is_out(&self) -> bool {
         self.spool.is_long() && (self.spool.is_awaited() || self.meter.is_full())
     }
 }
 
-// What a machine has written and come to behind so many instructions more.
+// What a machine has written, and its outcome, after this many more instructions.
 fn run_to_end(alloc: Global, machine: &mut Machine, steps: u64) -> Result<ImageRun, AllocError>
     ensures { IfOk result (λ run. (image : Image) (done : ℕ) → IsAfter image [] done machine.old → IsRunOf image (done + steps) [] run) }
 {
@@ -59,8 +59,8 @@ fn run_to_end(alloc: Global, machine: &mut Machine, steps: u64) -> Result<ImageR
     }
 }
 
-// What an image does on no input within this many instructions, as `run_image` says. None if it may stop and is to, behind a slice: then it is
-// not at its end.
+// What an image does on no input within this many instructions, as `run_image` says. None if the run may be stopped, and is
+// stopped after a slice: the image is then not at its end.
 pub(crate) fn run_in_slices<P: Patience>(
     alloc: Global,
     image: &Image,

@@ -8,12 +8,12 @@ ghost use Rattle.cc_script.specs.declared.fault.ScriptFault.TheVariants.{BadLine
 ghost use Rattle.cc_session.specs.internal.Steps.{HasSent, IsNoLine, IsSentAs, MayFollow};
 
 use cc_answers::tell_fault;
-use cc_script::{LINE_BYTES, MOST_BYTES, NextLine, Script, ScriptFault};
+use cc_script::{LINE_BYTES, NextLine, SCRIPT_BYTES, Script, ScriptFault};
 use std::alloc::Global;
 use std::io::{Read, Write};
 use std::marker::Model;
 
-// A script, and who writes it. A clause sees what is ahead in it.
+// A script, and who writes it. Clauses refer to what is ahead in it.
 #[derive(Drop)]
 pub(crate) struct Reading<R: Read> {
     script: Script,
@@ -32,13 +32,13 @@ impl<R: Read> Model for Reading<R> {
 #[derive(Drop)]
 pub(crate) enum Sent {
     Source(Vec<u8>),
-    // There is no room for it.
+    // There is no room for the source.
     NoRoom,
-    // A byte other than a newline stands behind it.
+    // A byte other than a newline comes after the source.
     Unended,
 }
 
-// What was sent by a source, where there was room for it, and what stands behind it.
+// What was sent as a source, if there was room for it, and what comes after it.
 fn behind_line(source: Option<Vec<u8>>, is_ended: bool) -> Sent
     ensures { IsSentAs source is_ended result }
 {
@@ -62,17 +62,17 @@ impl<R: Read> Reading<R> {
         }
     }
 
-    // How many bytes of it were handed out.
+    // How many bytes of the script were handed out.
     pub(crate) fn position(&self) -> usize {
-        MOST_BYTES.saturating_sub(self.script.left())
+        SCRIPT_BYTES.saturating_sub(self.script.left())
     }
 
-    // What was read of it and not handed out yet.
+    // What was read of the script and not handed out yet.
     pub(crate) fn held(&self) -> &[u8] {
         self.script.held()
     }
 
-    // The script's next line; where one comes, and there is a limit, that fault.
+    // The script's next line. If one comes and there is a limit, the result is that fault.
     #[tactic(auto, using(crate::proofs::Playing::some_left))]
     pub(crate) fn next_line(
         &mut self,
@@ -111,7 +111,7 @@ impl<R: Read> Reading<R> {
         Ok(behind_line(source, is_ended))
     }
 
-    // Writes that a line that was not read to its end is no command, 50, and skips it.
+    // Writes 50, that a line that was not read to its end is no command, and skips the line.
     pub(crate) fn refuse_and_skip<W: Write, E: Write>(
         &mut self,
         answers: &mut W,

@@ -2,19 +2,19 @@
 
 ghost use Rattle.std.specs.Prelude.{◌≡◌, ◌≤◌, ◌<◌, ℕ, List, [], Option, IsTrue, IfOk, IfErr, vec_len};
 ghost use Rattle.std.specs.Vec.{vec_capacity};
-ghost use Rattle.cc_c_laws.specs.declared.mode.Mode.TheVariants.{Plain};
+ghost use Rattle.cc_c_semantics.specs.declared.mode.Mode.TheVariants.{Plain};
 ghost use Rattle.cc_disk.specs.Images.{OnlyReads};
 ghost use Rattle.cc_library.specs.Answers.{OpenFaults};
 ghost use Rattle.cc_library.specs.Apply.{Units};
 ghost use Rattle.cc_library.specs.Recovered.{Recovers};
-ghost use Rattle.cc_service.specs.Opened.{IsOpened};
-ghost use Rattle.cc_service.specs.Since.{IsPast};
+ghost use Rattle.cc_recorded.specs.Opened.{IsOpened};
+ghost use Rattle.cc_recorded.specs.Since.{IsPast};
 ghost use Rattle.cc_service.specs.Client.{members};
 ghost use Rattle.cc_session.specs.Session.{EndsSince, HaveCalled, IsEnded, SessionEnds};
 ghost use Rattle.cc_session.specs.internal.Ends.{given_up_after};
 ghost use Rattle.cc_session.specs.internal.Steps.{EndsFor};
 
-use crate::calls::Player;
+use crate::calls::{Player, tell_halt};
 use crate::end::SessionEnd;
 use crate::patience::Unhurried;
 use crate::reading::Reading;
@@ -32,7 +32,8 @@ use std::snapshot::Snapshot;
 use std::sync::Wait;
 use std::thread::Threads;
 
-// What a service begins with: the library as its opening left it, whose disk is known as it was before, and what no type names yet.
+// What a service begins with: the library as its opening left it, which knows its disk as it was before, and which no type names
+// yet.
 #[derive(Drop)]
 pub(crate) struct Begun<D: Disk> {
     pub(crate) library: Library<D>,
@@ -40,7 +41,7 @@ pub(crate) struct Begun<D: Disk> {
     pub(crate) fresh: Fresh,
 }
 
-// What a service on this disk begins with. The library's map is what the service's type names.
+// What a service on this disk begins with. The map of the library is the one that the service's type will name.
 pub(crate) fn begin<D: Disk + Drop>(alloc: Global, disk: D) -> Result<Begun<D>, (LibraryFault, D)>
     ensures opened { IfOk result (λ b. IsOpened D.Disk b.library) }
     ensures recovered { IfOk result (λ b. IsTrue D.honest → Recovers (D.seen b.library.disk) b.library.units) }
@@ -66,8 +67,9 @@ pub(crate) fn begin<D: Disk + Drop>(alloc: Global, disk: D) -> Result<Begun<D>, 
     }
 }
 
-// The end of a service that was given up. If its clients' receipts are not all there it is 39, whatever fault ended their work. If they are, it is
-// the fault that ended the work; else 40, for there was no memory to end. A fault that comes first here has its line written.
+// The end of a service that was given up. If its clients' receipts are not all there it is 39, whatever fault ended their work.
+// If they are, it is the fault that ended the work; otherwise 40, since there was no memory to end. The line is written only for
+// a fault that first arises here.
 fn given_up<W: Write, E: Write>(
     alloc: Global,
     are_all: bool,
@@ -91,7 +93,7 @@ fn given_up<W: Write, E: Write>(
     }
 }
 
-// How a session ended whose script did so.
+// How a session ended if its script ended like this.
 fn ended(played: Result<(), ScriptFault>) -> SessionEnd
     ensures { EndsFor played result }
 {
@@ -101,7 +103,8 @@ fn ended(played: Result<(), ScriptFault>) -> SessionEnd
     }
 }
 
-// Does a script by one client of a service. However the session ends then, this holds if nothing is written in between.
+// Does a script with one client of a service. The clause holds however the session ends after this, if nothing is written in
+// between.
 fn play_alone<N, H, R, W, E, D>(
     rt: &H,
     alloc: Global,
@@ -135,9 +138,9 @@ where
                 most: None,
                 patience: &Unhurried,
             };
-            let played = player.play(&mut client, script, Dialect::Plain, answers, explanations);
+            let halted = player.play(&mut client, script, Dialect::Plain, answers, explanations);
             clients.push_reserved(client);
-            ended(played)
+            ended(tell_halt(halted, answers, explanations))
         }
         Err(fault) => SessionEnd::Fault(refused(alloc, fault, answers, explanations)),
     }
@@ -151,7 +154,7 @@ fn disk_of<D: Disk>(closed: Closed<D>) -> D
     library.into_disk()
 }
 
-// Ends a service whose clients' work ended so; where its end is refused, it is given up.
+// Ends a service whose clients' work ended like this; if its end is refused, the service is given up.
 pub(crate) fn finish<N, H, W, E, D>(
     rt: &H,
     alloc: Global,
@@ -167,10 +170,10 @@ where
     W: Write,
     E: Write,
     D: Disk,
-    // Whatever bytes those were that recover to the map that the service's type names.
+    // This holds for any bytes that recover to the map that the service's type names.
     ensures ended { (bytes : List ℕ) → (IsTrue D.honest → Recovers bytes N.base)
         → IsEnded D.Disk N.failures bytes N.from N.left (members clients.items) played result.1 result.0 }
-    // Nothing is written if it ends as the clients' work did.
+    // Nothing is written if the service ends as the clients' work did.
     ensures still { result.1 ≡ played → W.contents answers.new ≡ W.contents answers.old }
 {
     match service.finish(rt, alloc, clients) {
@@ -251,9 +254,9 @@ where
     }
 }
 
-/// Does the commands of a script in a mode as `session` does, and writes to `explanations` what helps a person with a fault: the place in the source
-/// that was sent, as `check` tells it, or a few words. Where such a write fails the session goes on. The workers pass `gate`, so that who
-/// waits can be told how far a long `add` is.
+/// Does the commands of a script in a mode as `session` does, and writes to `explanations` what helps a person with a fault: the
+/// place in the source that was sent, as `check` reports it, or a few words. If such a write fails, the session goes on. The
+/// workers pass `gate`, which can show how far a long `add` is.
 pub fn session_and_explain_in<H, R: Read, W: Write, E: Write, D: Disk + Drop, G>(
     rt: &H,
     alloc: Global,
@@ -296,7 +299,7 @@ where
     }
 }
 
-/// Does so in the plain mode: `session_and_explain_in`.
+/// The same in the plain mode: `session_and_explain_in`.
 pub fn session_and_explain<H, R: Read, W: Write, E: Write, D: Disk + Drop, G>(
     rt: &H,
     alloc: Global,
@@ -327,17 +330,18 @@ where
     )
 }
 
-/// Opens the library on a disk as a service with this many workers, 1 to 8, does the commands of a script by one client, and ends the
-/// service.
+/// Opens the library on a disk as a service with this many workers, 1 to 8, does the commands of a script with one client, and
+/// ends the service.
 ///
-/// The script, a plain one, comes from `reader`, each answer goes to `writer`, which is flushed after it. If the session ends as the script did
-/// (`Finished`, or 51 to 53) the writer got the lines of the script's turns in their order, and no other byte. A refusal writes its fault's line, and the
-/// session goes on; a fault of the opening, of the script (51 to 54; of 54 there is no line) or of the service's end (39, 40) ends it. The
-/// end is the first of them, but 39 goes before a fault of the script. The disk is handed back after each.
+/// The script, a plain one, comes from `reader`, each answer goes to `writer`, which is flushed after it. If the session ends as
+/// the script did (`Finished`, or 51 to 53) the writer got the lines of the script's turns in their order, and no other byte. For
+/// a refusal its fault's line is written, and the session goes on; a fault of the opening, of the script (51 to 54; 54 has no
+/// line) or of the service's end (39, 40) ends it. The end is the first of these faults, but 39 takes precedence over a fault of
+/// the script. The disk is handed back after each.
 ///
-/// 51 comes only if the script has fewer bytes than a line's source, 52 only if it has more than 16,777,216. After each end but 39 the library
-/// is kept with all that the client's receipts say. 39 says that a receipt is not in the history, or that other calls are: then some legal
-/// history is kept.
+/// 51 comes only if the script has fewer bytes than a line's source, 52 only if it has more than 16,777,216. After each end but
+/// 39 the library is kept with all that the client's receipts say. 39 says that a receipt is not in the history, or that other
+/// calls are: then some legal history is kept.
 pub fn session<H, R: Read, W: Write, D: Disk + Drop>(
     rt: &H,
     alloc: Global,

@@ -1,19 +1,21 @@
-// Many clients of one service, each in a thread of its own with the scripts that its spool gives, from the opening of the service to its end.
+// Many clients of one service, each in a thread of its own with the scripts that its spool gives, from the opening of the service
+// to its end.
 //
-// All memory that this needs beside the clients' is taken before the service is opened, so that no client is lost once it works. The disk
-// and the spools are handed back, so a next service can go on with them.
+// All memory that this needs, except the clients' own, is taken before the service is opened, so that no client is lost once it
+// works. The disk and the spools are handed back, so a next service can go on with them.
 
-ghost use Rattle.std.specs.Prelude.{◌≡◌, ◌≤◌, ◌<◌, ℕ, All, List, [], IsTrue, IfOk, IfErr, OnOk, length, map, slice_index_or, vec_len};
+ghost use Rattle.std.specs.Prelude.{◌≡◌, ◌≤◌, ℕ, All, List, [], IsTrue, IfOk, IfErr, OnErr, OnOk, map, vec_len};
 ghost use Rattle.std.specs.Vec.{vec_capacity};
-ghost use Rattle.cc_c_laws.specs.declared.mode.Mode.TheVariants.{Plain};
+ghost use Rattle.cc_c_semantics.specs.declared.mode.Mode.TheVariants.{Plain};
 ghost use Rattle.cc_library.specs.Apply.{Units};
 ghost use Rattle.cc_library.specs.Recovered.{Recovers};
 ghost use Rattle.cc_service.specs.Client.{members};
 ghost use Rattle.cc_service.specs.Fault.{fault_number};
-ghost use Rattle.cc_service.specs.Opened.{IsOpened};
-ghost use Rattle.cc_service.specs.Since.{IsPast};
+ghost use Rattle.cc_service.specs.Serving.{IsNotStarted};
+ghost use Rattle.cc_recorded.specs.Opened.{IsOpened};
+ghost use Rattle.cc_recorded.specs.Since.{IsPast};
 ghost use Rattle.cc_service.specs.declared.fault.ServiceFault.TheVariants.{TooManyClients};
-ghost use Rattle.cc_session.specs.Session.{EndsSince, HasEnded};
+ghost use Rattle.cc_session.specs.Session.{EndsSince, IsEnded};
 ghost use Rattle.cc_session.specs.declared.end.SessionEnd.TheVariants.{Fault, Finished};
 ghost use Rattle.cc_session.specs.Spooling.{HasDone, HaveServed, ServingEnds, given_by};
 
@@ -42,7 +44,7 @@ struct Post<N: Named, S> {
     spool: S,
 }
 
-// Room for the clients and the spools, while they work and behind it.
+// Room for the clients and the spools, while they work and afterwards.
 #[derive(Drop)]
 struct Room<N: Named, S> {
     posts: Vec<Post<N, S>>,
@@ -65,7 +67,7 @@ fn room_for<N: Named, S: Drop>(alloc: Global, count: usize) -> Result<Room<N, S>
     })
 }
 
-// Makes so many clients of a service; 30 where it has fewer.
+// Makes this many clients of a service; 30 if the service has fewer.
 fn hire<N, H, D>(
     rt: &H,
     alloc: Global,
@@ -90,7 +92,7 @@ where
     Ok(())
 }
 
-// Puts each spool beside a client of its own.
+// Pairs each spool with a client of its own.
 fn pair<N: Named, S: Drop>(
     clients: &mut Vec<Client<N>>,
     spools: Vec<S>,
@@ -133,64 +135,42 @@ fn dismiss<N: Named, S: Drop>(
     }
 }
 
-fn attend_post<N, H, S, D>(
+// Makes a client for each spool and puts it beside. If the service has too few of them the spools are handed back.
+fn staff<N, H, S, D>(
     rt: &H,
     alloc: Global,
-    mode: Mode,
     service: &Service<N, D>,
-    post: &mut Post<N, S>,
-    meter: &Meter,
-)
+    spools: Vec<S>,
+    room: &mut Room<N, S>,
+) -> Result<(), Vec<S>>
 where
     N: Named + Send + Sync + 'static,
     H: Wait,
-    S: Spool,
+    S: Drop,
     D: Disk,
-    ensures { HasDone mode (given_by S.taken S.ended post.old.spool) post.old.client.member (given_by S.taken S.ended post.new.spool) post.new.client.member }
+    requires posts { (room.old.posts.items ≡ []) × (vec_len spools ≤ vec_capacity room.old.posts) }
+    requires clients { (room.old.clients.items ≡ []) × (vec_len spools ≤ vec_capacity room.old.clients) }
+    requires spools { (room.old.spools.items ≡ []) × (vec_len spools ≤ vec_capacity room.old.spools) }
+    ensures paired { OnOk result (map (λ p. p.spool) room.new.posts.items ≡ spools.items) }
+    ensures fresh { OnOk result (All (λ p. p.client.member.receipts ≡ []) room.new.posts.items) }
+    ensures clients { OnOk result ((room.new.clients.items ≡ []) × (vec_len room.new.posts ≤ vec_capacity room.new.clients)) }
+    ensures spools { OnOk result ((room.new.spools.items ≡ []) × (vec_len room.new.posts ≤ vec_capacity room.new.spools)) }
+    ensures back { IfErr result (λ left. left ≡ spools) }
+    ensures unused { OnErr result (All (λ c. c.member.receipts ≡ []) room.new.clients.items) }
 {
-    attend_in(
-        rt,
-        alloc,
-        mode,
-        service,
-        &mut post.client,
-        &mut post.spool,
-        meter,
-    );
-}
-
-// Each client does the scripts of its spool, in a thread of its own where one can be made. Those for which none can be made begin when others
-// have ended.
-fn attend_all<N, H, S, D>(
-    rt: &H,
-    alloc: Global,
-    mode: Mode,
-    service: &Service<N, D>,
-    posts: &mut [Post<N, S>],
-    meter: &Meter,
-)
-where
-    N: Named + Send + Sync + 'static,
-    H: Threads + Wait + Send + Sync,
-    S: Spool + Send,
-    D: Disk + Send,
-    ensures { (i : ℕ) (d : _) → i < length posts.old → HasDone mode
-        (given_by S.taken S.ended (slice_index_or posts.old i d).spool) (slice_index_or posts.old i d).client.member
-        (given_by S.taken S.ended (slice_index_or posts.new i d).spool) (slice_index_or posts.new i d).client.member }
-{
-    let count = posts.len();
-    if count == 0 {
-        return;
+    match hire(rt, alloc, service, spools.len(), &mut room.clients) {
+        Ok(()) => {
+            pair(&mut room.clients, spools, &mut room.posts);
+            Ok(())
+        }
+        Err(fault) => {
+            drop(fault);
+            Err(spools)
+        }
     }
-    thread::for_each_mut(
-        rt,
-        posts,
-        count,
-        &|_, post| attend_post(rt, alloc, mode, service, post, meter),
-    );
 }
 
-// What is there when the clients have ended their work: they, their spools, and how it ended.
+// What is there when the clients have ended their work: the clients, their spools, and how the work ended.
 #[derive(Drop)]
 struct Worked<N: Named, S> {
     clients: Vec<Client<N>>,
@@ -198,60 +178,42 @@ struct Worked<N: Named, S> {
     end: SessionEnd,
 }
 
-// A client for each spool does what this gives. Where the service has too few of them nothing is done.
-fn work<N, H, S, E, D, T>(
-    rt: &H,
-    alloc: Global,
-    mode: Mode,
-    service: &Service<N, D>,
-    room: Room<N, S>,
-    spools: Vec<S>,
-    meter: &Meter,
-    steward: &mut T,
-    explanations: &mut E,
-) -> Worked<N, S>
-where
-    N: Named + Send + Sync + 'static,
-    H: Threads + Wait + Send + Sync,
-    S: Spool + Send + Drop,
-    E: Write,
-    D: Disk + Send,
-    T: Steward,
-    requires posts { (room.posts.items ≡ []) × (vec_len spools ≤ vec_capacity room.posts) }
-    requires clients { (room.clients.items ≡ []) × (vec_len spools ≤ vec_capacity room.clients) }
-    requires spools { (room.spools.items ≡ []) × (vec_len spools ≤ vec_capacity room.spools) }
-    ensures { HaveServed mode (map (given_by S.taken S.ended) spools.items) (map (given_by S.taken S.ended) result.spools.items) (members result.clients.items) result.end }
+// All clients are done.
+fn done<N: Named, S: Drop>(room: Room<N, S>) -> Worked<N, S>
+    requires clients { (room.clients.items ≡ []) × (vec_len room.posts ≤ vec_capacity room.clients) }
+    requires spools { (room.spools.items ≡ []) × (vec_len room.posts ≤ vec_capacity room.spools) }
+    ensures clients { result.clients.items ≡ map (λ p. p.client) room.posts.items }
+    ensures spools { result.spools.items ≡ map (λ p. p.spool) room.posts.items }
+    ensures end { result.end ≡ Finished }
 {
     let Room {
-        mut posts,
+        posts,
         mut clients,
-        spools: mut left,
+        mut spools,
     } = room;
-    match hire(rt, alloc, service, spools.len(), &mut clients) {
-        Ok(()) => {
-            pair(&mut clients, spools, &mut posts);
-            steward.opened(explanations);
-            attend_all(rt, alloc, mode, service, posts.as_mut_slice(), meter);
-            dismiss(posts, &mut clients, &mut left);
-            Worked {
-                clients,
-                spools: left,
-                end: SessionEnd::Finished,
-            }
-        }
-        Err(fault) => {
-            let number = fault.number();
-            drop(fault);
-            Worked {
-                clients,
-                spools,
-                end: SessionEnd::Fault(number),
-            }
-        }
+    dismiss(posts, &mut clients, &mut spools);
+    Worked {
+        clients,
+        spools,
+        end: SessionEnd::Finished,
     }
 }
 
-/// What is left of serving: the disk; the spools, in their order; how it ended.
+// The service had too few clients: 30.
+fn unhired<N: Named, S: Drop>(spools: Vec<S>, room: Room<N, S>) -> Worked<N, S>
+    ensures clients { result.clients ≡ room.clients }
+    ensures spools { result.spools ≡ spools }
+    ensures end { result.end ≡ Fault (fault_number TooManyClients) }
+{
+    let Room { clients, .. } = room;
+    Worked {
+        clients,
+        spools,
+        end: SessionEnd::Fault(ServiceFault::TooManyClients.number()),
+    }
+}
+
+/// What is left of serving: the disk; the spools, in their order; how serving ended.
 #[derive(Drop)]
 pub struct Served<D: Drop, S: Drop> {
     pub disk: D,
@@ -259,7 +221,7 @@ pub struct Served<D: Drop, S: Drop> {
     pub end: SessionEnd,
 }
 
-// What is left where no service was opened, for this reason.
+// What is left if no service was opened, for this reason.
 fn unserved<S: Spool + Drop, D: Disk + Drop>(
     spools: Vec<S>,
     disk: D,
@@ -278,48 +240,33 @@ fn unserved<S: Spool + Drop, D: Disk + Drop>(
     }
 }
 
-// The clients of a service do what the spools give, and it is ended.
-fn serve_opened<N, H, S, E, D, T>(
+// Ends a service whose clients worked so, and reports that to the steward if scripts were taken.
+fn end_service<N, H, S, E, D, T>(
     rt: &H,
     alloc: Global,
-    mode: Mode,
     service: Service<N, D>,
-    room: Room<N, S>,
-    spools: Vec<S>,
-    bounds: Bounds,
+    worked: Worked<N, S>,
+    meter: &Meter,
     steward: &mut T,
     explanations: &mut E,
 ) -> Served<D, S>
 where
     N: Named + Send + Sync + 'static,
-    H: Threads + Wait + Send + Sync,
-    S: Spool + Send + Drop,
+    H: Wait,
+    S: Spool + Drop,
     E: Write,
-    D: Disk + Send + Drop,
+    D: Disk + Drop,
     T: Steward,
-    requires posts { (room.posts.items ≡ []) × (vec_len spools ≤ vec_capacity room.posts) }
-    requires clients { (room.clients.items ≡ []) × (vec_len spools ≤ vec_capacity room.clients) }
-    requires spools { (room.spools.items ≡ []) × (vec_len spools ≤ vec_capacity room.spools) }
-    // Whatever bytes those were that recover to the map that the service's type names.
-    ensures { (bytes : List ℕ) → (IsTrue D.honest → Recovers bytes N.base) → HasEnded D.Disk N.failures bytes N.from N.left
-        (HaveServed mode (map (given_by S.taken S.ended) spools.items) (map (given_by S.taken S.ended) result.spools.items)) result.end result.disk }
+    // This holds for any bytes that recover to the map that the service's type names.
+    ensures ended { (bytes : List ℕ) → (IsTrue D.honest → Recovers bytes N.base)
+        → IsEnded D.Disk N.failures bytes N.from N.left (members worked.clients.items) worked.end result.end result.disk }
+    ensures spools { result.spools ≡ worked.spools }
 {
-    let meter = Meter::new(bounds);
     let Worked {
         clients,
         spools,
         end: worked,
-    } = work(
-        rt,
-        alloc,
-        mode,
-        &service,
-        room,
-        spools,
-        &meter,
-        steward,
-        explanations,
-    );
+    } = worked;
     let (disk, end) = finish(
         rt,
         alloc,
@@ -335,7 +282,56 @@ where
     Served { disk, spools, end }
 }
 
-// Opens a service for the spools, where there is room for them.
+// Opens a service, with room for so many clients and spools.
+fn open_service<N, H, S, D, G>(
+    rt: &H,
+    alloc: Global,
+    begun: Begun<D>,
+    count: usize,
+    workers: usize,
+    gate: G,
+) -> Result<(Service<N, D>, Room<N, S>), (ServiceFault, D)>
+where
+    N: Named + Send + Sync + 'static,
+    H: Threads + Wait + Copy + Send + 'static,
+    S: Drop,
+    D: Disk + Drop,
+    G: Gate + Drop + Send + Sync + 'static,
+    requires ledger { begun.fresh.ledger ≡ N.name }
+    requires parts { N.parts ≡ 1025 }
+    requires queue { begun.fresh.queue ≡ N.queue }
+    requires opened { IsOpened D.Disk begun.library }
+    requires named { IsTrue D.honest → begun.library.units ≡ N.base }
+    requires past { IsTrue D.honest → IsPast D.Disk N.from N.left begun.library.disk }
+    requires failures { N.failures ≡ D.failures begun.library.disk }
+    requires some { 1 ≤ workers }
+    requires few { workers ≤ 8 }
+    ensures posts { IfOk result (λ r. (r.1.posts.items ≡ []) × (count ≤ vec_capacity r.1.posts)) }
+    ensures clients { IfOk result (λ r. (r.1.clients.items ≡ []) × (count ≤ vec_capacity r.1.clients)) }
+    ensures spools { IfOk result (λ r. (r.1.spools.items ≡ []) × (count ≤ vec_capacity r.1.spools)) }
+    ensures refused { IfErr result (λ e. IsNotStarted e.0) }
+    ensures back { IfErr result (λ e. e.1 ≡ begun.library.disk) }
+{
+    let Begun {
+        library,
+        before: _,
+        fresh,
+    } = begun;
+    let Ok(room) = room_for(alloc, count) else {
+        drop(fresh);
+        return Err((ServiceFault::OutOfMemory, library.into_disk()));
+    };
+    match Service::<N, D>::over(rt, alloc, fresh, library, workers, gate) {
+        Ok(service) => Ok((service, room)),
+        Err(refused) => {
+            drop(room);
+            Err(refused)
+        }
+    }
+}
+
+// Opens a service with a client for each spool, which does what this gives, in a thread of its own if one can be made; those for which none can be
+// made begin when others have ended. If the service has too few clients nothing is done. Then it is ended.
 fn serve_begun<N, H, S, E, D, G, T>(
     rt: &H,
     alloc: Global,
@@ -369,36 +365,45 @@ where
     ensures { let before = map (given_by S.taken S.ended) spools.items in let after = map (given_by S.taken S.ended) result.spools.items in
         EndsSince D.Disk N.from N.left (after ≡ before) (HaveServed mode before after) begun.library.disk result.disk result.end }
 {
-    let Begun {
-        library,
-        before: _,
-        fresh,
-    } = begun;
-    let Ok(room) = room_for(alloc, spools.len()) else {
-        drop(fresh);
-        let fault = ServiceFault::Opening(LibraryFault::OutOfMemory);
-        return unserved(spools, library.into_disk(), fault);
-    };
-    match Service::<N, D>::over(rt, alloc, fresh, library, workers, gate) {
-        Ok(service) => serve_opened(
-            rt,
-            alloc,
-            mode,
-            service,
-            room,
-            spools,
-            bounds,
-            steward,
-            explanations,
-        ),
-        Err((fault, disk)) => {
-            drop(room);
-            unserved(spools, disk, fault)
+    match open_service::<N, H, S, D, G>(rt, alloc, begun, spools.len(), workers, gate) {
+        Ok((service, mut room)) => {
+            let meter = Meter::new(bounds);
+            match staff(rt, alloc, &service, spools, &mut room) {
+                Ok(()) => {
+                    steward.opened(explanations);
+                    let count = room.posts.len().max(1);
+                    thread::for_each_mut(
+                        rt,
+                        room.posts.as_mut_slice(),
+                        count,
+                        &|_: usize, post: &mut Post<N, S>|
+                            ensures { HasDone mode (given_by S.taken S.ended post.entry.now.spool) post.entry.now.client.member (given_by S.taken S.ended post.exit.now.spool) post.exit.now.client.member }
+                        {
+                            attend_in(
+                                rt,
+                                alloc,
+                                mode,
+                                &service,
+                                &mut post.client,
+                                &mut post.spool,
+                                &meter,
+                            )
+                        },
+                    );
+                    let worked = done(room);
+                    end_service(rt, alloc, service, worked, &meter, steward, explanations)
+                }
+                Err(spools) => {
+                    let worked = unhired(spools, room);
+                    end_service(rt, alloc, service, worked, &meter, steward, explanations)
+                }
+            }
         }
+        Err((fault, disk)) => unserved(spools, disk, fault),
     }
 }
 
-// Serves as `serve` does, and writes no line of a fault.
+// Serves as `serve` does, but writes no line for a fault.
 pub(crate) fn serve_quietly<H, S, E, D, G, T>(
     rt: &H,
     alloc: Global,
@@ -440,15 +445,15 @@ where
     }
 }
 
-/// Opens the library on a disk as a service with this many workers, 1 to 8, and a client for each spool, 1,024 at most. Each client does
-/// the scripts that its spool gives in a mode, as `attend_in` says, until this is over or the clients together have done as much as `bounds` says; then
-/// the service is ended. It does so in a thread of its own where one can be made; those for which none can be made begin when others have
-/// ended. The workers pass `gate`, so that who waits can be told how far a long `add` is. `steward` is told when scripts are taken and, where
-/// they were, how the service ended.
+/// Opens the library on a disk as a service with this many workers, 1 to 8, and a client for each spool, 1,024 at most. Each
+/// client does the scripts that its spool gives in a mode, as `attend_in` says, until the spool is over or the clients together
+/// have done as much as `bounds` says; then the service is ended. Each client does so in a thread of its own if one can be made;
+/// those for which none can be made begin when others have ended. The workers pass `gate`, which can show how far a long `add`
+/// is. `steward` is called when scripts are taken and, if they were, with how the service ended.
 ///
-/// The line of a fault of the opening (35, 37, 38, 40, 41; 30 where there are too many spools) or of the end (39, 40) goes to `writer`,
-/// and what helps a person with it to `explanations`. `end` is the first, or 39, and is written. A fault that ends a script is told in its
-/// answer alone. Disk and spools are handed back after each.
+/// The line for a fault of the opening (35, 37, 38, 40, 41; 30 if there are too many spools) or of the end (39, 40) goes to
+/// `writer`, and what helps a person with it to `explanations`. `end` is the first of these faults, or 39, and its line is
+/// written. A fault that ends a script is reported only in the script's answer. Disk and spools are handed back after each.
 pub fn serve_in<H, S, W, E, D, G, T>(
     rt: &H,
     alloc: Global,
@@ -474,7 +479,7 @@ where
     requires few { workers ≤ 8 }
     ensures answers { ServingEnds mode D.Disk
         (map (given_by S.taken S.ended) spools.items) (map (given_by S.taken S.ended) result.spools.items) disk result.disk result.end }
-    // Nothing is written where no fault ended it.
+    // Nothing is written if no fault ended it.
     ensures still { result.end ≡ Finished → W.contents writer.new ≡ W.contents writer.old }
 {
     let left = serve_quietly(
@@ -493,7 +498,7 @@ where
     left
 }
 
-/// Does so in the plain mode: `serve_in`.
+/// The same in the plain mode: `serve_in`.
 pub fn serve<H, S, W, E, D, G, T>(
     rt: &H,
     alloc: Global,
@@ -518,7 +523,7 @@ where
     requires few { workers ≤ 8 }
     ensures answers { ServingEnds Plain D.Disk
         (map (given_by S.taken S.ended) spools.items) (map (given_by S.taken S.ended) result.spools.items) disk result.disk result.end }
-    // Nothing is written where no fault ended it.
+    // Nothing is written if no fault ended it.
     ensures still { result.end ≡ Finished → W.contents writer.new ≡ W.contents writer.old }
 {
     serve_in(

@@ -1,4 +1,4 @@
-// What is told of a unit that was found: its image or its source, as an answer has it.
+// What is written of a unit that was found: its image or its source, as an answer has it.
 
 ghost use Rattle.std.specs.Prelude.{◌≡◌, IfOk};
 ghost use Rattle.cc_session.specs.Showing.{IsShownOf};
@@ -7,7 +7,8 @@ use cc_service::Found;
 use cc_task::Part;
 use std::alloc::{AllocError, Global};
 
-// The text that tells this part of the unit that was found: its image as Intel HEX; its source in a frame that says how many bytes it has.
+// The text of this part of the unit that was found: its image as Intel HEX; or its source in a frame that says how many bytes it
+// has.
 pub(crate) fn text_of(alloc: Global, found: &Found, part: Part) -> Result<Vec<u8>, AllocError>
     ensures { IfOk result (λ text. IsShownOf part found.now.entry.reply text.items) }
 {

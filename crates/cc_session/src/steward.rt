@@ -1,4 +1,4 @@
-// Who is told what a server does.
+// What a server does is reported here.
 
 use crate::end::SessionEnd;
 use std::io::Write;
@@ -8,9 +8,9 @@ use std::io::Write;
 pub enum GenerationEnd {
     /// Each spool is over.
     Over,
-    /// Its history holds as many bytes as its bounds say.
+    /// The history holds as many bytes as the bounds allow.
     Bytes,
-    /// As many scripts were taken as its bounds say.
+    /// As many scripts were taken as the bounds allow.
     Scripts,
 }
 
@@ -19,28 +19,28 @@ pub enum GenerationEnd {
 pub struct Generation {
     /// The scripts that were taken. Each was done, and its answer handed over.
     pub scripts: u64,
-    /// The calls that its history has: those of its clients' receipts.
+    /// The calls that the history has: those of the clients' receipts.
     pub entries: u64,
-    /// The bytes that its history is counted to hold.
+    /// The bytes that the history is counted to hold.
     pub bytes: u64,
-    /// Why its clients took no further script.
+    /// Why the clients took no further script.
     pub why: GenerationEnd,
-    /// How its service ended.
+    /// How the service ended.
     pub end: SessionEnd,
 }
 
-/// Who is told when a generation begins and ends, and may do something then: write a line, clean a folder. Both calls come from the thread
-/// that serves, between generations, so no script is being done and none is taken before they return. `told` is where what helps a person
-/// with a fault goes.
+/// Called when a generation begins and ends; it may do something then: write a line, clean a folder. Both calls come from the
+/// thread that serves, between generations, so no script is being done and none is taken before they return. What helps a person
+/// with a fault goes to `told`.
 pub trait Steward {
     /// The library is open, and scripts are taken from now on.
     fn opened<E: Write>(&mut self, told: &mut E);
 
-    /// The service was ended, and the disk is at rest. It comes once for each `opened`.
+    /// The service was ended, and the disk is at rest. This is called once for each `opened`.
     fn ended<E: Write>(&mut self, generation: Generation, told: &mut E);
 }
 
-/// Who does nothing.
+/// Does nothing.
 #[derive(Drop)]
 pub struct NoSteward;
 

@@ -60,7 +60,7 @@ pub(crate) fn refuse<W: Write, E: Write>(
     told
 }
 
-// Writes a refusal of the service's opening or end; answers its number.
+// Writes a refusal of the service's opening or end. The result is its number.
 pub(crate) fn refused<W: Write, E: Write>(
     alloc: Global,
     fault: ServiceFault,
@@ -74,7 +74,7 @@ pub(crate) fn refused<W: Write, E: Write>(
     number
 }
 
-// Writes the line of 39.
+// Writes the line for 39.
 pub(crate) fn tell_estranged<W: Write, E: Write>(
     alloc: Global,
     answers: &mut W,
@@ -87,7 +87,7 @@ pub(crate) fn tell_estranged<W: Write, E: Write>(
     let _ = tell_refusal(alloc, refusal, &[], answers, explanations);
 }
 
-// Writes the line of the fault that ended a service, where one did.
+// Writes the line for the fault that ended a service, if one did.
 pub(crate) fn tell_end<W: Write, E: Write>(
     alloc: Global,
     end: SessionEnd,
@@ -124,7 +124,7 @@ pub(crate) fn tell_change<W: Write, E: Write>(
     }
 }
 
-// Writes that the library was written anew, or why not.
+// Writes that the library was compacted, or why not.
 pub(crate) fn tell_done<W: Write, E: Write>(
     alloc: Global,
     answer: Result<(), ServiceFault>,

@@ -31,7 +31,7 @@ follows_refl a = record {
   no_more = λ ok m. (m, begins_refl (a m).output, λ r e. e);
 }
 
--- a behavior that is the same at each bound follows
+-- a behavior that equals another at each bound follows it
 pub follows_same : {B R : Type 0} (a z : B → Outcome R) → ((b : B) → a b ≡ z b) → Follows a z
 follows_same {B} {R} a z same = record {
   reaches = λ n ok. (n, shows_same (a n) (z n) (same n) ok);

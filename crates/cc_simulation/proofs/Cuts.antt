@@ -1,4 +1,4 @@
--- Two cuts of one run are comparable: the shorter begins the longer.
+-- Two cuts of one run are comparable: the shorter one is the beginning of the longer one.
 use Rattle.std.proofs.Common.{◌≡◌, ℕ, zero, suc, ◌+◌, ◌-◌, ◌≤◌, List, refl, sym, subst, ◌⊎◌, inl, inr, arith}
 use Rattle.std.proofs.lemmas.Bool.{cases_lt}
 use Rattle.cc_simulation.specs.Behavior.{Going, Wrong, Outcome, IsPrefixOf}
@@ -31,7 +31,7 @@ module _ {C : Type 0} (move : C → Move C) (output : C → List ℕ) (effect : 
   starts zero j c = begins_refl (output c)
   starts (suc k) j c = starts_at k j c (move c) refl (starts k)
 
-  -- the same work before both
+  -- comparable cuts stay comparable with the same work before both
   after : (x y : Outcome Answer) (v w m n : ℕ) → m ≡ n → Comparable x v y w → Comparable x (suc (m + v)) y (suc (n + w))
   after x y v w m n e (inl b) = inl (record { work_le = let h = b.work_le in omega arith; output = b.output; stays = b.stays })
   after x y v w m n e (inr b) = inr (record { work_le = let h = b.work_le in omega arith; output = b.output; stays = b.stays })

@@ -1,4 +1,5 @@
--- A run that keeps up with a bounded meaning, at any rate, follows it; for all lists, by cuts with the same limits.
+-- A run that keeps up with a bounded meaning, at whatever rate, follows it; for all lists of unknown words too, by cuts with the
+-- same limits.
 use Rattle.std.proofs.Common.{◌≡◌, ℕ, zero, suc, ◌+◌, ◌-◌, ◌*◌, ◌<◌, ◌≤◌, List, refl, sym, ap, ◌∙◌, subst, ◌⊎◌, inl, inr, arith}
 use Rattle.std.proofs.Math.Nat.{mul-le-mul_left}
 use Rattle.std.proofs.lemmas.Bool.{cases_lt}
@@ -67,7 +68,7 @@ module _ {C : Type 0} (move : C → Move C) (output : C → List ℕ) (effect : 
   covered_below : (z a : Outcome Answer) (v w : ℕ) → Below z v a w → IsRight a.stop → Covered z a
   covered_below z a v w h ok = covered_by z a z.stop refl h.stays ok h.output
 
-  -- an outcome that is over is the same at each cut that it begins
+  -- an outcome that is over equals each cut that begins with it
   over_same : (z a : Outcome Answer) (r : Answer) (s : Stop Answer) → a.stop ≡ s → s ≡ Ended r → StaysBy s a z → z ≡ a
   over_same z a r Going e f stays = absurd (let g : Going ≡ Ended r = f in cc)
   over_same z a r (Ended q) e f stays = stays
@@ -113,7 +114,7 @@ module _ {C : Type 0} (move : C → Move C) (output : C → List ℕ) (effect : 
     no_more = λ ok b. let c = covered tracks ok b in (bound b, c.1, c.2);
   }
 
--- ---- the laws, from a meaning's
+-- ---- the laws, for the runs of a meaning
 
 abbrev is_going : Effect → Type 0
 is_going (Gives a left) = ⊥
@@ -169,7 +170,7 @@ module _ (meaning : Meaning) {C : Type 0} (move : C → Move C) (output : C → 
   matched_right rate n v (Unfinished o) z k ok = shows_same (answered (Unfinished o)) z (sym k.0) tt
   matched_right rate n v (Failed o) z k ok = absurd ok
 
-  -- LTL's and Linear's, for every list
+  -- LTL's and Linear's runs follow the source, for every list
   pub all_follow : (f rate : ℕ) (start : List ℕ → List ℕ → World → C) → TracksForAll meaning f rate move output start
       → (d : ℕ) → d < most_open → (ws : List ℕ) (h : World) → IsCall meaning f ws h → FollowsForAll (λ n. answered (meaning.body n d f ws h)) (λ words (b : ℕ × ℕ). run move output (call_effect meaning (suc d)) b.0 b.1 (start words ws h))
   all_follow f rate start keeps d below ws h is_call = record {

@@ -1,5 +1,5 @@
--- Two languages in lockstep have the same run and the same work, cut for cut; so what the first guarantees, the second guarantees
--- for all lists.
+-- Two languages in lockstep have the same run and the same work, cut for cut; so what the first guarantees, the second one
+-- guarantees too, for all lists.
 use Rattle.std.proofs.Common.{◌≡◌, ℕ, zero, suc, ◌-◌, ◌+◌, List, refl, sym, ap, ◌∙◌, subst, arith}
 use Rattle.cc_simulation.specs.Behavior.{Going, Outcome, FollowsForAll, AreWords}
 use Rattle.cc_simulation.specs.World.{World, Question, Answer, Effect, Gives, Unfinished, Failed}
@@ -48,7 +48,7 @@ module _ {C D : Type 0} (Same : C → D → Type 0) (move : C → Move C) (outpu
   same_work zero j c d h = refl
   same_work (suc k) j c d h = worked_alike (move c) (move' d) k j (lock.alike c d h) (same_work k)
 
--- the rate is the same, and each list's cut is the first language's
+-- the rate is the same, and for each list the cut is that of the first language
 pub lockstep_on : (meaning : Meaning) (f rate : ℕ) {C D : Type 0} (old : C → Move C) (old_output : C → List ℕ) (new : D → Move D) (new_output : D → List ℕ) (Same : C → D → Type 0)
     → Lockstep old old_output new new_output Same
     → (old_start : List ℕ → World → C) (new_start : List ℕ → List ℕ → World → D) → ((words : List ℕ) → AreWords words → (ws : List ℕ) (h : World) → IsCall meaning f ws h → Same (old_start ws h) (new_start words ws h))

@@ -179,7 +179,7 @@ module _ {C D : Type 0} (old : C → Move C) (old_output : C → List ℕ) (new 
     still_keeps r n k j (Unfinished o) c d rel (z, b) = let x = cut k j c d rel in record { moves = x.moves; few = x.few; keeps = (subst (λ y. Shown y.stop y (new_run x.moves j d)) z x.shows, (let s = coarser_pays r n 0 (old_work k j c) (new_work x.moves j d) (measure c) (sim.low c d rel) x.paid (omega arith) in omega arith)) }
     still_keeps r n k j (Failed o) c d rel kept = record { moves = 0; few = omega arith; keeps = tt }
 
--- ---- as functions guarantee it
+-- ---- the same, as functions guarantee it
 
 abbrev pub coarser : (rate deep : ℕ) → ℕ
 coarser rate deep = rate * suc deep

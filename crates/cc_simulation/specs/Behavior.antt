@@ -36,14 +36,14 @@ EndsAlike {R} a z = (r : R) → a ≡ Ended r → z ≡ Ended r
 abbrev pub Shows : {R : Type 0} → Outcome R → Outcome R → Type 0
 Shows a z = IsRight z.stop × (z.output ≡ a.output) × EndsAlike a.stop z.stop
 
--- z follows a. Each right outcome of a is reached by z. If a is wrong at no bound, z is wrong at none, and each output of z
--- begins one of a, which has ended with the same result if z has ended.
+-- z follows a. Each right outcome of a is reached by z. If a is wrong at no bound, then z is wrong at none, and each output of z
+-- begins an output of a; if z has ended there, a has ended with the same result.
 pub record Follows {B C R : Type 0} (a : B → Outcome R) (z : C → Outcome R) : Type 0 where
   pub reaches : (n : B) → IsRight (a n).stop → (m : C) × Shows (a n) (z m)
   pub never_wrong : ((n : B) → IsRight (a n).stop) → (m : C) → IsRight (z m).stop
   pub no_more : ((n : B) → IsRight (a n).stop) → (m : C) → (n : B) × IsPrefixOf (z m).output (a n).output × EndsAlike (z m).stop (a n).stop
 
--- the same for a run that depends on unknown words: it follows for every list of them, and for each bound of a there are two
+-- the same for a run z that depends on unknown words: it follows a for every list of them, and for each bound of a there are two
 -- limits that are the same for all lists
 pub record FollowsForAll {B R : Type 0} (a : B → Outcome R) (z : List ℕ → ℕ × ℕ → Outcome R) : Type 0 where
   pub each : (words : List ℕ) → AreWords words → Follows a (z words)

@@ -11,18 +11,18 @@ pub record IsLayer {C : Type 0} (move : C → Move C) (output : C → List ℕ) 
   pub hands_over : (c : C) (q : Question) (resume : Answer → C) → move c ≡ Calls q resume → q.world.output ≡ output c
   pub resumes : (c : C) (q : Question) (resume : Answer → C) → move c ≡ Calls q resume → (a : Answer) → output (resume a) ≡ a.world.output
 
--- y is x, if x is over
+-- y equals x, if x is over
 abbrev pub StaysBy : {R : Type 0} → Stop R → Outcome R → Outcome R → Type 0
 StaysBy Going x y = Unit {0}
 StaysBy (Ended r) x y = y ≡ x
 StaysBy Wrong x y = y ≡ x
 
--- a cut with v of work begins one with w of work
+-- a cut with v of work is the beginning of one with w of work
 pub record Below {R : Type 0} (x : Outcome R) (v : ℕ) (y : Outcome R) (w : ℕ) : Type 0 where
   pub work_le : v ≤ w
   pub output : IsPrefixOf x.output y.output
   pub stays : StaysBy x.stop x y
 
--- one of two cuts begins the other, and did no more
+-- one of two cuts is the beginning of the other, and did no more work
 abbrev pub Comparable : {R : Type 0} → Outcome R → ℕ → Outcome R → ℕ → Type 0
 Comparable x v y w = Below x v y w ⊎ Below y w x v

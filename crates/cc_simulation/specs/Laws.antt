@@ -14,11 +14,11 @@ use Rattle.cc_simulation.specs.Cuts.{IsLayer, Comparable}
 abbrev pub FollowsItself : (B R : Type 0) → Type 0
 FollowsItself B R = (a : B → Outcome R) → Follows a a
 
--- what follows a behavior that follows another follows that one
+-- following is transitive: what follows a follower of a behavior follows that behavior
 abbrev pub FollowsOn : (A B C R : Type 0) → Type 0
 FollowsOn A B C R = (a : A → Outcome R) (b : B → Outcome R) (z : C → Outcome R) → Follows a b → Follows b z → Follows a z
 
--- the same for what follows it for all unknown words
+-- the same for a run that depends on unknown words, for all of them
 abbrev pub FollowsOnForAll : (A B R : Type 0) → Type 0
 FollowsOnForAll A B R = (a : A → Outcome R) (b : B → Outcome R) (z : List ℕ → ℕ × ℕ → Outcome R) → Follows a b → FollowsForAll b z → FollowsForAll a z
 
@@ -28,7 +28,7 @@ CutsAreComparable C =
     (meaning : Meaning) (move : C → Move C) (output : C → List ℕ) → IsLayer move output → (opened k l i j : ℕ) (c : C)
     → Comparable (run move output (call_effect meaning opened) k i c) (work move (call_effect meaning opened) k i c) (run move output (call_effect meaning opened) l j c) (work move (call_effect meaning opened) l j c)
 
--- a run that keeps up with the source follows it, at any rate
+-- a run that keeps up with the source, at whatever rate, follows it
 abbrev pub TrackedFollows : (C : Type 0) → Type 0
 TrackedFollows C =
     (meaning : Meaning) (move : C → Move C) (output : C → List ℕ) → IsLayer move output → (f rate : ℕ) (start : List ℕ → World → C) → Tracks meaning f rate move output start

@@ -16,6 +16,6 @@ pub mod Cuts
 pub mod Laws
 -- Definitions for the proofs of passes: simulations of one language by the next.
 pub mod internal
--- Modules of the crates below that clauses here use, passed on.
+-- Modules of the crates below that clauses here use, re-exported.
 pub use Rattle.cc_words.specs.Widths
 pub use Rattle.cc_words.specs.declared.operators

@@ -38,8 +38,8 @@ pub record Meaning : Type 0 where
   pub none_left : (opened f : ℕ) (ws : List ℕ) (h : World) → f < functions → call 0 opened f ws h ≡ Unfinished h.output
   pub too_deep : (n f : ℕ) (ws : List ℕ) (h : World) → f < functions → call (suc n) most_open f ws h ≡ Failed h.output
   pub spends : (n opened f : ℕ) (ws : List ℕ) (h : World) → f < functions → opened < most_open → call (suc n) opened f ws h ≡ body n opened f ws h
-  -- for any function number, a call writes after what is written already; with more steps it continues; an answer takes just the
-  -- steps that it spends
+  -- for any function number, a call only adds to what is written already; with more steps it continues; an answer stays the same
+  -- with exactly the steps that it spends
   pub grows : (n opened f : ℕ) (ws : List ℕ) (h : World) → IsPrefixOf h.output (written_by (call n opened f ws h))
   pub later : (n more opened f : ℕ) (ws : List ℕ) (h : World) → Later more (call n opened f ws h) (call (n + more) opened f ws h)
   pub exact : (opened f : ℕ) (ws : List ℕ) (h : World) → IsExact (λ n. call n opened f ws h)
@@ -50,7 +50,7 @@ pub record IsCall (meaning : Meaning) (f : ℕ) (ws : List ℕ) (h : World) : Ty
   pub words : AreWords ws
   pub world : IsWorld meaning.objects h
 
--- the effect of the calls in a function, while this many are open
+-- the effect of the calls that a function makes, while this many calls are open
 abbrev pub call_effect : Meaning → (opened : ℕ) → ℕ → Question → Effect
 call_effect meaning opened j q = meaning.call j opened q.function q.arguments q.world
 

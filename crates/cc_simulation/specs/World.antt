@@ -1,5 +1,5 @@
--- What the functions of a unit share, by number; what a call of one passes and answers; and the changes that every language
--- makes: an element read and stored, a word read and written.
+-- What the functions of a unit share, by number; what a call of a function passes and answers; and the changes that every
+-- language makes: an element read and stored, a word read and written.
 use Rattle.std.specs.Prelude.{◌≡◌, ℕ, if◌then◌else◌, List, [], ◌∷◌, ◌++◌, length, map, get_or, set, slice_get, Option, None, option_map}
 use Rattle.cc_words.specs.declared.operators.Width.{Width}
 use Rattle.cc_words.specs.declared.operators.Width.TheVariants.{Word}
@@ -36,7 +36,7 @@ pub record Answer : Type 0 where
   pub value : ℕ
   pub world : World
 
--- the effect of a call within a number of steps: an answer with how many steps are left; or no step left, or wrong, each with the
+-- the effect of a call within a number of steps: an answer and the number of steps left; or no step left, or wrong, each with the
 -- output so far
 pub data Effect : Type 0 where
   Gives : Answer → ℕ → Effect
@@ -62,7 +62,7 @@ pub record IsWorld (objects : List Size) (h : World) : Type 0 where
 
 -- ---- what every language does to a world
 
--- the first of some words, or 0, and the others
+-- the first of these words, or 0; and the others
 abbrev pub first_or_zero : List ℕ → ℕ
 first_or_zero [] = 0
 first_or_zero (w ∷ ws) = w

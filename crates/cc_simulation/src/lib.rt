@@ -4,7 +4,7 @@
 //! are lemmas (`proofs/Simulating`, `proofs/Lockstep`), because they range over relations, which no contract can.
 //!
 //! A pass guarantees that its code's run keeps up with the source (`Tracks`), because rates and bounds multiply from pass to
-//! pass. What everybody else gets follows from it: the run follows the source (`Follows`).
+//! pass. Other crates use only what follows from it: the run follows the source (`Follows`).
 #![tactic(auto)]
 
 ghost use Rattle.cc_simulation.specs.Laws.{FollowsItself, FollowsOn, FollowsOnForAll, CutsAreComparable, TrackedFollows, TrackedFollowsForAll};
@@ -14,14 +14,14 @@ pub fn follows_itself<B, R>()
     ensures { FollowsItself B R }
 {}
 
-/// Shows that what follows a behavior that follows another follows that one; also for every list of unknown words, with one bound
-/// for all lists.
+/// Shows that following is transitive: if one behavior follows a second one, and the second follows a third, the first follows
+/// the third; also for every list of unknown words, with one bound for all lists.
 pub fn follows_on<A, B, C, R>()
     ensures each { FollowsOn A B C R }
     ensures for_all { FollowsOnForAll A B R }
 {}
 
-/// Shows that two cuts of one run are comparable: one begins the other, and did no more.
+/// Shows that two cuts of one run are comparable: one is the beginning of the other, and did no more work.
 pub fn cuts_are_comparable<C>()
     ensures { CutsAreComparable C }
 {}

@@ -1,4 +1,4 @@
--- The table of what functions take of the stack.
+-- The table of what functions take from the stack.
 use Rattle.std.proofs.Common.{◌≡◌, ℕ, zero, suc, ◌+◌, ◌*◌, ◌<◌, ◌≤◌, List, [], ◌∷◌, ◌++◌, length, get_or, drop, refl, sym, ap, ◌∙◌, arith, append_assoc}
 use Rattle.std.proofs.lemmas.Bool.Decides.{nat_tests}
 use Rattle.std.proofs.lemmas.List.{drop_more}
@@ -21,7 +21,7 @@ most_low n m (Plain i ∷ items) h = most_low n m items h
 most_low n m (Call g ∷ items) h = larger_low (n g) (most_called n items) m (h g) (most_low n m items h)
 most_low n m (Go k ∷ items) h = most_low n m items h
 
--- one item in front
+-- one more item is looked at, at the beginning of the rest
 larger_twice : (a b c : ℕ) → larger (larger a b) c ≡ larger a (larger b c)
 larger_twice a b c = grind (arith, nat_tests)
 
@@ -62,7 +62,7 @@ need_next own bodies table more calls count same made f =
     ap (λ (l : List ℕ). get_or l f 0) made ∙ deeper_at (λ g. get_or table g 0) own bodies count f
     ∙ ap (λ (n : ℕ → ℕ). get_or own f 0 + most_called n (get_or bodies f [])) (λ i. λ g. same g i) ∙ ap (λ (k : ℕ). need own bodies k f) one
 
--- one more function
+-- one more function is added to the table
 pub deeper_next : (n : ℕ → ℕ) (own : List ℕ) (ps : List (Bor Piece)) (at : ℕ) (d : Bor Piece) (before new all : List ℕ) (word : ℕ) → at < length own → length ps ≡ length own → d ≡ get_or ps at d → word ≡ get_or own at 0 + most_called n d.now.items → new ≡ before ++ word ∷ []
     → before ++ deeper n (drop at own) (all_items (lent_pieces (drop at ps))) ≡ all → new ++ deeper n (drop (at + 1) own) (all_items (lent_pieces (drop (at + 1) ps))) ≡ all
 deeper_next n own ps at d before new all word lt count is whose pushed h =
@@ -73,7 +73,7 @@ deeper_next n own ps at d before new all word lt count is whose pushed h =
     ap (λ (ws : List ℕ). deeper n ws (all_items (lent_pieces (drop at ps)))) left ∙ ap (λ (l : List (Bor Piece)). deeper n (get_or own at 0 ∷ drop (at + 1) own) (all_items (lent_pieces l))) split ∙ ap (λ (w : ℕ). w ∷ rest) (sym whose) in
     ap (λ (l : List ℕ). l ++ rest) pushed ∙ append_assoc before (word ∷ []) rest ∙ ap (λ (l : List ℕ). before ++ l) (sym first) ∙ h
 
--- the bodies of pieces are as many
+-- there are as many bodies as pieces
 pub bodies_long : (ps : List (Bor Piece)) → length (all_items (lent_pieces ps)) ≡ length ps
 bodies_long [] = refl
 bodies_long (p ∷ ps) = ap suc (bodies_long ps)

@@ -1,4 +1,4 @@
--- A way of calls can be cut so that it leads to no function twice. It then has no more calls than there are functions.
+-- A way of calls can be cut so that it leads to no function twice. Then it has no more calls than there are functions.
 use Rattle.std.proofs.Common.{◌≡◌, ℕ, zero, suc, ◌<◌, ◌≤◌, List, [], ◌∷◌, Bool, true, false, eqb, length, refl, sym, subst, inl, inr, arith}
 use Rattle.std.specs.Prelude.{◌||◌}
 use Rattle.std.specs.List.{AllByRecursion, IsDistinct, list_any}
@@ -8,7 +8,7 @@ use Rattle.cc_emit.specs.declared.item.PieceItem.{PieceItem}
 use Rattle.cc_size.specs.declared.recursion.Recursion.{Recursion}
 use Rattle.cc_size.specs.Cycles.{DoesCall, IsCyclic, LeadsBy}
 
--- ---- who calls is a function
+-- ---- a caller is a function
 
 pub called_within : (bodies : List (List PieceItem)) (f g : ℕ) → DoesCall bodies f g → f < length bodies
 called_within [] f g (k, lt, e) = absurd (omega arith)
@@ -19,7 +19,7 @@ pub leads_within : (bodies : List (List PieceItem)) (way : List ℕ) (f t : ℕ)
 leads_within bodies [] f t lt p = (let e : f ≡ t = p in omega arith)
 leads_within bodies (h ∷ way) f t lt p = called_within bodies f h p.0
 
--- each function of a way is one of these
+-- each number on a way is that of a function
 all_within : (bodies : List (List PieceItem)) (way : List ℕ) (f t : ℕ) → t < length bodies → LeadsBy bodies way f t → (q : ℕ) → list_any (eqb q) way ≡ true → q < length bodies
 all_within bodies [] f t lt p q e = absurd (let n : false ≡ true = e in cc)
 all_within bodies (h ∷ way) f t lt p q e = elim (eqb_tells q h) [
@@ -46,7 +46,7 @@ none_is h (x ∷ way) e = (let n = neither (eqb h x) (list_any (eqb h) way) e in
     neither false b e = (refl, e)
     neither true b e = absurd (let n : true ≡ false = e in cc)
 
--- what is left of a way after a function that it leads to
+-- what is left of a way once it has come to the function h
 pub record After (bodies : List (List PieceItem)) (h t : ℕ) : Type 0 where
   pub way : List ℕ
   pub leads : LeadsBy bodies way h t
@@ -78,7 +78,7 @@ unfolding IsDistinct
 straighten bodies [] f t p = record { way = []; leads = p; apart = tt }
 straighten bodies (h ∷ way) f t p = (let rest = straighten bodies way h t p.1 in with_first bodies h f t p.0 rest (list_any (eqb h) rest.way) refl)
 
--- ---- a cycle of so few calls
+-- ---- a cycle with few enough calls
 
 pub record Few (bodies : List (List PieceItem)) (it : Recursion) : Type 0 where
   pub cycle : IsCyclic bodies it

@@ -4,16 +4,17 @@ use Rattle.cc_emit.specs.declared.item.PieceItem.{PieceItem}
 use Rattle.cc_emit.specs.declared.item.PieceItem.TheVariants.{Call}
 use Rattle.cc_size.specs.declared.recursion.Recursion.{Recursion}
 
--- an item of a function calls another function, or itself; `bodies` are the items of all functions
+-- a function calls a function (another one or itself) in one of its items; `bodies` has the items of all functions
 abbrev pub DoesCall : (bodies : List (List PieceItem)) → (caller called : ℕ) → Type 0
 DoesCall bodies f g = Contains (get_or bodies f []) (Call g)
 
--- calls lead from a function to another, to each of these in turn; the last of these is the other one. Without a call a function leads to itself
+-- calls lead from a function to another through each function of the way in turn; the last one is the other function itself.
+-- Without a call, a function leads to itself
 abbrev pub LeadsBy : (bodies : List (List PieceItem)) → (way : List ℕ) → (from to : ℕ) → Type 0
 LeadsBy bodies [] f g = f ≡ g
 LeadsBy bodies (h ∷ way) f g = DoesCall bodies f h × LeadsBy bodies way h g
 
--- a call that is part of a cycle of calls
+-- this call is part of a cycle of calls
 pub record IsCyclic (bodies : List (List PieceItem)) (it : Recursion) : Type 0 where
   pub calls : DoesCall bodies it.caller it.called
   pub way : List ℕ

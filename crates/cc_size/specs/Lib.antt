@@ -1,7 +1,7 @@
 -- cycles of calls
 pub mod Cycles
--- what the functions of a unit take, and its image
+-- what the functions of a unit and its image take
 pub mod Size
--- that so much is enough
+-- this much stack is enough
 pub mod Sized
 pub mod internal

@@ -1,5 +1,6 @@
--- What only private contracts and proofs speak of.
+-- Definitions that only private contracts and proofs use.
+--
 -- the table of what functions take
 pub mod Deeper
--- from which functions calls lead to one
+-- the functions from which calls lead to a function
 pub mod Reached

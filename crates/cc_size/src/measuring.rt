@@ -1,9 +1,9 @@
-// A unit compiled, with what it takes.
+// Compiles a unit and measures what it takes.
 
 ghost use Rattle.std.specs.Prelude.{◌≡◌, Some, IfOk, IfErr, IfSome};
 ghost use Rattle.std.specs.Arc.{arc_value};
 ghost use Rattle.cc_ast.specs.Source.{source};
-ghost use Rattle.cc_c_laws.specs.Calls.{main_of};
+ghost use Rattle.cc_c_semantics.specs.Calls.{main_of};
 ghost use Rattle.cc_link.specs.Compile.{IsBuildRefusalIn};
 ghost use Rattle.cc_link.specs.Linked.{lent_pieces};
 ghost use Rattle.cc_size.specs.Size.{IsSize};
@@ -15,14 +15,14 @@ use crate::size::{Sized, UnitSize};
 use crate::tables::{entry, frames, ones, sizes};
 use cc_emit::Piece;
 use cc_link::{
-    BuildFault, Compilation, LinkFault, Mode, compile_along_in, compile_whole_in, in_order,
+    BuildFault, Compilation, LinkFault, Mode, compile_along_in, compile_whole_in, in_order, lend,
 };
 use cc_resolve::lay_out;
 use cc_rv32::image::Image;
 use cc_types::TypedUnit;
 use std::alloc::{AllocError, Global};
 
-/// As deep as calls may go.
+/// Calls may be nested this deep.
 const MOST_OPEN: u32 = 1024;
 
 const MAIN: &[u8] = b"main";
@@ -35,7 +35,7 @@ fn main_of(alloc: Global, unit: &TypedUnit) -> Result<usize, AllocError>
     Ok(lay_out(alloc, &mut elements, unit.externals())?.function(MAIN))
 }
 
-// What the pieces take.
+// What a unit with these pieces takes.
 fn measured(
     alloc: Global,
     unit: &TypedUnit,
@@ -44,7 +44,7 @@ fn measured(
 ) -> Result<UnitSize, AllocError>
     ensures { IfOk result (IsSize (source unit.now).externals (lent_pieces pieces.now) image.now) }
 {
-    // No function is without a piece.
+    // Each function has a piece, so this does not happen.
     let Ok(ordered) = in_order(alloc, unit.functions(), pieces) else {
         return Err(AllocError);
     };
@@ -70,22 +70,11 @@ fn measured(
     })
 }
 
-// References to pieces, in their order.
-fn lent(alloc: Global, pieces: &[Piece]) -> Result<Vec<&Piece>, AllocError>
-    ensures { IfOk result (λ lent. lent_pieces lent.items ≡ pieces.now) }
-{
-    let mut lent = Vec::with_capacity(alloc, pieces.len())?;
-    for piece in pieces {
-        lent.push(piece)?;
-    }
-    Ok(lent)
-}
-
 // What a compiled text takes.
 fn size_of(alloc: Global, made: &Compilation) -> Result<UnitSize, AllocError>
     ensures { IfOk result (IsSize (source (arc_value made.now.typed)).externals made.now.pieces.items made.now.unit.image) }
 {
-    let lent = lent(alloc, made.pieces.as_slice())?;
+    let lent = lend(alloc, made.pieces.as_slice())?;
     measured(
         alloc,
         &made.typed,
@@ -94,8 +83,8 @@ fn size_of(alloc: Global, made: &Compilation) -> Result<UnitSize, AllocError>
     )
 }
 
-/// Compiles a text in a mode, and says what the unit takes. On a board that backs the stack that it names, or more, the image follows on every
-/// input what the program shows in the mode.
+/// Compiles a text in a mode, and measures what the unit takes. If a board backs the stack that is named, or more, the image
+/// follows, on every input, what the program shows in the mode.
 ///
 /// Refusals: those of `compile_in`.
 pub fn size_in(alloc: Global, mode: Mode, text: &[u8]) -> Result<Sized, BuildFault>
@@ -112,8 +101,8 @@ pub fn size_in(alloc: Global, mode: Mode, text: &[u8]) -> Result<Sized, BuildFau
     }
 }
 
-/// The same of the unit of these three parts, made again along its certificate; none if `audit_in` does not confirm it. It fails only if
-/// memory ran out.
+/// The same for the unit of these three parts, made again by following its certificate. `None` if `audit_in` does not confirm the
+/// unit. Fails only if memory ran out.
 pub fn size_along_in(
     alloc: Global,
     mode: Mode,

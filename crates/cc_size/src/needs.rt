@@ -1,4 +1,5 @@
-// Tables over the functions of a unit: what each takes, and what the functions take that it calls, as deep as calls may go.
+// Tables over the functions of a unit: what each function takes together with the functions that it calls, as deep as calls may
+// go.
 
 ghost use Rattle.std.specs.Prelude.{◌≡◌, ◌≤◌, ℕ, ◌∷◌, [], length, get_or, IfOk};
 ghost use Rattle.cc_emit.specs.Contract.{largest_frame, most_open};
@@ -15,7 +16,7 @@ fn larger(a: u32, b: u32) -> u32
     if a <= b { b } else { a }
 }
 
-// The entry of the function that an item calls, and 0 if it calls none.
+// The entry of the function that an item calls; 0 if the item calls none.
 fn entry_at(table: &[u32], item: &PieceItem) -> u32
     ensures { result ≡ most_called (λ g. get_or table.now g 0) (item.now ∷ []) }
 {
@@ -25,7 +26,7 @@ fn entry_at(table: &[u32], item: &PieceItem) -> u32
     }
 }
 
-// The largest entry of a function that the items call.
+// The largest entry of a function that one of the items calls.
 fn most_called(table: &[u32], items: &[PieceItem]) -> u32
     ensures { result ≡ most_called (λ g. get_or table.now g 0) items.now }
 {
@@ -36,7 +37,7 @@ fn most_called(table: &[u32], items: &[PieceItem]) -> u32
     most
 }
 
-// The table in which one call more may be open than in this one. Each function takes so many bytes of its own.
+// The table if one more call may be open than in `table`. `own` has the bytes that each function takes of its own.
 fn deeper(
     alloc: Global,
     own: &[u32],
@@ -55,8 +56,8 @@ fn deeper(
     Ok(more)
 }
 
-/// The table of the most that a call of each function takes, if so many calls may be open, that one counted, and each function takes so many
-/// bytes of its own.
+/// The table of the most that a call of each function takes, if `calls` calls may be open, including that one. `own` has the
+/// bytes that each function takes of its own.
 pub(crate) fn needs(
     alloc: Global,
     own: &[u32],

@@ -1,4 +1,4 @@
-// Which calls are part of a cycle of calls: of each function it is found from which functions calls lead to it.
+// Which calls are part of a cycle of calls. For this, the functions are found from which calls lead to a function.
 
 ghost use Rattle.std.specs.Prelude.{◌≡◌, ◌<◌, ◌+◌, ◌==◌, ◌&&◌, ◌||◌, ◌++◌, ℕ, false, length, get_or, IfOk, OnOk};
 ghost use Rattle.cc_link.specs.Linked.{all_items, lent_pieces};
@@ -8,7 +8,8 @@ ghost use Rattle.cc_size.specs.internal.Reached.{added, item_calls, items_call, 
 use cc_emit::{Piece, PieceItem};
 use std::alloc::{AllocError, Global};
 
-/// A call by which a function calls itself, at once or through others: the number of the function that calls, and of the one that is called.
+/// A call with which a function calls itself, directly or through others: the number of the function that calls, and that of
+/// the function that is called.
 #[derive(Clone, Copy)]
 pub struct Recursion {
     pub caller: usize,
@@ -27,7 +28,7 @@ fn both(a: bool, b: bool) -> bool
     a && b
 }
 
-// Whether an item calls a function of the table.
+// Whether an item calls a function that is in the table.
 fn item_calls(table: &[bool], item: &PieceItem) -> bool
     ensures { result ≡ item_calls (λ g. get_or table.now g false) item.now }
 {
@@ -68,7 +69,7 @@ fn call(function: usize, items: &[PieceItem]) -> bool
     false
 }
 
-// The functions of a table, and those that call one of them.
+// The table of the functions that are in `table`, and of those that call one of them.
 fn nearer(alloc: Global, pieces: &[&Piece], table: &[bool]) -> Result<Vec<bool>, AllocError>
     requires { length table.now ≡ length pieces.now }
     ensures { IfOk result (λ more. more.items ≡ nearer (λ g. get_or table.now g false) table.now (all_items (lent_pieces pieces.now))) }
@@ -81,7 +82,7 @@ fn nearer(alloc: Global, pieces: &[&Piece], table: &[bool]) -> Result<Vec<bool>,
     Ok(more)
 }
 
-// Of each function whether calls lead from it to the target, at most as many as there are functions.
+// For each function, whether at most as many calls as there are functions lead from it to the target.
 fn leading(alloc: Global, pieces: &[&Piece], target: usize) -> Result<Vec<bool>, AllocError>
     requires { target < length pieces.now }
     ensures long { IfOk result (λ table. length table.items ≡ length pieces.now) }
@@ -96,7 +97,7 @@ fn leading(alloc: Global, pieces: &[&Piece], target: usize) -> Result<Vec<bool>,
     Ok(table)
 }
 
-// Adds a call, if it is part of a cycle.
+// Adds a call, if `is` says that it is part of a cycle.
 fn add_if(
     found: &mut Vec<Recursion>,
     is: bool,
@@ -133,7 +134,8 @@ fn add_of(
     Ok(())
 }
 
-/// The calls of a unit that are part of a cycle of calls, by who calls and then by who is called; the pieces are in the order of the functions.
+/// The calls of a unit that are part of a cycle of calls, ordered by the function that calls and then by the one that is
+/// called. The pieces are in the order of the functions.
 pub(crate) fn recursions(alloc: Global, pieces: &[&Piece]) -> Result<Vec<Recursion>, AllocError>
     ensures { IfOk result (λ found. AreCyclic (all_items (lent_pieces pieces.now)) found.items) }
 {

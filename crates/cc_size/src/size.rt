@@ -6,34 +6,35 @@ use cc_link::Compilation;
 /// What one function takes.
 #[derive(Clone, Copy)]
 pub struct FunctionSize {
-    /// The words of its code.
+    /// The words of the function's code.
     pub words: usize,
-    /// The bytes of its frame.
+    /// The bytes of the function's frame.
     pub frame: u32,
-    /// The most bytes of stack that a call of it takes, with the calls in it, as deep as calls may go.
+    /// The largest number of bytes of stack that a call of the function takes, together with the calls in it, as deep as calls may go.
     pub stack: u32,
-    /// The longest chain of calls from it, itself counted: at most 1,024, as deep as calls may go.
+    /// The length of the longest chain of calls that begins with a call of the function, including that call: at most 1,024,
+    /// which is as deep as calls may go.
     pub calls: u32,
 }
 
 /// What a unit takes.
 #[derive(Drop)]
 pub struct UnitSize {
-    /// Its functions, in the order of definitions.
+    /// The unit's functions, in the order of definitions.
     pub functions: Vec<FunctionSize>,
-    /// The words of its code.
+    /// The words of the function's code.
     pub code: usize,
-    /// The bytes of its globals.
+    /// The bytes of the unit's globals.
     pub globals: usize,
     /// The calls that are part of a cycle of calls.
     pub recursions: Vec<Recursion>,
-    /// How many calls are open at most, that of main counted.
+    /// How many calls are open at most, including that of main.
     pub calls: u32,
-    /// The bytes of stack that are enough for it.
+    /// The bytes of stack that are enough for the unit.
     pub stack: u32,
 }
 
-/// What a text was compiled to, and what that takes.
+/// What a text was compiled to, and what it takes.
 #[derive(Drop)]
 pub struct Sized {
     pub made: Compilation,

@@ -1,4 +1,4 @@
-// Tables of the functions whose pieces these are, in their order.
+// Tables with one entry for each function, given the functions' pieces in their order.
 
 ghost use Rattle.std.specs.Prelude.{◌≡◌, ℕ, get_or, IfOk};
 ghost use Rattle.cc_emit.specs.Contract.{largest_frame};
@@ -10,7 +10,7 @@ use crate::size::FunctionSize;
 use cc_emit::Piece;
 use std::alloc::{AllocError, Global};
 
-/// The bytes of each one's frame.
+/// The bytes of each function's frame.
 pub(crate) fn frames(alloc: Global, pieces: &[&Piece]) -> Result<Vec<u32>, AllocError>
     ensures answer { IfOk result (λ frames. frames.items ≡ frames_of (lent_pieces pieces.now)) }
     ensures few { IfOk result (λ frames. AreFew largest_frame frames.items) }
@@ -22,7 +22,7 @@ pub(crate) fn frames(alloc: Global, pieces: &[&Piece]) -> Result<Vec<u32>, Alloc
     Ok(frames)
 }
 
-/// One for each.
+/// The number 1 for each function.
 pub(crate) fn ones(alloc: Global, pieces: &[&Piece]) -> Result<Vec<u32>, AllocError>
     ensures answer { IfOk result (λ ones. ones.items ≡ ones_of (lent_pieces pieces.now)) }
     ensures few { IfOk result (λ ones. AreFew largest_frame ones.items) }
@@ -34,14 +34,14 @@ pub(crate) fn ones(alloc: Global, pieces: &[&Piece]) -> Result<Vec<u32>, AllocEr
     Ok(ones)
 }
 
-/// The entry of a function; 0 if there is none.
+/// The entry of a function; 0 if the table has no such entry.
 pub(crate) fn entry(table: &[u32], function: usize) -> u32
     ensures { result ≡ get_or table.now function 0 }
 {
     table.get(function).copied().unwrap_or(0)
 }
 
-/// What each takes.
+/// What each function takes.
 pub(crate) fn sizes(
     alloc: Global,
     pieces: &[&Piece],

@@ -5,13 +5,13 @@ use Rattle.std.specs.Io.KnownBytes.{Consumes, IsAtEnd}
 use lib.Seq.{take-append_seam}
 use Rattle.cc_sources.specs.Reading.{IsTextOf}
 
--- as many bytes as are read at most
+-- the text if as many bytes were read as may be read
 pub read_full : (a b : Option (List ℕ)) (text : List ℕ) → Consumes a b text → length text ≡ 65537 → IsTextOf a text
 read_full None b text one full = tt
 read_full (Some x) None text one full = absurd one
 read_full (Some x) (Some y) text one full = sym (ap (take 65537) one ∙ (ap (λ (n : ℕ). take n (text ++ y)) (sym full) ∙ take-append_seam text y))
 
--- all bytes that the reader has, if that is not too many
+-- the text if all bytes of the reader were read, and they are not too many
 pub read_whole : (a b : Option (List ℕ)) (text : List ℕ) → Consumes a b text → IsAtEnd b → length text ≤ 65537 → IsTextOf a text
 read_whole None b text one over few = tt
 read_whole (Some x) None text one over few = absurd one

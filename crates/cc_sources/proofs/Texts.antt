@@ -8,20 +8,20 @@ use Rattle.cc_sources.specs.Places.{begin_of, IsIn}
 use Rattle.cc_sources.specs.declared.place.TextPlace.{TextPlace}
 use Rattle.cc_sources.specs.declared.text.NamedText.{NamedText}
 
--- the beginning of the next text
+-- at which byte the next text begins
 begin-next : (texts : List NamedText) (k : ℕ) (text : NamedText) (further : List NamedText) → drop k texts ≡ text ∷ further → begin_of texts (suc k) ≡ begin_of texts k + length (closed text further)
 begin-next [] zero text further e = absurd (cc)
 begin-next [] (suc k) text further e = absurd (cc)
 begin-next (t ∷ ts) zero text further e = grind (arith, e)
 begin-next (t ∷ ts) (suc k) text further e = grind (arith, begin-next ts k text further e)
 
--- the whole is what precedes a text, and then the text joined with the further ones
+-- the whole consists of what comes before a text, and that text joined with the further ones
 length-joined : (texts : List NamedText) (k : ℕ) → k ≤ length texts → length (joined texts) ≡ begin_of texts k + length (joined (drop k texts))
 length-joined texts zero few = grind arith
 length-joined [] (suc k) few = grind arith
 length-joined (t ∷ ts) (suc k) few = grind (arith, length-append, length-joined ts k (omega (arith, few)))
 
--- a newline, or none
+-- one newline or none is at most one byte
 few_of : (b : Bool) (some : List ℕ) → length some ≡ 1 → length (if b then some else []) ≤ 1
 few_of true some one = omega (arith, one)
 few_of false some one = omega (arith, one)
@@ -29,26 +29,26 @@ few_of false some one = omega (arith, one)
 few_after : (bytes : List ℕ) → length (newline_after bytes) ≤ 1
 few_after bytes = few_of (lacks_newline bytes) (10 ∷ []) refl
 
--- a text before further ones
+-- the length of a text that has further ones after it
 length-closed : (text : NamedText) (further : List NamedText) → 0 < length further → length (closed text further) ≡ length text.bytes.items + length (newline_after text.bytes.items)
 length-closed text [] some = absurd (omega (arith, some))
 length-closed text (next ∷ further) some = length-append text.bytes.items (newline_after text.bytes.items)
 
--- the last text contributes just its bytes
+-- the last text adds only its bytes
 length-last : (text : NamedText) (further : List NamedText) → length further ≡ 0 → length (joined (text ∷ further)) ≡ length text.bytes.items
 length-last text [] none = ap length (append-nil text.bytes.items)
 length-last text (next ∷ further) none = absurd (omega (arith, none))
 
--- the texts from one of them on
+-- the texts from index `k` on are the text at `k` and those after it
 from_one : (texts : List NamedText) (k : ℕ) (text : NamedText) → k < length texts → text ≡ get_or texts k text → drop k texts ≡ text ∷ drop (suc k) texts
 from_one texts k text few is = drop-cons texts k text few ∙ ap (λ (t : NamedText). t ∷ drop (suc k) texts) (sym is)
 
--- one more text of the whole
+-- one more text was added to the whole
 pub one_more : (text : NamedText) (further : List NamedText) (old new all : List ℕ) → old ++ joined (text ∷ further) ≡ all → new ≡ old ++ closed text further → new ++ joined further ≡ all
 one_more text further old new all so_far is =
     ap (λ (l : List ℕ). l ++ joined further) is ∙ (append_assoc old (closed text further) (joined further) ∙ so_far)
 
--- a byte after a text is at or after the beginning of the next one
+-- a byte that comes after a text is at or after the beginning of the next one
 pub moved : (texts : List NamedText) (k next at left now : ℕ) (text : NamedText) → next ≡ suc k → next < length texts → text ≡ get_or texts k text → at ≡ begin_of texts k + left
     → now + (length text.bytes.items + length (newline_after text.bytes.items)) ≡ left → at ≡ begin_of texts next + now
 moved texts k next at left now text e few is so_far by =
@@ -59,7 +59,8 @@ moved texts k next at left now text e few is so_far by =
     let there : begin_of texts next ≡ begin_of texts (suc k) = ap (begin_of texts) e in
     omega (arith, begins, whole, there, so_far, by)
 
--- the rest of the last text, or of one with a text after it, is no longer than the text
+-- what precedes the byte in its text is no longer than the text, if it is the last text, or if the byte is in it or in the
+-- newline after it
 within : (texts : List NamedText) (k at left : ℕ) (text : NamedText) → k < length texts → text ≡ get_or texts k text → at ≡ begin_of texts k + left → at ≤ length (joined texts)
     → (suc k ≡ length texts) ⊎ (left < length text.bytes.items + length (newline_after text.bytes.items)) → left ≤ length text.bytes.items
 within texts k at left text here is so_far inside (inl last) =

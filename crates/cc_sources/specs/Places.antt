@@ -5,14 +5,14 @@ use Rattle.cc_sources.specs.Joined.{closed}
 use Rattle.cc_sources.specs.declared.text.NamedText.{NamedText}
 use Rattle.cc_sources.specs.declared.place.TextPlace.{TextPlace}
 
--- at which byte of the whole the text with this number begins
+-- the byte of the whole at which the text with this number begins
 abbrev pub begin_of : List NamedText → (number : ℕ) → ℕ
 begin_of texts zero = 0
 begin_of [] (suc number) = 0
 begin_of (text ∷ further) (suc number) = length (closed text further) + begin_of further number
 
 -- A byte of the whole belongs to this text: the text begins as many bytes before it as its offset says, and has a byte at that
--- offset or ends there; if there is a next text, that begins after the byte. Line and column are those in the text.
+-- offset or ends there; if there is a next text, it begins after the byte. The line and the column are those in the text.
 pub record IsIn (texts : List NamedText) (at : ℕ) (found : TextPlace) : Type 0 where
   pub text : NamedText
   pub there : slice_get texts found.number ≡ Some text

@@ -27,7 +27,7 @@ fn append(whole: &mut Vec<u8>, bytes: &[u8], is_last: bool) -> Result<(), AllocE
     Ok(())
 }
 
-/// Joins texts to one: one after another, with a newline between two if the first does not end with one. `AllocError` if memory
+/// Joins texts into one: one after another, with a newline between two if the first does not end with one. `AllocError` if memory
 /// runs out.
 pub fn join(alloc: Global, texts: &[NamedText]) -> Result<Vec<u8>, AllocError>
     ensures { IfOk result (λ whole. whole.items ≡ joined texts.now) }

@@ -10,7 +10,7 @@ use std::alloc::{AllocError, Global};
 /// What precedes a place in the words of a message.
 const BEFORE: &str = " at ";
 
-// The place that words begin with, such as `2:5`, and the words after it.
+// The place with which words begin, such as `2:5`, and the words after it.
 fn place_before(words: &str) -> Option<(Place, &str)> {
     let (line, rest) = words.split_once(":")?;
     let end = rest
@@ -23,7 +23,7 @@ fn place_before(words: &str) -> Option<(Place, &str)> {
     Some((Place { line, column }, rest.get(end..)?))
 }
 
-// Adds the place in the texts of this place in the whole, such as `B.c:2:5`.
+// Adds the place in one of the texts, such as `B.c:2:5`, that corresponds to this place in the whole.
 fn add_place(
     alloc: Global,
     texts: &[NamedText],

@@ -10,7 +10,7 @@ use std::fs::File;
 use std::io::{self, Input, Read};
 use std::rt::Files;
 
-/// One byte more than a text may have. No more bytes are read; so a longer text is recognised as too long.
+/// One byte more than a text may have. No further bytes are read, so a longer text is recognised as too long.
 pub const MOST_READ: usize = MOST_BYTES + 1;
 
 /// The name of standard input.
@@ -19,7 +19,7 @@ pub const INPUT: &str = "-";
 /// Why a text could not be read.
 #[derive(Drop)]
 pub enum NoText {
-    /// The system refused to open or to read it.
+    /// The system refused to open the text or to read it.
     Unread(io::Error),
     OutOfMemory,
 }
@@ -72,7 +72,7 @@ fn read_named<R: Input, F: Files>(
     }
 }
 
-/// Which text could not be read, by its number from 0, and why.
+/// The number, from 0, of the text that could not be read, and why.
 #[derive(Drop)]
 pub struct NoTexts {
     pub number: usize,

@@ -79,7 +79,7 @@ fn write_at<W: Write>(
     writer.write_all(lines.strip_prefix(INPUT.as_bytes()).unwrap_or(lines))
 }
 
-// Writes a diagnostic of the whole that texts make.
+// Writes a diagnostic about the whole that texts make.
 fn write_of_texts<W: Write>(
     alloc: Global,
     texts: &[NamedText],
@@ -99,8 +99,8 @@ fn write_of_texts<W: Write>(
 }
 
 /// Writes a diagnostic of a text as `Diagnostic` does, such as `-:4:2: 'totl' is not declared`. If the text is made of others,
-/// name, line and column are those of the text that has the place: `B.c:4:2: 'totl' is not declared`. Fails if the writer does or
-/// memory runs out; some lines may have been written then.
+/// the name, the line and the column are those of the text that has the place: `B.c:4:2: 'totl' is not declared`. Fails if the
+/// writer does or memory runs out; some lines may have been written then.
 pub fn write_diagnostic<W: Write>(
     alloc: Global,
     text: &[u8],

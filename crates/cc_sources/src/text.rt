@@ -1,6 +1,6 @@
 // A text with its name.
 
-/// A text, and the name that it was requested by: a file's name, or `-` for standard input.
+/// A text, and the name under which it was requested: a file's name, or `-` for standard input.
 #[derive(Drop)]
 pub struct NamedText {
     pub name: String,

@@ -1,4 +1,5 @@
--- A spool may go to another thread: one in memory where its scripts and the writers of its answers may, one in a folder where its handle of files may.
+-- A spool in memory may go to another thread if its scripts and the writers of its answers may; a spool in a folder may if its
+-- handle for files may.
 use denote.RattleType.{RattleType}
 use denote.Param.Send.{IsSend, sendable, recorded_send, struct_send}
 use denote.Builtin.{u32}

@@ -1,4 +1,4 @@
--- What is read of an answer last, and whether its lines and sources tell a fault, is one thing.
+-- Reading an answer gives a fault exactly if one of its lines reports one, or it ends within a source.
 use Rattle.std.proofs.Common.{◌≡◌, ◌≢◌, ◌∙◌, inl, inr, ℕ, ◌+◌, ◌-◌, ◌*◌, ◌<◌, ◌≤◌, zero, suc, min, Bool, true, false, true≢false, ◌&&◌, ◌==◌, nat_lt, if◌then◌else◌, List, [], ◌∷◌, ◌++◌, length, get_or, take, Option, Some, None, refl, sym, ap, subst, add-one, append_assoc, append-nil, arith, codes}
 use Rattle.std.specs.Prelude.{All, slice_index}
 use Rattle.std.specs.Char.{digit_value, is_ascii_digit}
@@ -20,14 +20,14 @@ use Rattle.cc_spool.proofs.Skipping.{at, byte_behind, bytes_read, from_there}
 abbrev IsOther : ℕ → Type 0
 IsOther byte = byte ≢ 10
 
--- a test leads one way or the other
+-- P holds of an `if` when it holds of the branch that the test takes
 either : {A : Type 0} (P : A → Type 0) (b : Bool) (x y : A) → (b ≡ true → P x) → (b ≡ false → P y) → P (if b then x else y)
 either P true x y so never = so refl
 either P false x y so never = never refl
 
--- ---- what was read since the last whole part, by where that led
+-- ---- what was read since the last whole part, depending on the place to which it led
 
--- within the source that comes after a line, of which so many bytes are left
+-- the text is a line and the beginning of the source that comes after it; `left` bytes of the source are still to come
 record IsIn (text : List ℕ) (left : ℕ) : Type 0 where
   line : List ℕ
   count : ℕ
@@ -37,7 +37,7 @@ record IsIn (text : List ℕ) (left : ℕ) : Type 0 where
   text_is : text ≡ line ++ 10 ∷ rest
   left_is : length rest + left ≡ count
 
--- after one that no newline ended
+-- the text goes on after a source that no newline ended
 record IsPast (text : List ℕ) : Type 0 where
   line : List ℕ
   count : ℕ
@@ -49,7 +49,7 @@ record IsPast (text : List ℕ) : Type 0 where
   rest : List ℕ
   text_is : text ≡ line ++ 10 ∷ (source ++ byte ∷ rest)
 
--- however the line goes on it is none that a source comes after
+-- however the line goes on, no source comes after it
 abbrev NoHeader : List ℕ → Type 0
 NoHeader text = (more : List ℕ) (count : ℕ) → ¬ IsHeader (text ++ more) count
 
@@ -69,9 +69,9 @@ Reads (Within left) text = IsIn text left × (0 < left)
 Reads Behind text = IsIn text 0
 Reads Broken text = IsPast text
 
--- ---- lines that a source comes after
+-- ---- lines after which a source comes
 
--- where two texts are one, a byte of the first is that of the second
+-- if two texts are equal, the second has the same byte at this place
 same_at : (text : List ℕ) (byte : ℕ) (more whole rest : List ℕ) → text ++ byte ∷ more ≡ whole ++ rest → length text < length whole → byte ≡ get_or whole (length text) 0
 same_at [] byte more [] rest e short = absurd (omega arith)
 same_at [] byte more (w ∷ whole) rest e short = cc
@@ -101,17 +101,17 @@ no_digit byte is = λ small.
     let within = digit_from_value byte small in
     grind (arith, nat_tests, within)
 
--- another byte at its place
+-- no source comes after a line that differs from `source ` in one of its first seven bytes
 no_header : (text : List ℕ) (byte : ℕ) → length text < 7 → byte ≢ get_or (codes "source ") (length text) 0 → NoHeader (text ++ byte ∷ [])
 no_header text byte short other = λ more count h.
     other (same_at text byte more (codes "source ") h.digits (sym (append_assoc text (byte ∷ []) more) ∙ h.line_is) short)
 
--- another first byte
+-- no source comes after a line whose first byte is not `s`
 no_header_first : (byte : ℕ) (text : List ℕ) → byte ≢ 115 → NoHeader (byte ∷ text)
 no_header_first byte text other = λ more count h.
     let e : byte ∷ (text ++ more) ≡ codes "source " ++ h.digits = h.line_is in other (same_at [] byte (text ++ more) (codes "source ") h.digits e (omega arith))
 
--- a byte that is no digit
+-- no source comes after a line that has a byte other than a digit after its digits
 no_header_digits : (digits : List ℕ) (byte : ℕ) (text : List ℕ) → text ≡ codes "source " ++ digits → is_ascii_digit byte ≡ false → NoHeader (text ++ byte ∷ [])
 no_header_digits digits byte text is other = λ more count h.
     let e : codes "source " ++ (digits ++ byte ∷ more) ≡ codes "source " ++ h.digits =
@@ -231,7 +231,7 @@ length_on number byte text h on =
     (λ digit. ((one_digit_more text number byte h digit, on), tt))
     (λ other. ((no_header_digits h.digits byte text h.line_is other, on), tt))
 
--- what another byte than a newline leads to
+-- a byte other than a newline leads to the place `there`
 past_newline : (text : List ℕ) (byte : ℕ) → byte ≢ 10 → (here there : Place) → Onward text byte there → Onward text byte (if byte == 10 then here else there)
 past_newline text byte other here there on = either (Onward text byte) (byte == 10) here there (λ t. absurd (other (eqb-true byte 10 t))) (λ f. on)
 
@@ -251,13 +251,13 @@ step (Within left) text byte other line r = absurd line
 step Behind text byte other line r = absurd line
 step Broken text byte other line r = absurd line
 
--- ---- what is told is told by a line or a source
+-- ---- whatever is reported comes from a line or a source
 
 abbrev Is : Option ℕ → Type 0
 Is None = ⊥
 Is (Some number) = Unit {0}
 
--- one part more before
+-- an answer that reports a fault still does with one more part before it
 prepended : (part : Part) (answer : List ℕ) → IsPart part → TellsFault answer → TellsFault (part_text part ++ answer)
 prepended part answer is (inl h) = inl (record {
   parts = part ∷ h.parts;
@@ -281,7 +281,7 @@ short_no_header text short = λ count h.
     let some = h.some in
     omega (arith, ap (λ (l : List ℕ). length l) h.line_is, length-append (codes "source ") h.digits, short, some)
 
--- a line that led to no length is none that a source comes after
+-- no source comes after a line if reading it led to no length
 no_length : (place : Place) (text : List ℕ) → IsLinePlace place → ((number : ℕ) → place ≢ Length number) → Reads place text → (count : ℕ) → ¬ IsHeader text count
 no_length (Fault n) text line never r = short_no_header text (let few = r.1 in omega (arith, ap (λ (l : List ℕ). length l) r.0, length-take n (codes "fault "), few))
 no_length (Number n) text line never r = λ count h.
@@ -310,14 +310,14 @@ Finds bytes place text = Reads place text → Is (last_told (read_bytes (at plac
 nothing_read : Reads (Fault 0) []
 nothing_read = (refl, omega arith, All-nil IsOther)
 
--- a line without a source ends
+-- a newline ends a line without a source
 line_ends : (place : Place) (text bytes : List ℕ) → IsLinePlace place → ((number : ℕ) → place ≢ Length number) → Reads place text → Finds bytes (Fault 0) []
     → Is (last_told (read_bytes (at (Fault 0) None) bytes)) → TellsFault (text ++ 10 ∷ bytes)
 line_ends place text bytes line never r next told =
     subst TellsFault (append_assoc text (10 ∷ []) bytes)
     (prepended (record { line = text; source = None }) bytes (record { plain = plain_of place text line r; follows = no_length place text line never r }) (next nothing_read told))
 
--- a source begins
+-- the newline after a length begins a source
 source_begins : (number : ℕ) (text : List ℕ) → Reads (Length number) text → (left : ℕ) → left ≡ number → IsIn (text ++ 10 ∷ []) left
 source_begins number text r left is = record {
   line = text;
@@ -355,7 +355,7 @@ line_on place text byte bytes line r next told =
           subst TellsFault (append_assoc text (byte ∷ []) bytes) (next (place_behind place byte) (text ++ byte ∷ []) (step place text byte other line r).0 told)
     ]
 
--- one byte of a source more
+-- one more byte of a source is read
 in_more : (text : List ℕ) (left byte now : ℕ) → IsIn text left → now + 1 ≡ left → IsIn (text ++ byte ∷ []) now
 in_more text left byte now h one =
     let left_is = h.left_is in
@@ -369,7 +369,7 @@ in_more text left byte now h one =
       left_is = omega (arith, length-append h.rest (byte ∷ []), left_is, one);
     }
 
--- a source ends
+-- the newline after a source ends it
 source_ends : (text bytes : List ℕ) → IsIn text 0 → TellsFault bytes → TellsFault (text ++ 10 ∷ bytes)
 source_ends text bytes h told =
     let part : Part = record { line = h.line; source = Some h.rest } in
@@ -411,7 +411,7 @@ past_more text byte h = record {
       ∙ ap (λ (l : List ℕ). h.line ++ 10 ∷ l) (append_assoc h.source (h.byte ∷ h.rest) (byte ∷ [])));
 }
 
--- an answer ends there
+-- an answer that ends within a source reports a fault
 ends_in : (text : List ℕ) (left : ℕ) → IsIn text left → TellsFault (text ++ [])
 ends_in text left h = inr (record {
   parts = [];
@@ -475,7 +475,7 @@ found (byte ∷ bytes) Behind text = λ r told.
 found (byte ∷ bytes) Broken text = λ r told.
     subst TellsFault (append_assoc text (byte ∷ []) bytes) (found bytes Broken (text ++ byte ∷ []) (past_more text byte r) told)
 
--- ---- and what these tell is told
+-- ---- whatever lines and sources report is reported
 
 told_some : (place : Place) (number : ℕ) → (m : ℕ) × (told_at place (Some number) ≡ Some m)
 told_some (Number n) number = (n, refl)
@@ -500,11 +500,11 @@ is_told lines some = either Is (is_within lines.place) (Some 55) lines.last (λ 
 is_cut : (lines : Lines) → is_within lines.place ≡ true → Is (last_told lines)
 is_cut lines within = either Is (is_within lines.place) (Some 55) lines.last (λ t. tt) (λ f. absurd (true≢false (sym within ∙ f)))
 
--- whatever was told before, the bytes are read to the beginning of a line
+-- the bytes are read to the beginning of a line, whatever was reported before
 abbrev Leads : (bytes : List ℕ) (last : Option ℕ) → Type 0
 Leads bytes last = (later : Option ℕ) × ((rest : List ℕ) → read_bytes (between last) (bytes ++ rest) ≡ read_bytes (between later) rest)
 
--- a line is read to a place where it leads
+-- reading `line` leads from `place` to another place within a line
 record LeadsTo (place : Place) (last : Option ℕ) (text line : List ℕ) : Type 0 where
   pub there : Place
   pub later : Option ℕ
@@ -534,7 +534,7 @@ line_read (byte ∷ line) place last text plain is r =
       read = rest.read;
     }
 
--- a newline ends it
+-- a newline ends a line that says no length
 newline : (place : Place) (last : Option ℕ) (rest : List ℕ) → IsLinePlace place → ((number : ℕ) → place ≢ Length number) → read_bytes (at place last) (10 ∷ rest) ≡ read_bytes (between last) rest
 newline (Fault n) last rest is never = refl
 newline (Number n) last rest is never = refl
@@ -545,7 +545,7 @@ newline (Within n) last rest is never = absurd is
 newline Behind last rest is never = absurd is
 newline Broken last rest is never = absurd is
 
--- a line that says a length leads to it
+-- a line that says a length leads to the place with that length
 header_place : (place : Place) (line : List ℕ) (count : ℕ) → IsHeader line count → IsLinePlace place → Reads place line → place ≡ Length count
 header_place (Fault n) line count h is r = absurd (no_length (Fault n) line is (λ m e. cc) r count h)
 header_place (Number n) line count h is r = absurd (no_length (Number n) line is (λ m e. cc) r count h)
@@ -591,7 +591,7 @@ header_plain line count h =
 length_no : (place : Place) (line : List ℕ) → ((count : ℕ) → ¬ IsHeader line count) → Reads place line → (number : ℕ) → place ≢ Length number
 length_no place line never r = λ number e. never number (subst (λ (p : Place). Reads p line) e r).0
 
--- a whole line, without its newline
+-- a whole line is read, without its newline
 whole_line : (line : List ℕ) (last : Option ℕ) → All IsOther line → LeadsTo (Fault 0) last [] line
 whole_line line last plain = line_read line (Fault 0) last [] plain tt nothing_read
 
@@ -672,6 +672,6 @@ tells_as : (answer : List ℕ) (told : Option ℕ) → last_told (read_bytes (be
 tells_as answer None is = λ fault. subst Is is (told_whole answer fault)
 tells_as answer (Some number) is = found answer (Fault 0) [] nothing_read (subst Is (sym is) tt)
 
--- what is read last of an answer is known of its lines and sources
+-- reading an answer gives a fault exactly if one of its lines reports one, or it ends within a source
 pub tells_so : (answer : List ℕ) → Tells answer (last_told (read_bytes (between None) answer))
 tells_so answer = tells_as answer (last_told (read_bytes (between None) answer)) refl

@@ -1,4 +1,4 @@
--- Who reads a source in an answer is behind it where it was before.
+-- A reader is in the same state after a source in an answer as before it.
 use Rattle.std.proofs.Common.{◌≡◌, ◌∙◌, ℕ, ◌+◌, ◌*◌, ◌<◌, ◌≤◌, suc, List, [], ◌∷◌, ◌++◌, length, Option, Result, Ok, Err, Vec, Global, refl, sym, ap, subst, append_assoc, arith, codes}
 use Rattle.std.specs.Prelude.{IfOk}
 use Rattle.std.specs.Char.{digit_value}
@@ -16,18 +16,18 @@ use Rattle.cc_spool.specs.declared.lines.Place.TheVariants.{Behind, Length, Sour
 abbrev pub at : Place → (last : Option ℕ) → Lines
 at place last = record { place = place; last = last }
 
--- some bytes, and then some more
+-- reading x and then y is the same as reading both at once
 pub read_on : (lines : Lines) (x y : List ℕ) → read_bytes lines (x ++ y) ≡ read_bytes (read_bytes lines x) y
 read_on lines [] y = refl
 read_on lines (b ∷ x) y = read_on (read_byte lines b) x y
 
--- where the byte leads is where the rest is read from
+-- if a byte reports nothing, the rest is read from the place to which the byte leads
 pub from_there : (place : Place) (last : Option ℕ) (byte : ℕ) (rest : List ℕ) (there : Place) → place_behind place byte ≡ there → told_at there last ≡ last
     → read_bytes (at place last) (byte ∷ rest) ≡ read_bytes (at there last) rest
 from_there place last byte rest there is same =
     ap (λ (p : Place). read_bytes (record { place = p; last = told_at p last }) rest) is ∙ ap (λ (o : Option ℕ). read_bytes (record { place = there; last = o }) rest) same
 
--- ---- how many bytes it has
+-- ---- how many bytes the source has
 
 one_more : (n c : ℕ) → digit_value c < 10 → n < 100000000 → with_digit n c ≡ n * 10 + digit_value c
 one_more n c is small =
@@ -72,7 +72,7 @@ number_read n rest last small =
     digits_read (decimal n) rest last is.0.0 is.0.1 (subst (λ (m : ℕ). m < 1000000000) (sym is.1) small)
     ∙ ap (λ (m : ℕ). read_bytes (at (Length m) last) rest) is.1
 
--- ---- its bytes
+-- ---- the bytes of the source
 
 pub byte_behind : (n c : ℕ) → place_behind (Within (suc (suc n))) c ≡ Within (suc n)
 byte_behind n c = grind (arith, nat_tests)
@@ -90,7 +90,7 @@ bytes_read (c ∷ source) rest last =
     from_there (Length (suc (length source))) last 10 (c ∷ source ++ rest) (Within (suc (length source))) (grind (arith, nat_tests)) refl
     ∙ source_read (c ∷ source) rest last (omega arith)
 
--- ---- the whole
+-- ---- the whole source
 
 head_read : (last : Option ℕ) → read_bytes (between last) (codes "source ") ≡ at (Source 7) last
 head_read last = refl
@@ -107,7 +107,7 @@ skipped source last few =
     ∙ (number_read (length source) rest last (omega arith)
     ∙ bytes_read source (10 ∷ []) last)))
 
--- so of a text that was made
+-- the same for the result of making such a text
 pub skips : {E : Type 0} (made : Result (Vec ℕ Global) E) (source : List ℕ) → length source ≤ 65536 → IfOk made (λ text. text.items ≡ framed source)
     → IfOk made (λ text. (last : Option ℕ) → read_bytes (between last) text.items ≡ between last)
 skips (Ok text) source few is = λ last. subst (λ (bytes : List ℕ). read_bytes (between last) bytes ≡ between last) (sym is) (skipped source last few)

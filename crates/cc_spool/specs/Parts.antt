@@ -1,8 +1,9 @@
--- Of what an answer is made: lines, and sources, each after a line that says how many bytes it has. Whether it tells a fault.
+-- What an answer consists of (lines, and sources, each after a line that says how many bytes it has), and whether it reports a
+-- fault.
 use Rattle.std.specs.Prelude.{◌≡◌, ◌≢◌, ◌⊎◌, ◌<◌, ℕ, min, All, List, [], ◌∷◌, ◌++◌, length, Option, Some, None, codes}
 use Rattle.std.specs.Str.Parse.{AllDigits, digits_value}
 
--- the line says that a source comes after it, of this many bytes: `source` and a number, which counts as far as 32 bits go
+-- the line says that a source of this many bytes comes after it: `source` and a number, which counts up to 32 bits
 pub record IsHeader (line : List ℕ) (count : ℕ) : Type 0 where
   pub digits : List ℕ
   pub some : 0 < length digits
@@ -10,7 +11,7 @@ pub record IsHeader (line : List ℕ) (count : ℕ) : Type 0 where
   pub line_is : line ≡ codes "source " ++ digits
   pub count_is : count ≡ min (digits_value 10 digits) 4294967295
 
--- a part of an answer: a line, and the source that comes after it, if it says so
+-- a part of an answer: a line, and the source that comes after it if the line announces one
 pub record Part : Type 0 where
   pub line : List ℕ
   pub source : Option (List ℕ)
@@ -39,7 +40,7 @@ abbrev pub parts_text : List Part → List ℕ
 parts_text [] = []
 parts_text (part ∷ parts) = part_text part ++ parts_text parts
 
--- ---- what an answer tells
+-- ---- what an answer reports
 
 -- a line that is not within a source begins with `fault `
 pub record HasFaultLine (answer : List ℕ) : Type 0 where
@@ -48,7 +49,7 @@ pub record HasFaultLine (answer : List ℕ) : Type 0 where
   pub rest : List ℕ
   pub answer_is : answer ≡ parts_text parts ++ (codes "fault " ++ rest)
 
--- The answer ends within a source, or has another byte than a newline after one.
+-- The answer ends within a source, or has a byte other than a newline after one.
 pub record EndsInSource (answer : List ℕ) : Type 0 where
   pub parts : List Part
   pub are_parts : AreParts parts
@@ -59,11 +60,11 @@ pub record EndsInSource (answer : List ℕ) : Type 0 where
   pub answer_is : answer ≡ parts_text parts ++ (line ++ 10 ∷ rest)
   pub unended : (source after : List ℕ) → length source ≡ count → rest ≢ source ++ 10 ∷ after
 
--- one or the other: then the script has a fault, or was interrupted
+-- a fault is reported: by a line, or because the answer ends within a source
 abbrev pub TellsFault : (answer : List ℕ) → Type 0
 TellsFault answer = HasFaultLine answer ⊎ EndsInSource answer
 
--- whether a fault is told is known
+-- the option says whether the answer reports a fault
 abbrev pub Tells : {N : Type 0} → (answer : List ℕ) → (told : Option N) → Type 0
 Tells answer None = ¬ TellsFault answer
 Tells answer (Some number) = TellsFault answer

@@ -5,14 +5,14 @@ use Rattle.cc_spool.specs.Parts.{Tells}
 use Rattle.cc_spool.specs.declared.submission.Submission.{Submission}
 use Rattle.cc_spool.specs.declared.submission.Submission.TheVariants.{Answered, CutShort, Lost, NotTaken, Unread, Unwritten}
 
--- the writer got an answer, which tells so, and no other byte
+-- the writer got exactly the bytes of an answer, which reports a fault exactly if `told` has a number
 pub record IsAnswered (old new : Option (List ℕ)) (told : Option ℕ) : Type 0 where
   pub answer : List ℕ
   pub written : Appends old new answer
   pub tells : Tells answer told
 
--- What the writer held before, and holds then. If there is no answer it got nothing; of one that was not read to its end, its first bytes. One that
--- could not be written is known to the writer alone.
+-- What the writer held before, and what it holds afterwards. If there is no answer it got nothing; if the answer was not read to
+-- its end, it got the answer's first bytes. Only the writer knows what it got of an answer that could not be written.
 abbrev pub HasWritten : (old new : Option (List ℕ)) → Submission → Type 0
 HasWritten old new (Answered told) = IsAnswered old new told
 HasWritten old new NotTaken = new ≡ old
@@ -21,7 +21,7 @@ HasWritten old new (Unwritten name) = Unit {0}
 HasWritten old new (CutShort name why) = (begun : List ℕ) × Appends old new begun
 HasWritten old new (Lost name why) = new ≡ old
 
--- so, if the script was left in the folder; if not, it got nothing
+-- the same, if the script was left in the folder; if not, the writer got nothing
 abbrev pub HasWrittenIfOk : {E : Type 0} → (old new : Option (List ℕ)) → Result Submission E → Type 0
 HasWrittenIfOk old new (Ok submission) = HasWritten old new submission
 HasWrittenIfOk old new (Err why) = new ≡ old

@@ -1,4 +1,4 @@
--- Which fault an answer tells last.
+-- Which fault an answer reports last.
 pub mod Telling
 -- What is copied from a reader to a writer.
 pub mod Copied

@@ -8,11 +8,11 @@ use std::alloc::Global;
 use std::fs::File;
 use std::io::{self, BufWriter, Write};
 
-/// The most bytes of an answer.
-const MOST_BYTES: u64 = 16_777_216;
+/// An answer has at most this many bytes.
+const ANSWER_BYTES: u64 = 16_777_216;
 
-/// An answer that is being written, of 16,777,216 bytes at most. After a write or a flush that was refused all later ones are, since what
-/// stands in the file is not what was to be written.
+/// An answer that is being written, of at most 16,777,216 bytes. After a write or a flush has been refused, all later ones are
+/// refused too: the file no longer has what was to be written.
 #[derive(Drop)]
 pub struct AnswerFile {
     writer: BufWriter<File>,
@@ -23,20 +23,20 @@ pub struct AnswerFile {
 }
 
 impl AnswerFile {
-    /// An answer to a new file.
+    /// An answer that is written to a new file.
     pub(crate) fn new(alloc: Global, file: File) -> io::Result<AnswerFile>
         ensures room { IfOk result (λ answer. answer.left ≡ 16777216) }
         ensures fresh { IfOk result (λ answer. answer.is_refused ≡ false) }
     {
         Ok(AnswerFile {
             writer: BufWriter::new(alloc, file)?,
-            left: MOST_BYTES,
+            left: ANSWER_BYTES,
             is_refused: false,
             words: AnswerWords::new(alloc),
         })
     }
 
-    /// Writes what is left to write, and settles it. An `Err` where something of the answer was refused.
+    /// Writes what is left to write, and syncs the file. An `Err` if part of the answer was refused.
     pub(crate) fn settle(&mut self) -> io::Result<()>
         ensures whole { OnOk result (self.old.is_refused ≡ false) }
     {
@@ -49,7 +49,7 @@ impl AnswerFile {
         self.words.words()
     }
 
-    // Takes some of these bytes. An interrupted write may be tried again; any other that is refused is the last.
+    // Takes some of these bytes. An interrupted write may be tried again; after any other refusal all later writes are refused.
     fn take(&mut self, bytes: &[u8]) -> io::Result<usize>
         ensures bound { WritesAtMost result bytes.now }
         ensures room { IfOk result (λ count. count + self.new.left ≡ self.old.left) }
@@ -73,7 +73,7 @@ impl AnswerFile {
         }
     }
 
-    // Passes what was taken on to the file.
+    // Writes the bytes taken so far to the file.
     fn pass_on(&mut self) -> io::Result<()>
         ensures whole { OnOk result (self.old.is_refused ≡ false) }
         ensures kept { self.old.is_refused ≡ true → self.new.is_refused ≡ true }

@@ -1,8 +1,8 @@
-// How each line of a script was answered, as its answer is written: by the line that ends the answer to it.
+// How each line of a script was answered. This is read from the line that ends each answer, while the answer is written.
 
 use std::alloc::Global;
 
-/// The most bytes of a line that matter.
+/// At most this many bytes of a line matter.
 const LINE_BYTES: usize = 64;
 
 /// The last record of an image.
@@ -20,19 +20,19 @@ pub(crate) enum Word {
     Image,
 }
 
-/// How the lines were answered whose answers were written.
+/// For each line whose answer was written so far, how it was answered.
 #[derive(Drop)]
 pub(crate) struct AnswerWords {
-    // The line that is being written, as far as it matters.
+    // The first bytes of the line that is being written, as far as they matter.
     line: Vec<u8>,
-    // How many bytes of a source, with its newline, are to come.
+    // How many bytes of a source, with its newline, are still to come.
     within: u64,
     words: Vec<Word>,
     // Whether all words so far were kept.
     is_whole: bool,
 }
 
-// The number that a word is, as far as it is one.
+// The number that the digits of a word spell.
 fn number_of(word: &[u8]) -> u32 {
     let mut number = 0u32;
     for byte in word {
@@ -81,7 +81,7 @@ fn source_after(line: &[u8]) -> u64 {
 }
 
 impl AnswerWords {
-    /// Nothing of the answer was written yet.
+    /// The state before any of the answer is written.
     pub(crate) fn new(alloc: Global) -> AnswerWords {
         AnswerWords {
             line: Vec::new(alloc),

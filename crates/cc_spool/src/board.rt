@@ -1,11 +1,12 @@
 // What waits in `new`, as all clients of one server know it.
 //
-// One client at a time looks through `new`, and all clients take the names that it found, the least first, each once. A look costs as much as
-// `new` has entries, and anybody may put entries there that can't be claimed. So no look is made while `new` is what it was, and a name that
-// could not be claimed is passed over for a while, which doubles each time. Then it is tried again without a look, after the names that were
-// never tried, and with so many others a second at most: so names that can't be claimed take no more of a processor the more they are, and a
-// script waits for few of them. If there are more names than are kept, and none of these could be claimed, the next look is for the names
-// after them: so names that can't be claimed hide no script.
+// One client at a time looks through `new`. All clients take the names that this look found, the least first, each name once. A
+// look costs as much as `new` has entries, and anybody may put entries there that can't be claimed. So no look is made while
+// `new` is unchanged, and a name that could not be claimed is passed over for a time that doubles with each failure. Then it is
+// tried again without a look, after the names that were never tried; at most a fixed number of names a second is tried again. So
+// names that can't be claimed do not take more processor time the more there are of them, and a script waits for few of them. If
+// there are more names than are kept, and none of those kept could be claimed, the next look is for the names after them. So
+// names that can't be claimed hide no script.
 
 use crate::claims::may_be_claimed;
 use crate::entries::Entry;
@@ -17,53 +18,55 @@ use std::cmp::Ordering;
 use std::mem;
 use std::time::{Duration, Instant};
 
-/// The most entries of `new` that are looked at in one go, whatever they are.
+/// At most this many entries of `new` are looked at in one go, whatever they are.
 pub const MOST_ENTRIES: usize = 1_048_576;
 
-/// The most names that are kept of a look, the least ones, and the most that are passed over.
+/// At most this many names of a look are kept, the least ones, and at most this many names are passed over.
 const MOST_NAMES: usize = 131_072;
 
-/// For how long a name is passed over that could not be claimed, in seconds: at first, and at most.
+/// How long a name that could not be claimed is passed over, in seconds: at first, and at most.
 const LEAST_PASS: u64 = 1;
 
 const MOST_PASS: u64 = 30;
 
-/// A look is made after so many seconds even if `new` is what it was.
+/// A look is made after this many seconds even if `new` is unchanged.
 const LOOK_AGAIN: u64 = 10;
 
-/// The most names that were passed over and are tried again in one go, and the pause between two of these, in seconds. All that are kept are
-/// tried in less than the longest pass.
+/// At most this many names that were passed over are tried again in one go; and the pause between two such goes, in seconds. All
+/// that are kept are tried again in less time than the longest pass.
 const MOST_AGAIN: usize = 5_000;
 
 const AGAIN: u64 = 1;
 
-/// The most names that are looked at when it is asked whether a script waits.
+/// At most this many names are looked at to find whether a script waits.
 const MOST_LOOKED: usize = 64;
 
-/// How many seconds after the last change of `new` a look has to begin so that it saw all: a change within the clock's grain has the same time.
+/// A look is sure to see everything only if it begins more than this many seconds after the last change of `new`: a change within
+/// the clock's grain has the same time.
 const GRAIN: u64 = 1;
 
-/// How many times as long as it took a look that may not have seen all is not made again, while `new` is what it was.
+/// While `new` is unchanged, a look that possibly missed something is made again only after this many times as long as it took.
 const REST: u32 = 16;
 
 /// A name that may be a script's.
 #[derive(Drop)]
 pub(crate) struct Candidate {
     pub(crate) name: String,
-    // For how long it was passed over the last time, in seconds: 0 if it was not.
+    // How long it was passed over the last time, in seconds: 0 if it was not.
     passed: u64,
 }
 
 // A name that could not be claimed.
 #[derive(Drop)]
 struct Passed {
-    // By which it is found: each name of a look is looked for among all of these, and numbers are compared sooner than names.
+    // The key by which it is found: each name of a look is searched among all of these, and numbers are faster to compare than
+    // names.
     key: u64,
     name: String,
-    // For how long it is passed over, in seconds, and until when.
+    // How long it is passed over, in seconds, and until when.
     pass: u64,
     until: Instant,
-    // Whether the look that is being made saw it.
+    // Whether the look that is being made has seen it.
     is_seen: bool,
 }
 
@@ -71,7 +74,7 @@ struct Passed {
 #[derive(Clone, Copy, Drop)]
 struct Look {
     began: Instant,
-    // When `new` had been changed last: the seconds since 1970, and the nanoseconds after these.
+    // When `new` had last been changed: the seconds since 1970, and the nanoseconds after these.
     changed: (i64, i64),
     // Whether it kept all that it saw.
     is_all: bool,
@@ -85,21 +88,21 @@ struct Look {
 pub(crate) struct Board {
     // The names that are to be tried, the least last.
     waiting: Vec<Candidate>,
-    // Those that were passed over and are to be tried after these.
+    // Names that were passed over for long enough, and are to be tried again now.
     again: Vec<Candidate>,
-    // Those that are passed over, in the order of their keys, and of one key in that of the names.
+    // Those that are passed over, ordered by key, and for one key by name.
     passed: Vec<Passed>,
-    // Those that came to be passed over since the last look.
+    // The names newly passed over since the last look.
     fresh: Vec<Passed>,
-    // The first moment at which one of these is to be tried again, and the last one at which some were.
+    // The first moment at which a name that is passed over is to be tried again, and the last one at which some were.
     next_try: Option<Instant>,
     tried: Option<Instant>,
-    // After which name to look, if there were more than are kept, and none of those could be claimed.
+    // The name after which to look, if there were more names than are kept, and none of those could be claimed.
     from: Option<String>,
     last: Option<Look>,
 }
 
-// The key of a name. Names that have one key are told apart all the same.
+// The key of a name. Names that have the same key are still distinguished.
 fn key_of(name: &str) -> u64 {
     let mut key = 0xcbf2_9ce4_8422_2325u64;
     for byte in name.as_bytes() {
@@ -109,7 +112,7 @@ fn key_of(name: &str) -> u64 {
 }
 
 impl Passed {
-    // Whether it comes before a name that has this key, or after it.
+    // Whether this name comes before or after a name that has this key.
     fn order(&self, key: u64, name: &str) -> Ordering {
         match self.key.cmp(&key) {
             Ordering::Equal => self.name.as_str().cmp(name),
@@ -118,7 +121,7 @@ impl Passed {
     }
 }
 
-// The earlier of two moments, of which the first may not be.
+// The earlier of two moments; the first may be missing.
 fn earlier(first: Option<Instant>, other: Instant) -> Option<Instant> {
     match first {
         Some(first) if first <= other => Some(first),
@@ -135,12 +138,12 @@ fn first_try(passed: &[Passed]) -> Option<Instant> {
     first
 }
 
-// Brings names back that are to be tried again now, as long as there are fewer than so many.
+// Moves names that are to be tried again now from `passed` to `again`, until `again` has `MOST_AGAIN`.
 fn bring_back(passed: &mut Vec<Passed>, again: &mut Vec<Candidate>, alloc: Global, now: Instant) {
     for it in passed.iter_mut() {
         if again.len() < MOST_AGAIN && it.until <= now {
             let name = mem::replace(&mut it.name, String::new(alloc));
-            // If there is no memory it is found by the next look.
+            // If there is no memory for it, the next look finds it.
             let _ = again.push(Candidate {
                 name,
                 passed: it.pass,
@@ -180,7 +183,8 @@ impl Board {
         }
     }
 
-    /// Whether a script waits that can be claimed. Only so many names are looked at, and the next call goes on after them.
+    /// Whether there is a waiting script that can be claimed. Only a limited number of names is looked at, and the next call goes
+    /// on after them.
     pub(crate) fn has_claimable(&mut self, layout: &FolderLayout) -> Result<bool, Refusal> {
         let now = Instant::now(&layout.rt)?;
         for _ in 0..MOST_LOOKED {
@@ -214,7 +218,7 @@ impl Board {
         };
         let until = now.checked_add(Duration::from_secs(pass)).unwrap_or(now);
         self.next_try = earlier(self.next_try, until);
-        // If there is no memory it is tried at the next look.
+        // If there is no memory for it, it is tried at the next look.
         let _ = self.fresh.push(Passed {
             key: key_of(name.as_str()),
             name,
@@ -236,7 +240,7 @@ impl Board {
         }
     }
 
-    // Brings names back that were passed over for long enough.
+    // Brings back the names that were passed over for long enough.
     fn bring_back_if_due(&mut self, alloc: Global, now: Instant) {
         if !self.is_time_again(now) {
             return;
@@ -312,7 +316,7 @@ impl Board {
         Ok(())
     }
 
-    // Puts those that came to be passed over among the others.
+    // Puts the names newly passed over among the others.
     fn merge(&mut self) -> Result<(), Refusal> {
         if !self.fresh.is_empty() {
             self.passed.append(&mut self.fresh)?;
@@ -325,13 +329,13 @@ impl Board {
         Ok(())
     }
 
-    // Reads the entries of `new`; whether there are no more.
+    // Reads the entries of `new`. The result is whether there are no more entries.
     fn read(&mut self, layout: &FolderLayout) -> Result<bool, Refusal> {
         let mut entries = layout.entries("new")?;
         for _ in 0..MOST_ENTRIES {
             match entries.next() {
                 Entry::Named(name) => self.note(name)?,
-                // A name that is no UTF-8 is none that is taken.
+                // A name that is not UTF-8 is not taken.
                 Entry::Odd => {}
                 Entry::Refused(refusal) => return Err(refusal),
                 Entry::End => return Ok(true),
@@ -385,13 +389,13 @@ impl Board {
         self.waiting.truncate(MOST_NAMES);
     }
 
-    // Forgets those that are passed over and are gone, when all names were read.
+    // Forgets the names that are passed over and are gone, once all names were read.
     fn forget(&mut self) {
         self.passed.retain(|it| it.is_seen);
         self.next_try = self.first_try();
     }
 
-    // After which name to look if none of those that wait can be claimed: none if these are all.
+    // The name after which to look if none of those that wait can be claimed; none if there are no others.
     fn last_name(&self, alloc: Global) -> Result<Option<String>, Refusal> {
         match self.waiting.last() {
             Some(last) if self.waiting.len() == MOST_NAMES => {

@@ -1,6 +1,6 @@
-// The calls of the file system that the spool makes, each by the place of a file in the folder.
+// The file system calls that the spool makes, each on a file named by its place in the folder.
 //
-// Whoever makes one meets a number that is copied where it is refused, and no path.
+// If a call is refused, its caller gets only a number, which is copied, and no path.
 
 use crate::entries::Entries;
 use crate::found::Found;
@@ -15,31 +15,31 @@ use std::path::Path;
 /// A path, if there is memory for it.
 type Along = Result<String, AllocError>;
 
-/// Settles what was written to a file, or the names in a directory.
+/// Syncs what was written to a file, or the names in a directory.
 pub(crate) fn settle(file: &File) -> Result<(), Refusal> {
     file.sync_all()?;
     Ok(())
 }
 
-/// Writes these bytes to a file from this place on.
+/// Writes these bytes to a file, from this offset on.
 pub(crate) fn write_at(file: &File, bytes: &[u8], at: u64) -> Result<(), Refusal> {
     file.write_all_at(bytes, at)?;
     Ok(())
 }
 
-/// Reads as many bytes of a file from this place on as there is room for.
+/// Reads bytes of a file from this offset on, as many as there is room for.
 pub(crate) fn read_at(file: &File, room: &mut [u8], at: u64) -> Result<(), Refusal> {
     file.read_exact_at(room, at)?;
     Ok(())
 }
 
-/// Makes a file so many bytes long.
+/// Makes a file this many bytes long.
 pub(crate) fn set_length(file: &File, bytes: u64) -> Result<(), Refusal> {
     file.set_len(bytes)?;
     Ok(())
 }
 
-/// Takes the lock of a file; whether nobody else has it.
+/// Takes the lock of a file. The result is whether nobody else has it.
 pub(crate) fn take_lock(file: &File) -> Result<bool, Refusal> {
     match file.try_lock() {
         Ok(()) => Ok(true),
@@ -48,7 +48,7 @@ pub(crate) fn take_lock(file: &File) -> Result<bool, Refusal> {
     }
 }
 
-/// Whether somebody has the lock of a file. A shared lock tells, which is let go with the file.
+/// Whether somebody has the lock of a file. The answer comes from a shared lock, which is released with the file.
 pub(crate) fn is_locked(file: &File) -> Result<bool, Refusal> {
     match file.try_lock_shared() {
         Ok(()) => Ok(false),
@@ -57,7 +57,7 @@ pub(crate) fn is_locked(file: &File) -> Result<bool, Refusal> {
     }
 }
 
-/// Makes a file's rights these, whatever the process takes from them.
+/// Sets a file's rights to these, whatever the process's mask takes from them.
 pub(crate) fn set_file_rights(file: &File, rights: u32) -> Result<(), Refusal> {
     file.set_permissions(Permissions::from_mode(rights))?;
     Ok(())
@@ -94,12 +94,12 @@ impl FolderLayout {
         Ok(how.open(&self.rt, path.as_str())?)
     }
 
-    /// What is at a script's place, if something is; a link is not followed. An `Err` where that is not known.
+    /// What is at a script's place, if something is; a link is not followed. An `Err` if that is not known.
     pub(crate) fn look(&self, place: Place, name: &str) -> Result<Option<Found>, Refusal> {
         self.look_along(self.path_of(place, name))
     }
 
-    /// Whether it is known that a regular file is there, and no link to one.
+    /// Whether it is known that a regular file is there, not a link to one.
     pub(crate) fn is_file(&self, place: Place, name: &str) -> bool {
         match self.look(place, name) {
             Ok(Some(found)) => found.is_file(),
@@ -112,24 +112,24 @@ impl FolderLayout {
         matches!(self.look(place, name), Ok(None))
     }
 
-    /// Opens a file that is there for reading.
+    /// Opens an existing file for reading.
     pub(crate) fn open(&self, place: Place, name: &str) -> Result<File, Refusal> {
         self.open_along(OpenOptions::new().read(true), self.path_of(place, name))
     }
 
-    /// Opens a file that is there for reading and writing.
+    /// Opens an existing file for reading and writing.
     pub(crate) fn open_to_write(&self, place: Place, name: &str) -> Result<File, Refusal> {
         let mut how = OpenOptions::new();
         how.read(true).write(true);
         self.open_along(&how, self.path_of(place, name))
     }
 
-    /// Takes a file away.
+    /// Removes a file.
     pub(crate) fn remove(&self, place: Place, name: &str) -> Result<(), Refusal> {
         self.remove_along(self.path_of(place, name))
     }
 
-    /// Takes a claim away: a file, or an empty directory that somebody put in its place.
+    /// Removes a claim: a file, or an empty directory that somebody put in its place.
     pub(crate) fn remove_claim(&self, name: &str) -> Result<(), Refusal> {
         match self.remove(Place::Claimed, name) {
             Ok(()) => Ok(()),
@@ -141,12 +141,12 @@ impl FolderLayout {
         }
     }
 
-    /// Moves a script's file to another place, where it replaces what is there.
+    /// Moves a script's file to another place. It replaces what is there.
     pub(crate) fn rename(&self, name: &str, from: Place, to: Place) -> Result<(), Refusal> {
         self.rename_along(self.path_of(from, name), self.path_of(to, name))
     }
 
-    /// Gives a script's file another place too, under a name that it may have there alone, if nothing is there.
+    /// Also links a script's file to another place, under a name that may differ from its present one, if nothing has that name.
     pub(crate) fn link(
         &self,
         from: Place,
@@ -174,19 +174,19 @@ impl FolderLayout {
         }
     }
 
-    /// What is at the path of a part, if something is; a link is not followed. An `Err` where that is not known.
+    /// What is at the path of a part, if something is; a link is not followed. An `Err` if that is not known.
     pub(crate) fn look_at(&self, part: &str) -> Result<Option<Found>, Refusal> {
         self.look_along(self.part(part))
     }
 
-    /// What has the folder's name: a link that is there, and not what it leads to.
+    /// What has the folder's name: if that is a link, the link itself and not what it leads to.
     pub(crate) fn look_at_name(&self) -> Result<Option<Found>, Refusal> {
         let path = self.path.as_str().trim_end_matches('/');
         let path = if path.is_empty() { "/" } else { path };
         self.look_along(String::from_str(self.alloc, path))
     }
 
-    /// Whether something is at the path of a part. An `Err` where that is not known.
+    /// Whether something is at the path of a part. An `Err` if that is not known.
     pub(crate) fn has(&self, part: &str) -> Result<bool, Refusal> {
         match self.look_at(part) {
             Ok(found) => Ok(found.is_some()),
@@ -199,21 +199,21 @@ impl FolderLayout {
         self.open_along(OpenOptions::new().read(true), self.part(part))
     }
 
-    /// Opens `lock`, which is there: no file is made along a link that has its place.
+    /// Opens `lock`, which exists: no file is made through a link in its place.
     pub(crate) fn open_lock(&self) -> Result<File, Refusal> {
         let mut how = OpenOptions::new();
         how.read(true).write(true);
         self.open_along(&how, self.part("lock"))
     }
 
-    /// Makes a file in the folder itself, if nothing has its name, a link neither.
+    /// Makes a file in the folder itself, if nothing has its name, not even a link.
     pub(crate) fn make_part_file(&self, part: &str) -> Result<File, Refusal> {
         let mut how = OpenOptions::new();
         how.write(true).create_new(true).mode(0o600);
         self.open_along(&how, self.part(part))
     }
 
-    /// Settles the name of the folder.
+    /// Syncs the name of the folder.
     pub(crate) fn sync_above(&self) -> Result<(), Refusal> {
         let above = match Path::new(self.path.as_str()).parent() {
             Some(above) if !above.as_str().is_empty() => above.as_str(),
@@ -222,19 +222,19 @@ impl FolderLayout {
         settle(&File::open(&self.rt, above)?)
     }
 
-    /// Takes a part away that is a file.
+    /// Removes a part that is a file.
     pub(crate) fn remove_part(&self, part: &str) -> Result<(), Refusal> {
         self.remove_along(self.part(part))
     }
 
-    /// Takes a part away that is an empty directory.
+    /// Removes a part that is an empty directory.
     pub(crate) fn remove_directory(&self, part: &str) -> Result<(), Refusal> {
         let path = self.part(part)?;
         fs::remove_dir(&self.rt, path.as_str())?;
         Ok(())
     }
 
-    /// Makes a directory that the server alone may use.
+    /// Makes a directory that only the server may use.
     pub(crate) fn make_directory(&self, part: &str) -> Result<(), Refusal> {
         let path = self.part(part)?;
         let mut how = DirBuilder::new();
@@ -243,7 +243,7 @@ impl FolderLayout {
         Ok(())
     }
 
-    /// Makes the folder, and what is above it, with 0755 as far as the process leaves that.
+    /// Makes the folder, and the directories above it, with 0755 if the process's mask allows that.
     pub(crate) fn make_folder(&self) -> Result<(), Refusal> {
         let mut how = DirBuilder::new();
         how.recursive(true).mode(0o755);
@@ -251,7 +251,7 @@ impl FolderLayout {
         Ok(())
     }
 
-    /// Makes the rights of a part these.
+    /// Gives a part these rights.
     pub(crate) fn set_rights(&self, part: &str, rights: u32) -> Result<(), Refusal> {
         let path = self.part(part)?;
         fs::set_permissions(&self.rt, path.as_str(), Permissions::from_mode(rights))?;

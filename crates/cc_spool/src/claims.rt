@@ -1,19 +1,19 @@
 // How a script is claimed, and its answer handed over.
 //
-// The order of the calls tells what a kill or a power cut left. A claim: `cur/ID.answer` is made, which only one can do; the script is moved
-// from `new` to `cur`; `cur` is synced, so that no power cut puts a script back of which something is done. The end: the answer is synced and
-// moved to `done`; then the script is removed from `cur`.
+// What a kill or a power cut left follows from the order of the calls. A claim: `cur/ID.answer` is made, which only one client
+// can do; the script is moved from `new` to `cur`; `cur` is synced, so that no power cut puts back a script that was partly run.
+// The end: the answer is synced and moved to `done`; then the script is removed from `cur`.
 //
-// An answer that can't be handed over is kept by the client that did its script, and tried again.
+// An answer that can't be handed over is kept by the client that ran its script, and tried again.
 //
 //     cur/ID  cur/ID.answer     what was left
 //       no    yes, empty        a claim that was not made
-//       no    yes, not empty    a script that was begun, whose removal came first to the disk
+//       no    yes, not empty    a script that was begun; its removal reached the disk first
 //       yes   yes               a script that was begun
 //       yes   no                an answer that was handed over
 //
-// A name is claimed only where nothing of an earlier script of that name is left in `cur`, and no answer of it in `done`: else its client
-// would find the answer to another script.
+// A name is claimed only if `cur` has nothing of an earlier script with that name, and `done` has no answer to it. Otherwise its
+// client would find the answer to another script.
 
 use crate::answer::AnswerFile;
 use crate::calls::{set_length, settle, write_at};
@@ -23,14 +23,14 @@ use crate::refusal::Refusal;
 use crate::script_file::ScriptFile;
 use std::fs::File;
 
-/// The lines of faults that the spool itself tells.
+/// The lines of faults that the spool itself reports.
 pub(crate) const INTERRUPTED: &[u8] = b"fault 55 Interrupted\n";
 
 pub(crate) const UNWRITTEN: &[u8] = b"fault 54 WriteFault\n";
 
 const UNREAD: &[u8] = b"fault 53 ReadFault\n";
 
-/// A fault that the spool itself tells, in a line alone.
+/// A fault that the spool itself reports, in a single line.
 #[derive(Clone, Copy, Drop)]
 pub(crate) enum Told {
     /// 53: the script can't be read.
@@ -48,29 +48,29 @@ pub(crate) struct Claimed {
     pub(crate) answer: AnswerFile,
 }
 
-/// How an answer ends that is to be handed over.
+/// How an answer that is to be handed over ends.
 #[derive(Clone, Copy, Drop)]
 pub(crate) enum Ending {
     /// As it was written.
     Whole,
-    /// As the line of a fault alone.
+    /// As nothing but the line for a fault.
     Line(Told),
     /// As a start finds it: whether its script was claimed is not known, or an earlier server had begun it.
     Left,
 }
 
-/// What came of the try to claim a script.
+/// The result of trying to claim a script.
 #[derive(Drop)]
 pub(crate) enum ClaimResult {
-    /// It is to be done.
+    /// It is to be run.
     Begun(Claimed),
-    /// It can't be done, and was answered by the line of a fault.
+    /// It can't be run, and was answered with the line for a fault.
     Answered,
     /// Its answer could not be handed over.
     Kept(Ending),
     /// It is gone: another has it, or its client took it back.
     Gone,
-    /// It is no regular file, an earlier script of its name is not at an end, or it can't be answered.
+    /// It is not a regular file, an earlier script with its name has not ended, or it can't be answered.
     Left,
 }
 
@@ -84,7 +84,8 @@ impl Told {
     }
 }
 
-// Whether an earlier script of that name is at an end: nothing of it is left in `cur`, and no answer of the server's in `done`.
+// Whether an earlier script with that name has ended: nothing of it is left in `cur`, and `done` has no answer to it from the
+// server.
 fn is_unused(layout: &FolderLayout, name: &str) -> bool {
     if !layout.is_free(Place::Claimed, name) {
         return false;
@@ -96,16 +97,16 @@ fn is_unused(layout: &FolderLayout, name: &str) -> bool {
     }
 }
 
-// What came of the try to move a script from `new` to `cur`.
+// The result of trying to move a script from `new` to `cur`.
 #[derive(Clone, Copy, Drop)]
 enum Move {
     Made,
     NotMade,
-    // Whether it was made is not known.
+    // It is not known whether the move was made.
     Open,
 }
 
-// Moves a script from `new` to `cur`, where nothing has its name.
+// Moves a script from `new` to `cur`, if an earlier script with its name has ended.
 fn move_claimed(layout: &FolderLayout, name: &str) -> Move {
     if !is_unused(layout, name) {
         return Move::NotMade;
@@ -113,7 +114,7 @@ fn move_claimed(layout: &FolderLayout, name: &str) -> Move {
     if layout.rename(name, Place::Waiting, Place::Claimed).is_ok() {
         return Move::Made;
     }
-    // Over a network a call may be done and its answer be lost.
+    // Over a network a call may succeed although its answer is lost.
     match layout.look(Place::Claimed, name) {
         Ok(Some(_)) => Move::Made,
         Ok(None) => Move::NotMade,
@@ -121,7 +122,7 @@ fn move_claimed(layout: &FolderLayout, name: &str) -> Move {
     }
 }
 
-// Settles a claim, and opens its script, where it is a regular file: nobody else writes to `cur`, so it stays what it is.
+// Syncs a claim, and opens its script if it is a regular file. Nobody else writes to `cur`, so it stays a regular file.
 fn open_claimed(layout: &FolderLayout, name: &str) -> Result<File, Told> {
     if layout.sync_claims().is_err() && layout.sync_claims().is_err() {
         return Err(Told::Interrupted);
@@ -135,7 +136,8 @@ fn open_claimed(layout: &FolderLayout, name: &str) -> Result<File, Told> {
     }
 }
 
-// Writes the line of a fault over what an answer had: its room serves for that, and a kill leaves an answer that begins with that line.
+// Writes the line for a fault over what an answer had. This needs no more room, and a kill leaves an answer that begins with that
+// line.
 fn write_line(file: &File, told: Told) -> Result<(), Refusal> {
     let line = told.line();
     write_at(file, line, 0)?;
@@ -143,7 +145,7 @@ fn write_line(file: &File, told: Told) -> Result<(), Refusal> {
     settle(file)
 }
 
-// Answers a script by the line of a fault alone. The answer's file is open, since no other one may be to be had.
+// Answers a script with only the line for a fault. The answer's file stays open, since it may be impossible to get another one.
 fn refuse(layout: &FolderLayout, name: &str, file: File, told: Told) -> ClaimResult {
     let written = write_line(&file, told);
     drop(file);
@@ -156,7 +158,7 @@ fn refuse(layout: &FolderLayout, name: &str, file: File, told: Told) -> ClaimRes
     }
 }
 
-// Begins a script that was claimed: from here on it is answered whatever comes.
+// Begins a script that was claimed. From here on it is answered whatever happens.
 fn begin(layout: &FolderLayout, name: &str, file: File) -> ClaimResult {
     let script = match open_claimed(layout, name) {
         Ok(script) => script,
@@ -174,7 +176,7 @@ fn begin(layout: &FolderLayout, name: &str, file: File) -> ClaimResult {
     }
 }
 
-/// Whether the script of that name can be claimed; none if it is gone. Nothing is opened for that.
+/// Whether the script with that name can be claimed; none if it is gone. No file is opened to find out.
 pub(crate) fn may_be_claimed(layout: &FolderLayout, name: &str) -> Option<bool> {
     match layout.look(Place::Waiting, name) {
         Ok(Some(found)) => Some(found.is_file() && is_unused(layout, name)),
@@ -183,18 +185,18 @@ pub(crate) fn may_be_claimed(layout: &FolderLayout, name: &str) -> Option<bool> 
     }
 }
 
-/// Claims the script of that name, where that can be done.
+/// Claims the script with that name, if that can be done.
 pub(crate) fn claim(layout: &FolderLayout, name: &str) -> ClaimResult {
     match may_be_claimed(layout, name) {
         Some(true) => {}
         Some(false) => return ClaimResult::Left,
         None => return ClaimResult::Gone,
     }
-    // Only one can make it.
+    // Only one client can make this file.
     let Ok(file) = layout.make(Place::Answer, name) else {
         return ClaimResult::Left;
     };
-    // Until it was made another client may have handed an answer over.
+    // Before it was made, another client may have handed an answer over.
     match move_claimed(layout, name) {
         Move::Made => begin(layout, name, file),
         Move::NotMade => {
@@ -209,25 +211,25 @@ pub(crate) fn claim(layout: &FolderLayout, name: &str) -> ClaimResult {
     }
 }
 
-// Whether an answer that could not be moved is gone from `cur` all the same: over a network a call may be done and its answer be lost, and
-// nobody else takes files out of `cur`.
+// Whether an answer that could not be moved is gone from `cur` all the same. Over a network a call may succeed although its
+// answer is lost, and nobody else takes files out of `cur`.
 fn is_gone(layout: &FolderLayout, name: &str) -> bool {
     layout.is_free(Place::Answer, name) && layout.must_be_held().is_ok()
 }
 
-/// Moves an answer that is whole to `done`, and takes the claim away behind it.
+/// Moves an answer that is whole to `done`, and removes the claim afterwards.
 pub(crate) fn hand_over(layout: &FolderLayout, name: &str) -> Result<(), Refusal> {
     if let Err(refusal) = layout.rename(name, Place::Answer, Place::Done)
         && !is_gone(layout, name)
     {
         return Err(refusal);
     }
-    // A claim without an answer is taken away at the next start.
+    // A claim without an answer is removed at the next start.
     let _ = layout.remove_claim(name);
     Ok(())
 }
 
-/// Makes an answer the line of a fault alone, which takes the place of what it had.
+/// Replaces what an answer had with only the line for a fault.
 pub(crate) fn write_fault(layout: &FolderLayout, name: &str, told: Told) -> Result<(), Refusal> {
     let file = layout.open_to_write(Place::Answer, name)?;
     write_line(&file, told)

@@ -12,15 +12,15 @@ pub(crate) struct Entries {
     entries: ReadDir,
 }
 
-/// What comes next of the entries of a part.
+/// The next item of the entries of a part.
 #[derive(Drop)]
 pub(crate) enum Entry {
     Named(String),
-    /// One whose name is no UTF-8.
+    /// An entry whose name is not UTF-8.
     Odd,
-    /// One that can't be told. There may be more behind it.
+    /// An entry that can't be read. There may be more after it.
     Refused(Refusal),
-    /// Nothing.
+    /// No further entry.
     End,
 }
 

@@ -7,7 +7,7 @@ use thiserror::Error;
 /// Why a folder can't be used as a spool, or a script in it has no answer that is whole.
 #[derive(Clone, Copy, Debug, Drop, Error)]
 pub enum SpoolFault {
-    /// 55: the server ended while it did the script.
+    /// 55: the server ended while it ran the script.
     #[error("Interrupted")]
     Interrupted,
     /// 56: the folder, or a part of it, can't be used.
@@ -16,7 +16,7 @@ pub enum SpoolFault {
     /// 57: another server works in the folder.
     #[error("FolderInUse")]
     FolderInUse,
-    /// 58: no server took the script in time. It was taken back, so nothing of it is done.
+    /// 58: no server took the script in time. It was taken back, so none of it is run.
     #[error("NotTaken")]
     NotTaken,
 }

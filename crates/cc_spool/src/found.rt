@@ -1,4 +1,4 @@
-// What a look at a file found: of all that the system tells, what the spool asks for.
+// What a look at a file found: the facts that the spool asks for, among all that the system reports.
 
 use crate::refusal::Refusal;
 use std::fs::{File, Metadata};
@@ -24,13 +24,13 @@ pub(crate) struct Found {
     pub(crate) user: u32,
     pub(crate) group: u32,
     pub(crate) bytes: u64,
-    /// When it was last written: the seconds since 1970, and the nanoseconds behind these.
+    /// When it was last written: the seconds since 1970, and the nanoseconds after these.
     pub(crate) seconds: i64,
     pub(crate) nanoseconds: i64,
 }
 
 impl Found {
-    /// Of what the system tells, what the spool asks for.
+    /// What the spool asks for, among what the system reports.
     pub(crate) fn of(told: &Metadata) -> Found {
         Found {
             device: told.dev(),
@@ -45,7 +45,7 @@ impl Found {
         }
     }
 
-    /// What an open file is.
+    /// The same for an open file.
     pub(crate) fn of_file(file: &File) -> Result<Found, Refusal> {
         let told = file.metadata()?;
         Ok(Found::of(&told))
@@ -76,7 +76,7 @@ impl Found {
         self.device == other.device && self.number == other.number
     }
 
-    /// Whether a look found this file, or, on a system whose numbers belong to the paths of files, one of the same user, size and time.
+    /// Whether a look found this file, or, on a system that numbers files by their paths, one with the same user, size and time.
     pub(crate) fn is_alike(&self, other: &Found) -> bool {
         let is_of_its_time = self.seconds == other.seconds && self.nanoseconds == other.nanoseconds;
         self.is_same(other)

@@ -1,4 +1,4 @@
-// A source as an answer has it: the line `source LEN`, the LEN bytes and a newline.
+// How an answer has a source: the line `source LEN`, the LEN bytes and a newline.
 
 ghost use Rattle.std.specs.Prelude.{◌≡◌, ◌≤◌, ℕ, Option, length, IfOk, IfSome};
 ghost use Rattle.cc_spool.specs.Answer.{between, framed, read_bytes};
@@ -8,8 +8,8 @@ use crate::lines::Lines;
 use std::alloc::{AllocError, Global};
 use std::fmt::Write;
 
-/// The most bytes of a source.
-const MOST_SOURCE: usize = 65_536;
+/// A source has at most this many bytes.
+const SOURCE_BYTES: usize = 65_536;
 
 fn written(alloc: Global, source: &[u8]) -> Result<Vec<u8>, AllocError>
     ensures { IfOk result (λ text. text.items ≡ framed source.now) }
@@ -23,17 +23,17 @@ fn written(alloc: Global, source: &[u8]) -> Result<Vec<u8>, AllocError>
     Ok(text)
 }
 
-/// A source of 65,536 bytes at most as an answer has it.
+/// A source of at most 65,536 bytes, in the form that it has in an answer.
 pub fn frame(alloc: Global, source: &[u8]) -> Result<Vec<u8>, AllocError>
     requires { length source.now ≤ 65536 }
     ensures framed { IfOk result (λ text. text.items ≡ framed source.now) }
-    // Who reads an answer is behind it where it was before: no line within it counts.
+    // A reader is in the same state after the answer as before it: no line within it counts.
     ensures skipped { IfOk result (λ text. (last : Option ℕ) → read_bytes (between last) text.items ≡ between last) }
 {
     written(alloc, source)
 }
 
-/// The source that an answer is, where it has a source of 65,536 bytes at most and nothing else.
+/// The source in an answer, if the answer has one source of 65,536 bytes at most and nothing else.
 pub fn source_in(alloc: Global, answer: &[u8]) -> Result<Option<&[u8]>, AllocError>
     ensures { IfOk result (λ source. IfSome source (λ bytes. answer.now ≡ framed bytes.now)) }
 {
@@ -43,7 +43,7 @@ pub fn source_in(alloc: Global, answer: &[u8]) -> Result<Option<&[u8]>, AllocErr
     let Some((_, source)) = answer[end + 1..].split_last() else {
         return Ok(None);
     };
-    if source.len() > MOST_SOURCE {
+    if source.len() > SOURCE_BYTES {
         return Ok(None);
     }
     let whole = frame(alloc, source)?;
@@ -52,7 +52,7 @@ pub fn source_in(alloc: Global, answer: &[u8]) -> Result<Option<&[u8]>, AllocErr
     Ok(if is_it { Some(source) } else { None })
 }
 
-/// The lines of an answer that tell faults; behind them that of 55, where the answer ends within a source.
+/// The lines of an answer that report faults; after them the line for 55 if the answer ends within a source.
 pub fn fault_lines(alloc: Global, answer: &[u8]) -> Result<Vec<u8>, AllocError> {
     let mut told = Vec::new(alloc);
     let mut lines = Lines::new();

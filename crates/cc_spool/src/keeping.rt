@@ -1,10 +1,11 @@
 // What a server keeps in `done`, and for how long.
 //
-// Answers that nobody took away go after some days. If all of them together take more than they may, the oldest go before that, but none that is
-// younger than ten minutes, since its client may be about to read it. While these alone take more than they may, no script is claimed: so
-// nobody fills the disk by scripts whose answers are large.
+// Answers that nobody removed are removed after some days. If all of them together take more room than they may, the oldest are
+// removed earlier, but none that is younger than ten minutes, since its client may be about to read it. While these younger ones
+// take more than all may take, no script is claimed. So nobody can fill the disk with scripts that have large answers.
 //
-// How much they take is counted as answers are handed over, and known anew after each look through `done`. A file counts as so many blocks.
+// How much they take is counted as answers are handed over, and determined again by each look through `done`. A file counts as a
+// number of blocks.
 
 use crate::entries::Entry;
 use crate::layout::FolderLayout;
@@ -16,26 +17,27 @@ use std::time::Instant;
 /// How many bytes a block has.
 const BLOCK: u64 = 4096;
 
-/// How old an answer has to be before it goes to make room, in seconds.
+/// How old an answer has to be before it is removed to make room, in seconds.
 const LEAST_AGE: i64 = 600;
 
-/// How often answers are cleared, in seconds, and how often if they take more than they may.
+/// The time between two clearings of answers, in seconds; and the same while those that may not be removed yet take more room than
+/// they may.
 const EACH: u64 = 3600;
 
 const EACH_IF_FULL: u64 = 10;
 
 const DAY: i64 = 86_400;
 
-/// How many answers a server keeps, and for how long it does one script.
+/// How many answers a server keeps, and how long it runs one script.
 #[derive(Clone, Copy, Drop)]
 pub struct Limits {
-    /// For how many days it keeps an answer.
+    /// How many days it keeps an answer.
     pub days: u32,
     /// How many bytes of answers it keeps.
     pub bytes: u64,
     /// Whether nothing is reported on standard error.
     pub is_quiet: bool,
-    /// For how many seconds a script may be at work while others wait.
+    /// How many seconds a script may be at work while others wait.
     pub patience: u32,
     /// How many clients the server has.
     pub clients: usize,
@@ -50,19 +52,19 @@ struct Kept {
     bytes: u64,
 }
 
-/// What is known of the answers that a server keeps.
+/// What is known about the answers that a server keeps.
 #[derive(Drop)]
 pub(crate) struct Keeping {
     limits: Limits,
     // When they were cleared last.
     cleared: Option<Instant>,
-    /// Whether those that may not go yet take more than they may.
+    /// Whether the answers that may not be removed yet take more room than they may.
     pub(crate) is_full: bool,
     // Whether that was reported.
     is_told: bool,
 }
 
-/// How many bytes of blocks a file of so many bytes takes: one block at least.
+/// How many bytes the blocks of a file of this many bytes take: one block at least.
 pub(crate) fn taken_by(bytes: u64) -> u64 {
     bytes.div_ceil(BLOCK).max(1).saturating_mul(BLOCK)
 }
@@ -77,14 +79,16 @@ impl Keeping {
         }
     }
 
-    /// Clears answers if it is time, or if `taken` bytes of them are more than there may be; how many bytes are left then.
+    /// Clears answers if it is time, or if `taken`, the bytes that they take, is more than is allowed. The result is how many
+    /// bytes are left then; none if nothing was looked at.
     pub(crate) fn clear_if_due(
         &mut self,
         layout: &FolderLayout,
         taken: u64,
     ) -> Result<Option<u64>, Refusal> {
         let now = Instant::now(&layout.rt)?;
-        // Once they are counted to take too much they are looked at; then, if none of them may go, now and again.
+        // Once the count says that they take too much, they are looked at immediately. After that, while those that may not be
+        // removed yet take too much, they are looked at only now and again.
         let each = if taken <= self.limits.bytes {
             EACH
         } else if self.is_full {
@@ -92,7 +96,7 @@ impl Keeping {
         } else {
             0
         };
-        // The first time they are counted.
+        // If they were never counted, they are counted now.
         if let Some(cleared) = self.cleared
             && now.duration_since(cleared).as_secs() < each
         {
@@ -112,7 +116,8 @@ impl Keeping {
         is_new && !self.limits.is_quiet
     }
 
-    // Lets the answers go that are too old, and the oldest of the others as long as they take too much; how many bytes are left.
+    // Removes the answers that are too old, and, while the others take too much, the oldest of those that may be removed. The result
+    // is how many bytes are left.
     fn clear(&self, layout: &FolderLayout) -> Result<u64, Refusal> {
         layout.must_be_held()?;
         let now = i64::try_from(since_1970(&layout.rt)?.as_secs()).unwrap_or(0);
@@ -122,7 +127,8 @@ impl Keeping {
         for it in kept.iter() {
             left = left.saturating_add(it.bytes);
         }
-        // If some have to go for their size, an eighth of the room is made, so that not each next answer asks for a look.
+        // If some have to be removed for their size, an eighth of the room is freed, so that not every further answer requires a
+        // look.
         let most = if self.limits.bytes < left {
             self.limits.bytes - self.limits.bytes / 8
         } else {
@@ -140,7 +146,7 @@ impl Keeping {
     }
 }
 
-// An answer of this name, if there is one.
+// The answer with this name, if there is one.
 fn answer_at(layout: &FolderLayout, name: String) -> Option<Kept> {
     match layout.look(Place::Done, name.as_str()) {
         Ok(Some(found)) if found.is_file() => Some(Kept {

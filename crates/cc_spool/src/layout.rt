@@ -7,8 +7,8 @@
 //     lock    held by the server
 //     stop    asks the server to end
 //
-// Clients write to `tmp` and `new`, so what stands there may be anything: it is looked at without following a link before it is opened, or
-// not opened at all.
+// Clients write to `tmp` and `new`, so anything may be there: each entry is looked at without following a link before it is
+// opened, or not opened at all.
 
 use crate::board::Board;
 use crate::calls::{is_locked, settle, take_lock};
@@ -30,12 +30,12 @@ const OPEN_FILE: u32 = 0o644;
 
 const GROUP_FILE: u32 = 0o660;
 
-/// How often a server tries for the lock, and the pause between two tries, in milliseconds: a second together.
+/// How many times a server tries to get the lock, and the pause between two tries, in milliseconds: one second in total.
 const LOCK_TRIES: u64 = 100;
 
 const LOCK_PAUSE: u64 = 10;
 
-/// What a client keeps, which clears nothing.
+/// The limits of a client, which clears nothing.
 const ALL: Limits = Limits {
     days: u32::MAX,
     bytes: u64::MAX,
@@ -52,48 +52,49 @@ pub struct FolderLayout {
     pub(crate) path: String,
     // The rights of files that are made in it.
     pub(crate) file_rights: u32,
-    // The file `lock`, where this server holds it.
+    // The file `lock`, if this server holds it.
     held: Option<Found>,
-    // What all clients of one server know of it.
+    // What all clients of one server know about the folder.
     pub(crate) common: Arc<Common>,
 }
 
-/// What all clients of one server know of its folder. They take the board, and the log, without waiting for it.
+/// What all clients of one server know about its folder. They take the board, and the log, without waiting for either.
 #[derive(Drop)]
 pub(crate) struct Common {
     pub(crate) board: Mutex<Board>,
     pub(crate) keeping: Mutex<Keeping>,
     pub(crate) log: Mutex<Log>,
-    // How many bytes the answers in `done` are counted to take.
+    // How many bytes the answers in `done` take, by the current count.
     taken: AtomicU64,
-    // How many scripts were begun, and how many clients do one.
+    // How many scripts were begun, and how many clients are running one.
     begun: AtomicU64,
     busy: AtomicU64,
-    // How many clients have a number, and that of the one that is to end its script for one that waits: 0 if none is.
+    // How many clients have a number, and the number of the client that is to end its script for one that waits, or 0.
     numbered: AtomicU64,
     leaving: AtomicU64,
-    // How many clients there are, and for how many seconds one may do a script while others wait.
+    // How many clients there are, and how many seconds one may run a script while others wait.
     clients: u64,
     patience: u64,
-    // Whether the answers in `done` that may not go yet take more than they may. As long as they were not counted, that is taken to be so.
+    // Whether the answers in `done` that may not be removed yet take more than they may. Until they are counted, this is true.
     is_full: AtomicBool,
     // Whether the folder could not be used for a while.
     is_lost: AtomicBool,
 }
 
-/// The lock of a folder, held as long as it lives.
+/// The lock of a folder, held while this value exists.
 #[derive(Drop)]
 pub struct Held {
     file: File,
 }
 
 impl FolderLayout {
-    /// The folder at this path, whether or not it is there, as a client has it. If others may not write to its `new`, it is a group's.
+    /// The folder at this path, whether or not it is there, as a client has it. If others may not write to its `new`, the folder is a
+    /// group's.
     pub fn new(rt: HostRuntime, alloc: Global, path: &str) -> Result<FolderLayout, AllocError> {
         FolderLayout::for_server(rt, alloc, path, ALL)
     }
 
-    /// The same, as a server has it that has these limits.
+    /// The folder at this path, as a server with these limits has it.
     pub fn for_server(
         rt: HostRuntime,
         alloc: Global,
@@ -128,7 +129,7 @@ impl FolderLayout {
         Ok(layout)
     }
 
-    /// The same folder, looked at anew.
+    /// The same folder, looked at again.
     pub fn again(&self) -> Result<FolderLayout, AllocError> {
         let mut layout = FolderLayout {
             rt: self.rt,
@@ -142,7 +143,7 @@ impl FolderLayout {
         Ok(layout)
     }
 
-    /// Looks which rights files have that are made in it: where others may not write to `new`, it is a group's.
+    /// Finds out which rights files get in the folder: if others may not write to `new`, the folder is a group's.
     pub(crate) fn look_for_rights(&mut self) {
         self.file_rights = match self.look_at("new") {
             Ok(Some(found)) if found.rights() & 0o002 == 0 => GROUP_FILE,
@@ -150,12 +151,12 @@ impl FolderLayout {
         };
     }
 
-    /// Whether it is a group's.
+    /// Whether the folder is a group's.
     pub(crate) fn is_group(&self) -> bool {
         self.file_rights == GROUP_FILE
     }
 
-    /// Takes the folder for this server, until what is returned is let go. None where another one has had it for a second.
+    /// Takes the folder for this server, until what is returned is released. None if another server held it for a whole second.
     pub(crate) fn lock(&self) -> Result<Option<Held>, Refusal> {
         let file = match self.look_at("lock")? {
             Some(found) if !found.is_file() => return Err(Refusal::NoLock),
@@ -181,7 +182,7 @@ impl FolderLayout {
         Ok(())
     }
 
-    /// An `Err` where the folder is another one than that whose lock is held, or can't be looked at.
+    /// An `Err` if the folder is not the one whose lock is held, or can't be looked at.
     pub(crate) fn must_be_held(&self) -> Result<(), Refusal> {
         let Some(held) = self.held else {
             return Ok(());
@@ -192,7 +193,7 @@ impl FolderLayout {
         }
     }
 
-    /// Whether a server holds the folder. A shared lock tells, which is let go at once.
+    /// Whether a server holds the folder. The answer comes from a shared lock, which is released at once.
     pub(crate) fn is_held(&self) -> Result<bool, Refusal> {
         match self.look_at("lock") {
             Ok(Some(found)) if found.is_file() => {
@@ -208,17 +209,17 @@ impl FolderLayout {
         self.common.is_lost.load(Ordering::SeqCst)
     }
 
-    /// Tells all that have this folder that it could not be used for a while.
+    /// Reports to all that have this folder that it could not be used for a while.
     pub(crate) fn give_up(&self) {
         self.common.is_lost.store(true, Ordering::SeqCst);
     }
 
-    /// How many bytes the answers in `done` are counted to take.
+    /// How many bytes the answers in `done` take, by the current count.
     pub(crate) fn taken(&self) -> u64 {
         self.common.taken.load(Ordering::SeqCst)
     }
 
-    /// Notes that an answer was handed over which takes so many bytes.
+    /// Notes that an answer that takes this many bytes was handed over.
     pub(crate) fn note_taken(&self, bytes: u64) {
         self.common.taken.fetch_add(bytes, Ordering::SeqCst);
     }
@@ -228,12 +229,12 @@ impl FolderLayout {
         self.common.taken.store(bytes, Ordering::SeqCst);
     }
 
-    /// Whether the answers in `done` that may not go yet take more than they may.
+    /// Whether the answers in `done` that may not be removed yet take more than they may.
     pub(crate) fn is_full(&self) -> bool {
         self.common.is_full.load(Ordering::SeqCst)
     }
 
-    /// Notes that.
+    /// Notes whether the answers in `done` that may not be removed yet take more than they may.
     pub(crate) fn set_full(&self, is_full: bool) {
         self.common.is_full.store(is_full, Ordering::SeqCst);
     }
@@ -243,13 +244,13 @@ impl FolderLayout {
         self.common.begun.load(Ordering::SeqCst)
     }
 
-    /// Notes that a client began one.
+    /// Notes that a client began a script.
     pub(crate) fn note_begun(&self) {
         self.common.begun.fetch_add(1, Ordering::SeqCst);
         self.common.busy.fetch_add(1, Ordering::SeqCst);
     }
 
-    /// Notes that a client is at the end of one that it began.
+    /// Notes that a client has ended a script that it began.
     pub(crate) fn note_ended(&self, client: u64) {
         self.common.busy.fetch_sub(1, Ordering::SeqCst);
         if self.is_leaving(client) {
@@ -273,17 +274,18 @@ impl FolderLayout {
         self.common.leaving.load(Ordering::SeqCst) == 0
     }
 
-    /// A client is to end its script for one that waits. It is asked by who has the board, so one at a time.
+    /// Notes that a client is to end its script for one that waits. The caller has the board, so this is done for one client at a
+    /// time.
     pub(crate) fn leave(&self, client: u64) {
         self.common.leaving.store(client, Ordering::SeqCst);
     }
 
-    /// Whether each client does a script.
+    /// Whether every client is running a script.
     pub(crate) fn are_all_busy(&self) -> bool {
         self.common.clients <= self.common.busy.load(Ordering::SeqCst)
     }
 
-    /// For how many seconds a script may be at work while others wait.
+    /// How many seconds a script may be at work while others wait.
     pub(crate) fn patience(&self) -> u64 {
         self.common.patience
     }
@@ -296,7 +298,8 @@ impl FolderLayout {
         }
     }
 
-    /// Takes back that the server is asked to end. An `Err` if `stop` can't be removed, or the folder is no longer the one that is held.
+    /// Withdraws the request for the server to end. An `Err` if `stop` can't be removed, or the folder is no longer the one that
+    /// is held.
     pub fn unstop(&self) -> io::Result<()> {
         Ok(self.take_stop_back()?)
     }
@@ -309,7 +312,8 @@ impl FolderLayout {
         }
     }
 
-    /// Takes back what asked an earlier server to end: a `stop` that was made before a file of this start. One that was made since asks this one.
+    /// Withdraws a request for an earlier server to end: a `stop` that was made before this start made the file `begun`. One that
+    /// was made since is for this server.
     pub(crate) fn take_old_stop_back(&self, begun: &Found) -> Result<(), Refusal> {
         match self.look_at("stop")? {
             Some(found) if found.is_older(begun) => self.take_stop_back(),
@@ -317,13 +321,13 @@ impl FolderLayout {
         }
     }
 
-    /// Settles which names a part has.
+    /// Syncs the names of a part.
     pub(crate) fn sync_part(&self, part: &str) -> Result<(), Refusal> {
         let part = self.open_part(part)?;
         settle(&part)
     }
 
-    /// Settles what was claimed, and which answers are being written.
+    /// Syncs the names of the claimed scripts, and of the answers that are being written.
     pub(crate) fn sync_claims(&self) -> Result<(), Refusal> {
         self.sync_part("cur")
     }
@@ -335,15 +339,15 @@ impl FolderLayout {
         {
             return Err(refusal);
         }
-        // Else a power cut could lose a script that waits. If it is refused, the script waits all the same.
+        // Otherwise a power cut could lose a script that waits. If it is refused, the script waits all the same.
         let _ = self.sync_part("new");
         // If the old name stays, the file has two: the new one counts.
         let _ = self.remove(Place::Written, written);
         Ok(())
     }
 
-    // Whether a script is in `new` though the call was refused that put it there: over a network a call may be done and its answer be lost.
-    // If its name there is gone by then, the file has its second one in `cur`: a server has claimed it.
+    // Whether a script is in `new` though the call that put it there was refused: over a network a call may succeed although its
+    // answer is lost. If its name there is gone by then, the file has its second name in `cur`: a server has claimed it.
     fn is_published(&self, written: &str, name: &str) -> bool {
         match (
             self.look(Place::Written, written),
@@ -367,7 +371,7 @@ impl FolderLayout {
         format!(in self.alloc; "{path}/{part}/{name}{ending}")
     }
 
-    /// The user who has `cur`: the server's. An `Err` where the folder is gone, or can't be looked at.
+    /// The user who owns `cur`: the server's. An `Err` if the folder is gone, or can't be looked at.
     pub(crate) fn server(&self) -> Result<u32, Refusal> {
         match self.look_at("cur")? {
             Some(found) => Ok(found.user),
@@ -375,7 +379,7 @@ impl FolderLayout {
         }
     }
 
-    /// Whether what was found is a regular file of the user who has `cur`: then the server made it.
+    /// Whether what was found is a regular file of the user who owns `cur`: then the server made it.
     pub(crate) fn is_servers(&self, found: &Found) -> Result<bool, Refusal> {
         let server = self.server()?;
         Ok(found.is_file() && found.user == server)
@@ -383,7 +387,7 @@ impl FolderLayout {
 }
 
 impl Held {
-    /// Gives `lock` the rights of the folder's files. Where it is another user's it keeps its own.
+    /// Gives `lock` the rights of the folder's files. If it belongs to another user, it keeps its own.
     pub(crate) fn open_to_clients(&self, rights: u32) {
         let _ = self.file.set_permissions(Permissions::from_mode(rights));
     }

@@ -1,17 +1,19 @@
-//! Spools: where the scripts of one client come from, and where their answers go.
+//! Spools: the source of one client's scripts, and the destination of their answers.
 //!
-//! `spool` is what serving needs of a spool, `memory` a spool in memory, `folder` one in a folder in which clients of other processes leave
-//! scripts and find their answers. Of that, `layout` has the parts, `place` where the files of a script stand in them, `calls` the system's
-//! calls on these, `found` and `entries` what such a call tells, `refusal` why one is refused. `rights` makes the parts, `names` says which
-//! files are taken, `board` which of them are to be tried, `keeping` how many answers stay, `claims` has how a script is claimed and answered, `answer` the file that its answer is written to, `recovery` what a
-//! server that was killed left, `submission` how a client leaves a script and waits for its answer, `lines` which fault that tells,
-//! `framing` how a source stands in it, `fault` why one of these is refused. `log` has who did what: `script_file` has the lines of a script as
-//! it is read, `answer_words` how each was answered.
+//! `spool` is what serving needs from a spool, `memory` a spool in memory, `folder` one in a folder in which clients of other
+//! processes leave scripts and find their answers. `layout` has the parts of the folder, `place` the places of a script's files
+//! in them, `calls` the system's calls on these, `found` and `entries` what such a call reports, `refusal` why one is refused.
+//! `rights` makes the parts, `names` says which files are taken, `board` which of them are to be tried, `keeping` how many
+//! answers stay. `claims` has how a script is claimed and answered, `answer` the file that its answer is written to, `recovery`
+//! what a server that was killed left. `submission` has how a client leaves a script and waits for its answer, `lines` which
+//! fault the answer reports, `framing` how a source is written in it, `fault` why one of these is refused. `log` has who did
+//! what: `script_file` has the lines of a script as it is read, `answer_words` how each was answered.
 //!
-//! It knows nothing of libraries; of `cc_disk` it has the history that contracts alone read. It needs no handle but files and the clock.
-//! Hands out `Spool`, `MemorySpool` and `Answered`; `FolderSpool`, `FolderLayout`, `SpoolFault`, and what a server (`take_folder`,
-//! `wide_parts`, `recover`, `clear_old`, `count_entries`) and a client (`submit`) do in a folder; how a source stands in an answer
-//! (`frame`, `source_in`, `fault_lines`); and which names are plain (`specs/`).
+//! The crate knows nothing about libraries. It uses only the history of `cc_disk`, which only contracts read. The only handles
+//! that it needs are those for files and the clock. It exports `Spool`, `MemorySpool` and `Answered`; `FolderSpool`,
+//! `FolderLayout`, `SpoolFault`, and what a server (`take_folder`, `wide_parts`, `recover`, `clear_old`, `count_entries`) and a
+//! client (`submit`) do in a folder; how a source is written in an answer (`frame`, `source_in`, `fault_lines`); and which names
+//! are plain (`specs/`).
 #![tactic(auto)]
 
 mod answer;

@@ -1,44 +1,44 @@
-// Which fault an answer tells, read as it comes by in pieces.
+// Which fault an answer reports, read in pieces as they come.
 //
-// An answer has lines, and sources between them: behind the line `source LEN` stand LEN bytes, whatever they are, and a newline. None of
-// these counts for what is told; where the answer ends within them it was interrupted.
+// An answer has lines, and sources between them: the line `source LEN` is followed by LEN bytes, whatever they are, and a
+// newline. No fault is read from these bytes. If the answer ends within them, it was interrupted.
 
 ghost use Rattle.std.specs.Prelude.{◌≡◌, ◌↔◌, ◌<◌, ◌≤◌, None, IsTrue};
 ghost use Rattle.cc_spool.specs.Answer.{between, in_fault, in_source, place_behind, read_byte, read_bytes, with_digit};
 ghost use Rattle.cc_spool.specs.internal.Telling.{is_within, last_told};
 ghost use Rattle.cc_spool.specs.declared.lines.Place.TheVariants as place;
 
-/// How the line of a fault begins.
+/// How the line for a fault begins.
 const FAULT: [u8; 6] = *b"fault ";
 
-/// How the line begins behind which a source stands.
+/// The beginning of the line after which a source comes.
 const SOURCE: [u8; 7] = *b"source ";
 
-/// What an answer tells that ends within a source.
+/// The fault that an answer reports if it ends within a source.
 const INTERRUPTED: u32 = 55;
 
-// Where the next byte stands.
+// The place of the next byte.
 #[derive(Clone, Copy, Drop)]
 enum Place {
-    // Behind so many bytes of the beginning of a fault's line: behind none it stands at the beginning of any line.
+    // After this many bytes of the beginning of a fault's line. After 0 bytes, this is the beginning of any line.
     Fault(usize),
-    // In the number of a fault, of which this is read.
+    // In the number of a fault, with this value so far.
     Number(u32),
-    // Behind so many bytes of the beginning of a line behind which a source stands.
+    // After this many bytes of the beginning of a line after which a source comes.
     Source(usize),
-    // In the number of the source's bytes, of which this is read.
+    // In the number of the source's bytes, with this value so far.
     Length(u32),
     // In a line, or a part of one, that does not matter.
     Line,
-    // In a source, of which so many bytes are left.
+    // In a source; this many of its bytes are left.
     Within(u32),
-    // Behind a source: a newline comes.
+    // After a source: a newline comes.
     Behind,
-    // Behind another byte that stood there: nothing that follows is told.
+    // After a source that was followed by a byte other than a newline: nothing that follows is reported.
     Broken,
 }
 
-// A number with one digit more, as far as it goes.
+// A number with one more digit, which stops at the largest value.
 fn with_digit(number: u32, byte: u8) -> u32
     requires { (48 ≤ byte) × (byte ≤ 57) }
     ensures { result ≡ with_digit number byte }
@@ -48,7 +48,7 @@ fn with_digit(number: u32, byte: u8) -> u32
         .saturating_add(u32::from(byte - b'0'))
 }
 
-// Behind so many bytes of the beginning of a fault's line another stands than a newline.
+// The place after a byte other than a newline, when this many bytes of the beginning of a fault's line were read.
 fn in_fault(count: usize, byte: u8) -> Place
     ensures { result ≡ in_fault count byte }
 {
@@ -65,7 +65,7 @@ fn in_fault(count: usize, byte: u8) -> Place
     }
 }
 
-// The same of a line behind which a source stands.
+// The same for a line after which a source comes.
 fn in_source(count: usize, byte: u8) -> Place
     ensures { result ≡ in_source count byte }
 {
@@ -83,7 +83,7 @@ fn in_source(count: usize, byte: u8) -> Place
 }
 
 impl Place {
-    // Where the next byte stands, behind this one.
+    // The place of the next byte, after this one.
     fn behind(self, byte: u8) -> Place
         ensures { result ≡ place_behind self byte }
     {
@@ -108,7 +108,7 @@ impl Place {
     }
 }
 
-/// What was read of an answer.
+/// What was read of an answer so far.
 #[derive(Clone, Copy, Drop)]
 pub(crate) struct Lines {
     place: Place,
@@ -116,7 +116,7 @@ pub(crate) struct Lines {
 }
 
 impl Lines {
-    /// Nothing was read.
+    /// The state before anything is read.
     pub(crate) fn new() -> Lines
         ensures { result ≡ between None }
     {
@@ -159,7 +159,7 @@ impl Lines {
         matches!(self.place, Place::Within(_) | Place::Behind | Place::Broken)
     }
 
-    /// The number of the fault that was told last, if one was: 55 where the answer ends within a source.
+    /// The number of the fault that was reported last, if one was: 55 if the answer ends within a source.
     pub(crate) fn last(&self) -> Option<u32>
         ensures { result ≡ last_told self.now }
     {

@@ -1,8 +1,8 @@
-// Who did what, and when: a file in the folder that the server alone writes.
+// Who did what, and when: a file in the folder that only the server writes.
 //
-// A line has the time in seconds since 1970, the user who has the script's file, a line of the script, and how that was answered. A new file is
-// begun by each server, before its first line, and when one has 16 MiB; of the old ones 16 stay. Nothing waits for it, and nothing depends on
-// it: what can't be written ends the log of this server, and nothing else.
+// A line has the time in seconds since 1970, the user who owns the script's file, a line of the script, and how that was answered.
+// Each server begins a new file before its first line, and again when a file has 16 MiB; 16 old ones are kept. Nothing waits for
+// the log, and nothing depends on it: if it can't be written, only this server's log ends.
 
 use crate::answer_words::Word;
 use crate::calls::{set_file_rights, write_at};
@@ -16,8 +16,8 @@ use std::fs::File;
 /// The name of the file; an old one has a number after it, the newest 1.
 const LOG: &str = "log";
 
-/// How many bytes a file may have, and how many old ones stay.
-const MOST_BYTES: u64 = 16_777_216;
+/// How many bytes a file may have, and how many old ones are kept.
+const LOG_FILE_BYTES: u64 = 16_777_216;
 
 const MOST_OLD: u32 = 16;
 
@@ -30,7 +30,7 @@ pub(crate) struct Log {
     // The file that this server began, and how many bytes it has.
     file: Option<File>,
     bytes: u64,
-    // Whether it could not be written: then nothing more is.
+    // Whether it could not be written: then nothing more is written.
     is_over: bool,
 }
 
@@ -47,7 +47,7 @@ fn shift(layout: &FolderLayout, from: &str, to: &str) -> Result<(), Refusal> {
     }
 }
 
-// Begins a new file; those that are there get the next number, and the oldest gives way.
+// Begins a new file; existing ones get the next number, and the oldest is dropped.
 fn begin_anew(layout: &FolderLayout) -> Result<File, Refusal> {
     for number in (1..MOST_OLD).rev() {
         let (from, to) = (old_name(layout, number)?, old_name(layout, number + 1)?);
@@ -65,7 +65,7 @@ fn begin_anew(layout: &FolderLayout) -> Result<File, Refusal> {
     }
 }
 
-// A line of a script as a log shows it: control bytes, and those that are no letters of ASCII, as `?`.
+// A line of a script as a log shows it: control bytes, and bytes outside ASCII, as `?`.
 fn shown(line: &[u8], text: &mut String) -> Result<(), AllocError> {
     for byte in line {
         let is_plain = b' ' <= *byte && *byte <= b'~';
@@ -90,7 +90,7 @@ fn say(word: Word, text: &mut String) -> Result<(), AllocError> {
     }
 }
 
-// Writes what a log says of a line.
+// Writes what a log says about a line.
 fn write_line(
     seconds: u64,
     user: u32,
@@ -105,7 +105,8 @@ fn write_line(
     text.push('\n')
 }
 
-/// What a log says of the lines of a script, each with how it was answered, as far as both go.
+/// What a log says about the lines of a script, each with how it was answered. If there are more lines than answers, or the
+/// reverse, the rest is left out.
 pub(crate) fn text_of(
     layout: &FolderLayout,
     user: u32,
@@ -133,10 +134,10 @@ impl Log {
         }
     }
 
-    // Writes bytes after those that are there.
+    // Appends bytes to the file.
     fn append(&mut self, layout: &FolderLayout, text: &[u8]) -> Result<(), Refusal> {
         let after = self.bytes.saturating_add(text.len() as u64);
-        if self.file.is_none() || MOST_BYTES < after {
+        if self.file.is_none() || LOG_FILE_BYTES < after {
             self.file = None;
             self.file = Some(begin_anew(layout)?);
             self.bytes = 0;
@@ -148,7 +149,7 @@ impl Log {
         Ok(())
     }
 
-    /// Writes what a log says of a script. If that is refused nothing more is written, and the server says so once.
+    /// Writes what a log says about a script. If that is refused, nothing more is written, and the server reports that once.
     pub(crate) fn write(&mut self, layout: &FolderLayout, text: &[u8]) {
         if self.is_over || text.is_empty() {
             return;

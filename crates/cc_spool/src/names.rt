@@ -1,4 +1,4 @@
-// Which files are scripts, by their names, and names that nobody else has.
+// Which files are scripts, judged by their names; and names that nobody else has.
 
 ghost use Rattle.std.specs.Prelude.{◌≡◌};
 ghost use Rattle.std.specs.List.{list_all};
@@ -10,13 +10,13 @@ use std::fs::File;
 use std::io::Read;
 use std::time::{Duration, SystemTime};
 
-/// The most bytes of a script's name.
+/// The name of a script has at most this many bytes.
 const NAME_BYTES: usize = 64;
 
-/// What an answer's name has behind that of its script as long as it is being written. No name of a script ends so.
+/// The ending that an answer's name has after that of its script while it is being written. No name of a script ends this way.
 pub const ANSWER: &str = ".answer";
 
-/// What the name of a file begins with that a server tries the folder with. No name of a script begins so.
+/// The beginning of the name of a file with which a server tries the folder. No name of a script begins this way.
 pub const TRIED: &str = ".try-";
 
 fn is_letter(byte: u8) -> bool
@@ -37,8 +37,8 @@ fn are_plain_bytes(bytes: &[u8]) -> bool
     bytes.iter().all(|byte| is_plain_byte(*byte))
 }
 
-/// Whether a file of this name may be a script: 1 to 64 letters, digits, `-` and `_`. So no name is a path, is hidden, or is that of an
-/// answer that is being written.
+/// Whether a file with this name may be a script: 1 to 64 letters, digits, `-` and `_`. So no name is a path, is hidden, or is that of
+/// an answer that is being written.
 pub fn is_plain(name: &str) -> bool
     ensures { result ≡ is_plain name.now }
 {
@@ -46,7 +46,7 @@ pub fn is_plain(name: &str) -> bool
     1 <= bytes.len() && bytes.len() <= NAME_BYTES && are_plain_bytes(bytes)
 }
 
-// 64 random bits of the system.
+// 64 random bits from the system.
 fn random_bits(rt: &HostRuntime) -> Result<u64, Refusal> {
     let mut bytes = [0u8; 8];
     let mut file = File::open(rt, "/dev/urandom")?;
@@ -54,7 +54,7 @@ fn random_bits(rt: &HostRuntime) -> Result<u64, Refusal> {
     Ok(u64::from_le_bytes(bytes))
 }
 
-/// The time since the beginning of 1970; none where the clock stands before that.
+/// The time since the beginning of 1970; none if the clock is before that.
 pub(crate) fn since_1970(rt: &HostRuntime) -> Result<Duration, Refusal> {
     let now = SystemTime::now(rt)?;
     Ok(
@@ -63,7 +63,8 @@ pub(crate) fn since_1970(rt: &HostRuntime) -> Result<Duration, Refusal> {
     )
 }
 
-/// A name that nobody else has, of 48 bytes: the time, so that scripts are taken in its order, the number of a process, and 64 random bits.
+/// A name of 48 bytes that nobody else has: the time, so that scripts are taken in the order of time, the number of a process, and 64
+/// random bits.
 pub(crate) fn fresh_name(rt: &HostRuntime, alloc: Global, process: u32) -> Result<String, Refusal> {
     let own = random_bits(rt)?;
     let since = since_1970(rt)?;

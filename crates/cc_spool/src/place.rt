@@ -1,8 +1,8 @@
-// Where the files of a script stand.
+// The places of a script's files.
 
 use crate::names::ANSWER;
 
-/// Where a file of a script stands.
+/// The place of a script's file.
 #[derive(Clone, Copy, Drop)]
 pub(crate) enum Place {
     /// `tmp/ID`: the script, being written.
@@ -15,7 +15,7 @@ pub(crate) enum Place {
     Answer,
     /// `done/ID`: its answer, whole.
     Done,
-    /// In the folder itself, which has no script's file but those that a start is tried with.
+    /// In the folder itself, which has no script's file except those with which a start tries the folder.
     Top,
 }
 
@@ -31,7 +31,7 @@ impl Place {
         }
     }
 
-    /// What its name has behind that of the script.
+    /// What its name has after that of the script.
     pub(crate) fn ending(self) -> &'static str {
         match self {
             Place::Answer => ANSWER,

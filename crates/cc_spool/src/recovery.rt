@@ -15,7 +15,7 @@ use std::io;
 
 const DAY: i64 = 86_400;
 
-// What stands in `cur` under names that are plain: scripts, and those of the answers.
+// The plain names that `cur` has: those of scripts, and those of answers.
 #[derive(Drop)]
 struct Left {
     claims: Vec<String>,
@@ -52,7 +52,7 @@ impl Left {
     }
 }
 
-// How many bytes of a file are whole lines, and whole sources with the lines that say their lengths.
+// How many bytes at the start of a file are whole lines, and whole sources with the lines that say their lengths.
 fn whole_lines(file: &File) -> Result<u64, Refusal> {
     let end = Found::of_file(file)?.bytes;
     let mut piece = [0u8; 4096];
@@ -77,7 +77,7 @@ fn whole_lines(file: &File) -> Result<u64, Refusal> {
     Ok(whole)
 }
 
-// Whether so many bytes of a file end with this line.
+// Whether the first `end` bytes of a file end with this line.
 fn ends_with(file: &File, end: u64, line: &[u8]) -> Result<bool, Refusal> {
     let mut last = [0u8; 21];
     let count = line.len();
@@ -88,11 +88,12 @@ fn ends_with(file: &File, end: u64, line: &[u8]) -> Result<bool, Refusal> {
     Ok(&last[..count] == line)
 }
 
-// Completes the answer to a script that was begun: what was written up to the last whole line, then that it was interrupted, once. One that
-// begins with the line of 54 is that line alone, which a server was killed in writing over it.
+// Completes the answer to a script that was begun: what was written up to the last whole line stays, and a line after it says,
+// once, that the script was interrupted. An answer that begins with the line for 54 is cut to that line: a server was killed
+// while it wrote the line over the answer.
 //
-// An answer that ends within a source is cut back to before the line that says how long it is: else the line of 55 could be taken for the
-// rest of the source, and nobody could tell.
+// An answer that ends within a source is cut back to before the line that says how long the source is. Otherwise the line for 55
+// could be taken for the rest of the source, and nobody could tell the two apart.
 fn complete(file: &File) -> Result<(), Refusal> {
     let end = whole_lines(file)?;
     let unwritten = UNWRITTEN.len() as u64;
@@ -107,7 +108,7 @@ fn complete(file: &File) -> Result<(), Refusal> {
     settle(file)
 }
 
-// Takes a script out of `new` that was claimed: on a system that orders no renames a power cut may leave it under both names.
+// Takes a claimed script out of `new`: on a system that does not order renames, a power cut may leave it under both names.
 fn take_out(layout: &FolderLayout, name: &str) -> Result<(), Refusal> {
     match (
         layout.look(Place::Claimed, name)?,
@@ -118,13 +119,13 @@ fn take_out(layout: &FolderLayout, name: &str) -> Result<(), Refusal> {
     }
 }
 
-// What a start finds of an answer.
+// In what state a start finds an answer.
 #[derive(Clone, Copy, Drop)]
 enum LeftAnswer {
     Gone,
     // Its script was not claimed.
     Unclaimed,
-    // Its script was answered: a client made this file before the claim of another one was taken away.
+    // A script with its name was answered: a client made this file, for a new claim, before the old claim was removed.
     Answered,
     Begun,
 }
@@ -146,7 +147,7 @@ fn left_answer(layout: &FolderLayout, name: &str) -> Result<LeftAnswer, Refusal>
     }
 }
 
-// Whether `done` has an answer of the server's under this name.
+// Whether `done` has an answer from the server under this name.
 fn has_answer(layout: &FolderLayout, name: &str) -> Result<bool, Refusal> {
     match layout.look(Place::Done, name)? {
         Some(found) => layout.is_servers(&found),
@@ -160,8 +161,8 @@ fn complete_left(layout: &FolderLayout, name: &str) -> Result<(), Refusal> {
     complete(&file)
 }
 
-/// Makes an answer that was left one that can be handed over; whether its script was begun. One that was not is taken away. An `Err` leaves
-/// both for the next start.
+/// Completes an answer that was left, so that it can be handed over. The result is whether its script was begun. An answer whose
+/// script was not begun is removed. An `Err` leaves both for the next start.
 pub(crate) fn complete_answer(layout: &FolderLayout, name: &str) -> Result<bool, Refusal> {
     match left_answer(layout, name)? {
         LeftAnswer::Gone => Ok(false),
@@ -181,7 +182,7 @@ pub(crate) fn complete_answer(layout: &FolderLayout, name: &str) -> Result<bool,
     }
 }
 
-// Takes away a script without an answer: that was handed over. An `Err` leaves it for the next start.
+// Removes a script that has no answer here, since its answer was handed over. An `Err` leaves it for the next start.
 fn remove_answered(layout: &FolderLayout, name: &str) -> Result<(), Refusal> {
     if layout.look(Place::Answer, name)?.is_some() || layout.is_free(Place::Claimed, name) {
         return Ok(());
@@ -190,15 +191,15 @@ fn remove_answered(layout: &FolderLayout, name: &str) -> Result<(), Refusal> {
     layout.remove_claim(name)
 }
 
-/// What a start found of an earlier server.
+/// What a start found that an earlier server had left.
 #[derive(Drop)]
 pub struct Recovered {
     /// How many scripts had been begun, and are answered now.
     pub begun: u64,
     /// The names of those that could not be answered yet, for the spool that tries them again (`FolderSpool::keep`).
     pub kept: Vec<String>,
-    /// How many claims of scripts that were answered could not be taken away: directories that somebody put in a script's place, and that are not
-    /// empty.
+    /// How many claims of scripts that were answered could not be removed: directories that somebody put in a script's place, and
+    /// that are not empty.
     pub stuck: u64,
 }
 
@@ -215,7 +216,7 @@ impl Recovered {
         }
     }
 
-    // Answers what a server had begun, and takes away what was answered.
+    // Answers what a server had begun, and removes what was answered.
     fn recover(&mut self, layout: &FolderLayout, left: &Left) -> Result<(), Refusal> {
         for name in left.answers.as_slice() {
             self.answer(layout, name.as_str())?;
@@ -229,11 +230,11 @@ impl Recovered {
     }
 }
 
-/// Answers what a server that was killed had begun, by 55 behind the whole lines of each answer, and takes away what it had left of claims
-/// that were not made or were answered.
+/// Answers what a server that was killed had begun, with 55 after the whole lines of each answer. Then it removes what that
+/// server had left of claims that were not made or were answered.
 ///
-/// What can't be handed over, or not be looked at, stays in `cur`, and keeps no server from its work. An `Err` where `cur` can't be read, or
-/// there is no memory for the names in it.
+/// What can't be handed over, or can't be looked at, stays in `cur`, and does not keep the server from its work. An `Err` if
+/// `cur` can't be read, or there is no memory for the names in it.
 pub fn recover(layout: &FolderLayout) -> io::Result<Recovered> {
     let mut left = Left {
         claims: Vec::new(layout.alloc),
@@ -249,7 +250,8 @@ pub fn recover(layout: &FolderLayout) -> io::Result<Recovered> {
     Ok(recovered)
 }
 
-// Whether a file of this name in a part may be cleared: a script or an answer that clients left, or what a start was tried with.
+// Whether a file with this name in a part may be cleared: a script or an answer that clients left, or a file with which a start
+// tried the folder.
 fn may_be_cleared(place: Place, name: &str) -> bool {
     let is_clients = match place {
         Place::Written | Place::Done => true,
@@ -258,7 +260,8 @@ fn may_be_cleared(place: Place, name: &str) -> bool {
     name.starts_with(TRIED) || is_clients && is_plain(name)
 }
 
-// Removes a file where it may be cleared and was last written before a moment, in seconds since 1970; how many files that were.
+// Removes a file if it may be cleared and was last written before `moment`, in seconds since 1970. The result is how many files
+// were removed.
 fn clear(layout: &FolderLayout, place: Place, name: &str, moment: i64) -> u64 {
     if !may_be_cleared(place, name) {
         return 0;
@@ -271,7 +274,8 @@ fn clear(layout: &FolderLayout, place: Place, name: &str, moment: i64) -> u64 {
     }
 }
 
-// Clears a part of what was last written before a moment; how many files that were. What can't be looked at stays.
+// Removes from a part what was last written before `moment`. The result is how many files were removed. What can't be looked at
+// stays there.
 fn clear_part(layout: &FolderLayout, place: Place, moment: i64) -> Result<u64, Refusal> {
     let mut entries = layout.entries(place.part())?;
     let mut cleared = 0u64;
@@ -287,7 +291,7 @@ fn clear_part(layout: &FolderLayout, place: Place, moment: i64) -> Result<u64, R
     Ok(cleared)
 }
 
-// Clears all parts of what was last written so many days ago.
+// Removes from all parts the files that may be cleared and were last written more than this many days ago.
 fn clear_parts(layout: &FolderLayout, days: u32) -> Result<u64, Refusal> {
     layout.must_be_held()?;
     let now = i64::try_from(since_1970(&layout.rt)?.as_secs()).unwrap_or(0);
@@ -305,9 +309,10 @@ fn clear_parts(layout: &FolderLayout, days: u32) -> Result<u64, Refusal> {
     Ok(cleared)
 }
 
-/// Removes from `done` and `tmp` scripts and answers that were last written more than so many days ago, and from all parts what the start of
-/// a server that was killed left there; how many files that were. What can't be removed stays; so does what is no regular file, or has a name
-/// that no script has. An `Err` where the folder is no longer the one that is held: nothing was removed then.
+/// Removes files that were last written more than this many days ago: scripts and answers from `done` and `tmp`, and from all parts
+/// what the start of a server that was killed left there. The result is how many files were removed. What can't be removed stays
+/// there; so does what is not a regular file, or has a name that no script has. An `Err` if the folder is no longer the one that
+/// is held: nothing was removed then.
 pub fn clear_old(layout: &FolderLayout, days: u32) -> io::Result<u64> {
     Ok(clear_parts(layout, days)?)
 }

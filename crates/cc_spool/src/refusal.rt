@@ -1,12 +1,12 @@
 // Why a call in a folder was refused.
 //
-// An `io::Error` carries its words, and each function that hands one on is proved to move them. In here a refusal is the system's number, or
-// which of the spool's own it is; the words come back where it leaves the crate.
+// An `io::Error` carries its words, and each function that passes one on is proved to move them. In this crate a refusal is an
+// error number of the system, or one of the spool's own reasons. The words come back when it leaves the crate.
 
 use std::alloc::AllocError;
 use std::io;
 
-/// The system's number where nothing is at a path.
+/// The system's error number when nothing is at a path.
 const NOT_FOUND: i32 = 2;
 
 /// Why a call in a folder was refused.
@@ -16,15 +16,15 @@ pub(crate) enum Refusal {
     System(i32),
     /// There is no memory.
     NoMemory,
-    /// It did less than it was asked for.
+    /// The call did less than it was asked to.
     CutShort,
-    /// `lock` is no regular file.
+    /// `lock` is not a regular file.
     NoLock,
     /// `lock` is not the file that the server holds.
     NotHeld,
     /// The folder has no `cur`.
     NoFolder,
-    /// The folder has parts, and no `lock`.
+    /// The folder has parts, but no `lock`.
     NoSpool,
     /// The folder is another user's.
     Foreign,

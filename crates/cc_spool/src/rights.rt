@@ -1,7 +1,8 @@
 // How a folder is made, and who may do what in it.
 //
-// A folder that has the set-group-id bit is a group's: its members are the clients, and nobody else. In any other one everybody may be a
-// client. `new` and `tmp` are sticky then, so that nobody takes another's files away; to `done` the server alone writes.
+// A folder that has the set-group-id bit is a group's: its members are the clients, and nobody else. In any other folder
+// everybody may be a client. `new` and `tmp` are sticky then, so that nobody removes another's files. Only the server writes to
+// `done`.
 
 ghost use Rattle.std.specs.Prelude.{◌≡◌, IfSome};
 
@@ -24,13 +25,14 @@ pub struct WidePart {
     pub most: u32,
 }
 
-// Makes a part with these rights, whatever the process takes from them, where nothing is at its path. It gets its name when it has its rights.
-// An `Err` where what has its name until then is no empty directory: who put it there would share the part.
+// Makes a part with these rights, whatever the process's mask takes from them, if nothing is at its path. It gets its name only
+// when it has its rights. Until then its name is `making`. An `Err` if something that is not an empty directory has that name:
+// whoever put it there would share the part.
 fn make_part(layout: &FolderLayout, part: &str, making: &str, rights: u32) -> Result<(), Refusal> {
     if layout.has(part)? {
         return Ok(());
     }
-    // A server may have left it that was killed here.
+    // A server that was killed here may have left it.
     if layout.has(making)? {
         layout.remove_directory(making)?;
     }
@@ -45,7 +47,7 @@ fn make_parts(layout: &FolderLayout) -> Result<(), Refusal> {
         Some(found) => found.rights() & 0o2000 != 0,
         None => false,
     };
-    // What is made in a group's folder belongs to the group, answers too.
+    // What is made in a group's folder belongs to the group, including answers.
     let (cur, clients, done) = if is_group {
         (0o2700, 0o2770, 0o2770)
     } else {
@@ -57,8 +59,8 @@ fn make_parts(layout: &FolderLayout) -> Result<(), Refusal> {
     make_part(layout, "done", ".making-done", done)
 }
 
-// An `Err` where the folder has a part but no `lock`, which is made first: then it is no spool, and what is in it no server's. The parts are
-// looked at before, since another server may be making them.
+// An `Err` if the folder has a part but no `lock`, which is made first. Then it is no spool, and what is in it belongs to no
+// server. The parts are looked at before `lock`, since another server may be making them.
 fn must_be_spool(layout: &FolderLayout) -> Result<(), Refusal> {
     let mut has_parts = false;
     for part in ["cur", "tmp", "new", "done"] {
@@ -75,14 +77,16 @@ fn make_folder(layout: &FolderLayout) -> Result<(), Refusal> {
     if !layout.has(".")? {
         layout.make_folder()?;
         layout.set_rights(".", 0o755)?;
-        // What can't be opened can't be settled: then only a power cut soon after could lose the folder.
+        // If it can't be opened, it can't be synced: then only a power cut soon after could lose the folder.
         let _ = layout.sync_above();
     }
     Ok(())
 }
 
-// An `Err` if the folder is not of the user whose file this start made in it, or everybody may write to it: who may can put a link in the place
-// of `lock` or of a part at any moment, and a file would be made along it. So may who has a link that is the folder's name; root may in any case.
+// An `Err` if the folder does not belong to the user whose file this start made in it, or everybody may write to it, or a link
+// that is its name belongs to neither that user nor root. Whoever may write to the folder can put a link in the place of `lock` or
+// of a part at any moment, and a file would be made through it. The owner of a link that is the folder's name can do the same.
+// Root can do so in any case.
 fn must_be_own(layout: &FolderLayout, made: &Found) -> Result<(), Refusal> {
     let Some(found) = layout.look_at(".")? else {
         return Err(Refusal::Foreign);
@@ -99,7 +103,7 @@ fn must_be_own(layout: &FolderLayout, made: &Found) -> Result<(), Refusal> {
     }
 }
 
-// Makes a file and takes it away: what was written before it is older than this start.
+// Makes a file and removes it: whatever was written before that file is older than this start.
 fn begin(layout: &FolderLayout, process: u32) -> Result<Found, Refusal> {
     let own = fresh_name(&layout.rt, layout.alloc, process)?;
     let name = format!(in layout.alloc; "{TRIED}{own}")?;
@@ -132,12 +136,13 @@ fn take(layout: &mut FolderLayout, process: u32) -> Result<Option<Held>, Refusal
     }
 }
 
-/// Takes the folder for this server, until what is returned is let go; none where another one has had it for a second.
+/// Takes the folder for this server, until what is returned is released; none if another server held it for a whole second.
 ///
-/// What is not there of it is made: the folder with 0755; `cur` with 0700, `new` and `tmp` with 3777, `done` with 0755; where the folder has
-/// the set-group-id bit `cur` with 2700 and the others with 2770. What is there keeps its rights. Then it tries what a server does in it.
-/// An `Err` where one of these is refused, which leaves what was made; or where a part is there and `lock` is not; or, before `lock` is opened, if
-/// the folder, or a link that is its name, is another user's, or everybody may write to the folder.
+/// What is missing is made: the folder with 0755; `cur` with 0700, `new` and `tmp` with 3777, `done` with 0755. If the folder has
+/// the set-group-id bit, `cur` gets 2700 and the others 2770. What is there keeps its rights. Then all that a server does there is
+/// tried. An `Err` if one of these is refused, which leaves what was made; if a part is there but `lock` is not; or, checked before
+/// `lock` is opened, if the folder belongs to another user, or a link that is its name to another user except root, or everybody
+/// may write to the folder.
 pub fn take_folder(layout: &mut FolderLayout, process: u32) -> io::Result<Option<Held>> {
     Ok(take(layout, process)?)
 }
@@ -149,7 +154,7 @@ fn settle_folder(
     process: u32,
 ) -> Result<(), Refusal> {
     layout.hold(held)?;
-    // What was opened is what is there, and no other file along a link.
+    // The file that was opened must be the one that is there, not another one reached through a link.
     layout.must_be_held()?;
     layout.take_old_stop_back(begun)?;
     make_parts(layout)?;
@@ -160,7 +165,8 @@ fn settle_folder(
     try_folder(layout, process)
 }
 
-// Tries what server and clients do: makes a file in `cur`, links it into `new`, moves it back, moves it to `done`, removes it, and syncs `cur`.
+// Tries what the server and clients do: makes a file in `cur`, links it into `new`, moves it back, moves it to `done`, removes it, and syncs
+// `cur`.
 fn try_folder(layout: &FolderLayout, process: u32) -> Result<(), Refusal> {
     let own = fresh_name(&layout.rt, layout.alloc, process)?;
     // No script has a name with a dot.
@@ -186,7 +192,8 @@ fn try_moves(layout: &FolderLayout, name: &str) -> Result<(), Refusal> {
     layout.rename(name, Place::Claimed, Place::Done)
 }
 
-// Whether a part's owner is what clients expect of the server whose file this is.
+// Whether a part is a directory with the owner and the group that clients expect, if `made` is a file of the server. A sticky part
+// has to be the server's own.
 fn is_right(found: &Found, made: &Found, is_servers: bool, is_shared: bool) -> bool {
     let is_own = found.user == made.user;
     let is_free = found.rights() & 0o1000 == 0 || is_own;
@@ -194,8 +201,8 @@ fn is_right(found: &Found, made: &Found, is_servers: bool, is_shared: bool) -> b
     found.is_directory() && is_free && is_reached && (is_own || !is_servers)
 }
 
-// Whether the server's files are what clients expect: those of the owner of the folder and of `cur`, and of the group where the folder is
-// one's; and whether it may take others' scripts out of a sticky part.
+// Whether the server's files are what clients expect: owned by the owner of the folder and of `cur`, and by the group if the
+// folder belongs to one; and whether the server may take others' scripts out of a sticky part.
 fn try_owners(layout: &FolderLayout, made: &Found) -> Result<(), Refusal> {
     let is_group = layout.is_group();
     for (part, is_servers, is_shared) in [
@@ -213,7 +220,8 @@ fn try_owners(layout: &FolderLayout, made: &Found) -> Result<(), Refusal> {
     Ok(())
 }
 
-// The part, where its rights are wider than these: where they have one of these bits, or lack the sticky bit though everybody may write.
+// The part, if its rights are wider than `most`: if they have a bit that `most` lacks, or, for a sticky part, if everybody may
+// write and the sticky bit is missing.
 fn wide_part(part: &'static str, mode: u32, most: u32) -> Option<WidePart>
     ensures { IfSome result (λ wide. (wide.mode ≡ mode) × (wide.most ≡ most)) }
 {
@@ -229,7 +237,7 @@ fn wide_part(part: &'static str, mode: u32, most: u32) -> Option<WidePart>
     }
 }
 
-// Notes a part where its rights are wider than these.
+// Notes a part if its rights are wider than `most`.
 fn note_wide(
     layout: &FolderLayout,
     part: &'static str,

@@ -1,13 +1,13 @@
-// The file that a script is read from, and the lines that were read of it, without what comes after a line: sources and input words.
+// The file that a script is read from, and the lines that were read, without what comes after a line: sources and input words.
 
 use std::alloc::Global;
 use std::fs::File;
 use std::io::{self, Read};
 
-/// The most bytes that are kept of a line.
+/// At most this many bytes of a line are kept.
 const LINE_BYTES: usize = 128;
 
-/// The most lines that are kept: no server does more of a script.
+/// At most this many lines are kept: no server runs more lines of a script.
 const MOST_LINES: usize = 65_536;
 
 // What the next byte of a script belongs to.
@@ -15,29 +15,29 @@ const MOST_LINES: usize = 65_536;
 enum Part {
     // A line.
     Line,
-    // So many bytes after a line, one at least, and then so many others, if the line has two such parts.
+    // This many bytes after a line, at least one, and then this many others, if the line has two such parts.
     Bytes(u64, Option<u64>),
-    // The end of such a part: a newline, or the rest of a line that is no command.
+    // The end of such a part: a newline, or the first byte of the rest of a line that is not a command.
     End(Option<u64>),
-    // That rest.
+    // The rest of a line that is not a command.
     Rest,
 }
 
-/// A script that is read from a file, and its lines as far as it was read. What is not kept of them, for lack of memory, a log lacks.
+/// A script that is read from a file, and its lines so far. If there is no memory for some of them, a log lacks these.
 #[derive(Drop)]
 pub struct ScriptFile {
     file: File,
     part: Part,
     // The line that is being read.
     line: Vec<u8>,
-    // The lines that ended, each with a newline, and how many.
+    // The lines that ended, each with a newline, and how many there are.
     lines: Vec<u8>,
     count: usize,
     // Whether all lines so far were kept.
     is_whole: bool,
 }
 
-// The number of 1 to 6 digits that these bytes are.
+// The number in these bytes, of 1 to 6 digits.
 fn number_of(digits: Option<&[u8]>) -> Option<u64> {
     let digits = digits?;
     if digits.is_empty() || digits.len() > 6 {
@@ -55,7 +55,8 @@ fn number_of(digits: Option<&[u8]>) -> Option<u64> {
     Some(number)
 }
 
-// How many bytes come after a line, and after these, if some do: after one that is no command it does not matter.
+// How many bytes come after a line, and how many after these, if there are any. If the line is not a command, the result does
+// not matter.
 fn bytes_after(line: &[u8]) -> Option<(u64, Option<u64>)> {
     let mut words = line.split(|byte| *byte == b' ');
     let verb = words.next()?;
@@ -78,7 +79,7 @@ fn bytes_after(line: &[u8]) -> Option<(u64, Option<u64>)> {
     None
 }
 
-// The part of so many bytes, and then so many others.
+// A part of `count` bytes, and then one of the other number, if there is one.
 fn part_of(count: u64, then: Option<u64>) -> Part {
     if count == 0 {
         Part::End(then)
@@ -88,7 +89,7 @@ fn part_of(count: u64, then: Option<u64>) -> Part {
 }
 
 impl ScriptFile {
-    /// Nothing of the script was read yet.
+    /// The state before any of the script is read.
     pub(crate) fn new(alloc: Global, file: File) -> ScriptFile {
         ScriptFile {
             file,

@@ -1,14 +1,15 @@
-// What serving needs of a spool.
+// What serving needs from a spool.
 
 ghost use Rattle.std.specs.Prelude.{◌≡◌, ◌++◌, ◌∷◌, [], true, List, IfSome, IfNone};
 ghost use Rattle.cc_spool.specs.Spool.{Delivered, Taken, delivered_as, taken_as};
 
 use std::io::{Read, Write};
 
-/// Where the scripts of one client come from, and where their answers go.
+/// The source of one client's scripts, and the destination of their answers.
 ///
-/// The client asks whether more is to be taken, takes a script, writes its answer, hands the answer over, and asks again. It has one script in
-/// hand at most: `next` gives none before the answer of the last one was handed over. Each method returns after a moment: `next` waits where no script is there, for 64 ms at most, and the others do not wait.
+/// The client asks whether more is to be taken, takes a script, writes its answer, hands the answer over, and asks again. It has
+/// one script in hand at most: `next` gives none until the answer of the last one was handed over. Each method returns after a
+/// moment: if no script is there, `next` waits for 64 ms at most, and the others do not wait.
 pub trait Spool {
     /// What a script is read from.
     type Script: Read + Drop + Send;
@@ -16,17 +17,18 @@ pub trait Spool {
     /// What its answer is written to.
     type Answer: Write + Drop + Send;
 
-    /// The scripts that were taken so far, in turn: of each its bytes, and what the writer of its answer held then, if these are known.
+    /// The scripts that were taken so far, in turn: for each its bytes, and what the writer of its answer held then, if these are
+    /// known.
     ghost taken: { Self → List Taken };
 
-    /// The answers that were handed over so far, in turn: of each what its writer holds, if that is known, and the number of the fault that
-    /// ended its script, 51 to 54 or 61, if one did.
+    /// The answers that were handed over so far, in turn: for each what its writer holds, if that is known, and the number of the
+    /// fault that ended its script, 51 to 54 or 61, if one did.
     ghost ended: { Self → List Delivered };
 
     /// No script is in hand: the answer of the last one that was taken was handed over.
     ghost idle: { Self → Type 0 };
 
-    /// It has said that no more is to be taken.
+    /// The spool has said that no more is to be taken.
     ghost over: { Self → Type 0 };
 
     /// Whether no more is to be taken.
@@ -36,25 +38,25 @@ pub trait Spool {
         ensures taken { taken self.new ≡ taken self.old }
         ensures ended { ended self.new ≡ ended self.old };
 
-    /// The next script, and what its answer is to be written to; none where none came within 64 ms, or one is in hand.
+    /// The next script, and what its answer is to be written to; none if none came within 64 ms, or one is in hand.
     fn next(&mut self) -> Option<(Self::Script, Self::Answer)>
         ensures taken { IfSome result (λ job. taken self.new ≡ taken self.old ++ taken_as (Self.Script.remaining job.0) (Self.Answer.contents job.1) ∷ []) }
         ensures none { IfNone result (taken self.new ≡ taken self.old) }
-        // One after the other: none is in hand before, and this one is then.
+        // One script after the other: none is in hand before the call, and this one is in hand after it.
         ensures turn { IfSome result (λ _. idle self.old × (¬ idle self.new)) }
         ensures idle { IfNone result (idle self.new → idle self.old) }
         ensures ended { ended self.new ≡ ended self.old };
 
-    /// Whether the script that is being done has been at work for as long as a script may while others wait. It is asked after each line,
-    /// and takes a look at the clock at most.
+    /// Whether the script that is being run has been at work for as long as a script may while others wait. The method is called
+    /// after each line, and at most looks at the clock.
     fn is_long(&self) -> bool;
 
-    /// Whether others wait for the end of the script that is being done: a script waits and all clients are busy, or no more scripts are to
+    /// Whether others wait for the end of the script that is being run: a script waits and all clients are busy, or no more scripts are to
     /// be taken.
     fn is_awaited(&self) -> bool;
 
-    /// Hands the answer of the script over, which a fault of this number ended, 51 to 54 or 61, if one did. At 54 the answer may be cut
-    /// anywhere, and has no line of it.
+    /// Hands over the answer of the script. `fault` is the number of the fault that ended the script, 51 to 54 or 61, if one did.
+    /// With 54 the answer may be cut anywhere, and has no line for that fault.
     fn deliver(&mut self, script: Self::Script, answer: Self::Answer, fault: Option<u32>)
         ensures taken { taken self.new ≡ taken self.old }
         ensures ended { ended self.new ≡ ended self.old ++ delivered_as (Self.Answer.contents answer) fault ∷ [] };

@@ -1,12 +1,13 @@
 // How a client leaves a script in a folder, and waits for its answer.
 //
-// The script is written to `tmp`, synced, and linked into `new`, so that it is there as a whole or not at all, and never in the place of
-// another. As long as it stands in `new` nothing of it is done, and taking it back is one call: either that finds the script, or a claim. A
-// script that was claimed is waited for: its server answers it, or the next one. Where another file has its place in `new`, it was claimed.
+// The script is written to `tmp`, synced, and linked into `new`, so that it is there as a whole or not at all, and never in the
+// place of another. While it is in `new` none of it is run, and taking it back is one call, which finds either the script or a
+// claim. A script that was claimed is waited for: its server answers it, or the next one. If another file has its place in `new`,
+// the script was claimed.
 //
-// The name in `new` is that of the answer, and whoever knows it first may put a script of their own there. Everybody sees the name in `tmp`
-// while the script is written, so the name in `new` is another one: it is drawn when the script is whole, and nobody has seen it before the
-// link that takes it.
+// The name in `new` is that of the answer, and whoever knows it first may put a script of their own there. Everybody sees the
+// name in `tmp` while the script is written, so the name in `new` is another one: it is drawn when the script is whole, and
+// nobody has seen it before the link that takes it.
 
 ghost use Rattle.std.specs.Prelude.{◌≡◌, ◌<◌, ◌≤◌, IfOk, OnOk, length};
 ghost use Rattle.std.specs.Io.KnownBytes.{Appends, Keeps, ReadConsumes};
@@ -26,38 +27,40 @@ use std::io::{self, Read, Write};
 use std::thread;
 use std::time::{Duration, Instant};
 
-/// The most bytes of a script that are sent: one more than a script may have, so that the server sees that it is too long.
-const MOST_BYTES: u64 = 16_777_217;
+/// At most this many bytes of a script are sent: one more than a script may have, so that the server sees that it is too long.
+const SENT_SCRIPT_BYTES: u64 = 16_777_217;
 
 /// The pauses between two looks for an answer, in microseconds: each is longer by a quarter than the one before.
 const LEAST_PAUSE: u64 = 200;
 
 const MOST_PAUSE: u64 = 64_000;
 
-/// For how long no server is there, or the folder can't be used, before a client gives up, in milliseconds.
+/// How long there has to be no server, or the folder has to be unusable, before a client gives up, in milliseconds.
 const NO_SERVER: u64 = 3_000;
 
-/// The most of that for which one look counts, in milliseconds: one call that hangs is no reason to give up.
+/// One look adds at most this much to that time, in milliseconds: one call that hangs is no reason to give up.
 const MOST_STEP: u64 = 100;
 
-/// When a person is told that the script waits, in milliseconds.
+/// After this many milliseconds a note for a person says that the script waits.
 const TELL: u64 = 1_000;
 
 /// What became of a script.
 #[derive(Drop)]
 pub enum Submission {
-    /// It was answered, and the answer was written on: the number of the fault that it tells last, if it tells one.
+    /// It was answered, and the answer was written out. The number is that of the fault that the answer reports last, if it
+    /// reports one.
     Answered(Option<u32>),
-    /// No server took it in time. It was taken back: nothing of it is done.
+    /// No server took it in time. It was taken back: none of it is run.
     NotTaken,
     /// It could not be read to its end, and was not left in the folder.
     Unread,
-    /// It was answered, but the answer could not be written on. It stays in `done` under this name.
+    /// It was answered, but the answer could not be written out. It stays in `done` under this name.
     Unwritten(String),
-    /// It was answered, but the answer could not be read to its end, behind what was written on. It stays in `done` under this name.
+    /// It was answered, but the answer could not be read to its end, after what was written out. It stays in `done` under this
+    /// name.
     CutShort(String, io::Error),
-    /// It was left under this name, and then the folder could not be used for three seconds, or the clock not be read: whether it is or will
-    /// be done is not known.
+    /// It was left under this name, and then the folder could not be used for three seconds, or the clock could not be read, or it
+    /// was taken back and that could not be synced: it is not known whether it is or will be run.
     Lost(String, io::Error),
 }
 
@@ -98,7 +101,7 @@ fn flush<W: Write>(writer: &mut W) -> Result<(), Refusal>
     Ok(())
 }
 
-// Copies the next bytes, and reads their lines; how many: none at the reader's end.
+// Copies the next bytes, and reads their lines. The result is how many bytes: none at the reader's end.
 fn pass_on<S: Read, W: Write>(
     reader: &mut S,
     writer: &mut W,
@@ -120,7 +123,7 @@ fn pass_on<S: Read, W: Write>(
     }
 }
 
-// Copies so many bytes, or all if there are fewer, and reads their lines: those of an answer tell its last fault.
+// Copies this many bytes, or all if there are fewer, and reads their lines: the last fault of an answer is in its lines.
 fn copy<S: Read, W: Write>(reader: &mut S, writer: &mut W, most: u64) -> Result<Lines, Side>
     ensures { Copies most (S.remaining reader.old) (S.remaining reader.new) (W.contents writer.old) (W.contents writer.new) result }
 {
@@ -143,14 +146,14 @@ fn copy<S: Read, W: Write>(reader: &mut S, writer: &mut W, most: u64) -> Result<
     }
 }
 
-// Writes a script to a new file; which file that is, where the script was read to its end.
+// Writes a script to a new file. The result is which file that is, if the script was read to its end.
 fn write_script<S: Read>(
     file: &mut File,
     begin: &[u8],
     script: &mut S,
 ) -> Result<Option<Found>, Refusal> {
     write_some(file, begin)?;
-    match copy(script, file, MOST_BYTES) {
+    match copy(script, file, SENT_SCRIPT_BYTES) {
         Ok(_) => {}
         Err(Side::Reader(_)) => return Ok(None),
         Err(Side::Writer(refusal)) => return Err(refusal),
@@ -166,7 +169,8 @@ struct Published {
     made: Found,
 }
 
-// Gives a script that is whole a name in `new`, which is drawn just now. If that is refused the script has its name in `tmp` alone.
+// Gives a script that is whole a name in `new`, which is drawn only now. If that is refused, the script has only its name in
+// `tmp`.
 fn publish(layout: &FolderLayout, process: u32, written: &str) -> Result<String, Refusal> {
     let name = fresh_name(&layout.rt, layout.alloc, process)?;
     match layout.publish(written, name.as_str()) {
@@ -201,8 +205,8 @@ fn put<S: Read>(
     put
 }
 
-// The answer to a script, if it is there: a regular file of the user who has `cur`. To whose script of that name it is the answer, the name
-// decides, which nobody else has seen before the script had it.
+// The answer to a script, if it is there: a regular file of the user who owns `cur`. Its name says which script it answers: nobody
+// else had seen that name before the script had it.
 fn answer_of(layout: &FolderLayout, name: &str) -> Result<Option<File>, Refusal> {
     let Some(found) = layout.look(Place::Done, name)? else {
         return Ok(None);
@@ -217,7 +221,7 @@ fn answer_of(layout: &FolderLayout, name: &str) -> Result<Option<File>, Refusal>
     }
 }
 
-// Takes a script back. Without the sync a power cut could undo that, and the script would be done after all.
+// Takes a script back. Without the sync a power cut could undo that, and the script would be run after all.
 fn take_back(layout: &FolderLayout, name: &str) -> Result<Seen, Refusal> {
     match layout.remove(Place::Waiting, name) {
         Ok(()) => Ok(match layout.sync_part("new") {
@@ -229,7 +233,7 @@ fn take_back(layout: &FolderLayout, name: &str) -> Result<Seen, Refusal> {
     }
 }
 
-// How many scripts wait before the one of this name.
+// How many scripts wait before the one with this name.
 fn count_before(layout: &FolderLayout, name: &str) -> Result<u64, Refusal> {
     let mut count = 0u64;
     let mut entries = layout.entries(Place::Waiting.part())?;
@@ -250,7 +254,7 @@ fn count_before(layout: &FolderLayout, name: &str) -> Result<u64, Refusal> {
 #[derive(Drop)]
 enum Seen {
     Answer(File),
-    // It stands in `new`.
+    // It is in `new`.
     Waiting,
     // It was taken back.
     Back,
@@ -266,14 +270,14 @@ struct Waiting {
     name: String,
     // Which file it is.
     made: Found,
-    // For how long it may wait, in milliseconds; where that is not given, as long as a server is there.
+    // How long it may wait, in milliseconds; if that is not given, as long as a server is there.
     most: Option<u64>,
-    // For how long it was not claimed, and no server was there where that counts, in milliseconds.
+    // How long it has not been claimed, in milliseconds; if `most` is not given, only the time since a server was last there counts.
     unclaimed: u64,
 }
 
 impl Waiting {
-    // Whether the script stands in `new`.
+    // Whether the script is in `new`.
     fn is_there(&self, layout: &FolderLayout) -> Result<bool, Refusal> {
         match layout.look(Place::Waiting, self.name.as_str())? {
             Some(found) => Ok(found.is_alike(&self.made)),
@@ -281,7 +285,7 @@ impl Waiting {
         }
     }
 
-    // Looks at the script, so many milliseconds behind the last look, and takes it back where it waited for too long.
+    // Looks at the script, this many milliseconds after the last look, and takes it back if it waited for too long.
     fn look(&mut self, layout: &FolderLayout, since: u64) -> Result<Seen, Refusal> {
         if let Some(file) = answer_of(layout, self.name.as_str())? {
             return Ok(Seen::Answer(file));
@@ -290,23 +294,23 @@ impl Waiting {
             self.count(layout, since);
             return self.look_waiting(layout);
         }
-        // Where the whole folder is gone there is no answer to wait for.
+        // If the whole folder is gone, there is no answer to wait for.
         let _server = layout.server()?;
         self.unclaimed = 0;
         Ok(Seen::Claimed)
     }
 
-    // Counts the milliseconds behind the last look, where they count.
+    // Adds the milliseconds since the last look to the time without a claim, if they count.
     fn count(&mut self, layout: &FolderLayout, since: u64) {
         self.unclaimed = match self.most {
             Some(_) => self.unclaimed.saturating_add(since),
-            // A lock that can't be tried tells nothing.
+            // If the lock can't be tried, a server counts as being there.
             None if layout.is_held().unwrap_or(true) => 0,
             None => self.unclaimed.saturating_add(since.min(MOST_STEP)),
         };
     }
 
-    // Takes the script back where it waited for too long.
+    // Takes the script back if it waited for too long.
     fn look_waiting(&self, layout: &FolderLayout) -> Result<Seen, Refusal> {
         if self.unclaimed < self.most.unwrap_or(NO_SERVER) {
             Ok(Seen::Waiting)
@@ -315,7 +319,7 @@ impl Waiting {
         }
     }
 
-    // Tells a person that the script waits. What can't be told is no reason to end.
+    // Notes for a person that the script waits. If that can't be written, it is no reason to end.
     fn tell<E: Write>(&self, layout: &FolderLayout, is_claimed: bool, explanations: &mut E) {
         let _ = if is_claimed {
             writeln!(explanations, "cclib: the script is being done")
@@ -332,7 +336,7 @@ impl Waiting {
         let _ = explanations.flush();
     }
 
-    // Writes an answer on, and takes it away.
+    // Writes an answer out, and removes it.
     fn take_answer<W: Write>(
         self,
         layout: &FolderLayout,
@@ -345,7 +349,7 @@ impl Waiting {
         drop(file);
         match copied {
             Ok(lines) => {
-                // Where `done` is the server's alone the answer goes after some days.
+                // If only the server may write to `done`, this fails, and the server removes the answer after some days.
                 let _ = layout.remove(Place::Done, self.name.as_str());
                 Submission::Answered(lines.last())
             }
@@ -357,14 +361,14 @@ impl Waiting {
     }
 }
 
-// How long a script has waited, and what a person was told of it.
+// How long a script has waited, and whether a person has learned of that.
 #[derive(Clone, Copy, Drop)]
 struct Patience {
-    // Up to when the milliseconds are counted.
+    // The moment up to which the milliseconds are counted.
     moment: Instant,
-    // In milliseconds.
+    // How long the script has waited, in milliseconds.
     waited: u64,
-    // For how long looks have failed in a row, in milliseconds.
+    // How long looks have failed in a row, in milliseconds.
     failing: u64,
     is_told: bool,
     // The next pause, in microseconds.
@@ -382,7 +386,7 @@ impl Patience {
         })
     }
 
-    // The whole milliseconds since the last look; what is left of one counts at the next.
+    // The whole milliseconds since the last look; a remaining part of one counts at the next look.
     fn pass(&mut self, rt: &HostRuntime) -> Result<u64, Refusal> {
         let now = Instant::now(rt)?;
         let since = now.duration_since(self.moment);
@@ -396,7 +400,7 @@ impl Patience {
         Ok(passed)
     }
 
-    // A look succeeded; whether a person is to be told now.
+    // Notes that a look succeeded. The result is whether a person is to learn now that the script waits.
     fn look(&mut self) -> bool {
         self.failing = 0;
         let is_due = !self.is_told && TELL <= self.waited;
@@ -404,7 +408,7 @@ impl Patience {
         is_due
     }
 
-    // A look failed; whether that has gone on for too long.
+    // Notes that a look failed. The result is whether looks have failed for too long.
     fn fail(&mut self, since: u64) -> bool {
         self.failing = self.failing.saturating_add(since.min(MOST_STEP));
         self.failing >= NO_SERVER
@@ -417,7 +421,8 @@ impl Patience {
     }
 }
 
-// Waits until a script has its answer, or was taken back: then there is none. What fails is tried again for three seconds.
+// Waits until a script has its answer, or was taken back. In the second case the result has no answer. What fails is tried again
+// for three seconds.
 fn wait_for_answer<E: Write>(
     layout: &FolderLayout,
     waiting: &mut Waiting,
@@ -447,7 +452,7 @@ fn wait_for_answer<E: Write>(
     Ok(None)
 }
 
-// Waits for the answer of a script that was left in a folder, and writes it on.
+// Waits for the answer of a script that was left in a folder, and writes it out.
 fn wait<W: Write, E: Write>(
     layout: &FolderLayout,
     mut waiting: Waiting,
@@ -463,7 +468,7 @@ fn wait<W: Write, E: Write>(
     }
 }
 
-// Leaves a script in the folder; none where it can't be read to its end.
+// Leaves a script in the folder; none if it can't be read to its end.
 fn leave<S: Read>(
     layout: &FolderLayout,
     process: u32,
@@ -486,17 +491,18 @@ fn leave<S: Read>(
     }))
 }
 
-/// Leaves a script in the folder, the bytes given and then those of the reader, waits for its answer, copies that to the writer and takes
-/// it away where it may.
+/// Leaves a script in the folder: the bytes given, and then those of the reader. Then the function waits for its answer, copies
+/// that to the writer, and removes it if that is allowed.
 ///
-/// `process` is the number of this process. Where `seconds` is given, a script that was not claimed for so long is taken back; else one for
-/// which no server held the folder for three seconds together. A script that was claimed is never taken back: its server answers it, or the
-/// next one does, by 55. Who waits is told so on `explanations` after a second.
+/// `process` is the number of this process. If `seconds` is given, a script is taken back that was not claimed for that long; if
+/// not, one is taken back when no server has held the folder for three seconds in a row. A script that was claimed is never taken
+/// back: its server answers it, or the next one does, with 55. A note that the script waits goes to `explanations` after a
+/// second.
 ///
-/// An `Err` where the script could not be left in the folder (56): nothing of it is done.
+/// An `Err` if the script could not be left in the folder (56): none of it is run.
 ///
-/// If it was answered the writer got the answer's bytes and no other, and a fault is told exactly if a line that is not within a source begins
-/// with `fault `, or the answer ends within one.
+/// If it was answered, the writer got exactly the answer's bytes, and a fault is reported exactly if a line that is not within a
+/// source begins with `fault `, or the answer ends within one.
 pub fn submit<S: Read, W: Write, E: Write>(
     layout: &FolderLayout,
     process: u32,

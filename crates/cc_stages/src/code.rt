@@ -19,7 +19,7 @@ const START_WORDS: usize = 3;
 #[derive(Drop)]
 pub(crate) struct Listing {
     lines: Vec<u8>,
-    // At k the place at which the lines of function k begin; then the end of the last one's.
+    // Entry k is the place at which the lines of function k begin; one more entry is the end of the last function's lines.
     places: Vec<usize>,
 }
 
@@ -44,7 +44,7 @@ fn sizes(alloc: Global, pieces: &[Piece]) -> Result<Vec<usize>, AllocError> {
     Ok(sizes)
 }
 
-// The end of so many lines that begin at an offset of a text; the text's end if it has fewer.
+// The end of this many lines that begin at an offset of a text; the text's end if it has fewer.
 fn behind_lines(text: &[u8], from: usize, count: usize) -> usize {
     let mut left = count;
     for at in from..text.len() {
@@ -70,7 +70,7 @@ fn places(alloc: Global, lines: &[u8], sizes: &[usize]) -> Result<Vec<usize>, Al
     Ok(places)
 }
 
-// The lines of the image of a unit, whose pieces these are.
+// The lines of the image of a unit with these pieces.
 fn lines(
     alloc: Global,
     mode: Mode,
@@ -89,8 +89,8 @@ fn lines(
     }
 }
 
-/// The listing of the image of a unit, whose pieces these are. Refusals: 25 if there would be more than 131,072 words of code, 40 if memory
-/// ran out.
+/// The listing of the image of a unit with these pieces. Refusals: 25 if there would be more than 131,072 words of code, 40 if
+/// memory ran out.
 pub(crate) fn list_unit(
     alloc: Global,
     mode: Mode,

@@ -1,4 +1,4 @@
-// One function through the passes, while its stages are written as they are seen. What refuses it is its last stage.
+// Takes one function through the passes, and writes its stages as they are seen. A stage that refuses the function is its last.
 
 ghost use Rattle.std.specs.Prelude.{◌<◌, length};
 ghost use Rattle.std.specs.Arc.{arc_value};
@@ -14,7 +14,7 @@ use std::alloc::{AllocError, Global};
 use std::io::{self, Write};
 use std::sync::Arc;
 
-// The word for who made LTL.
+// The word for the allocator that made the LTL.
 fn word(allocator: Allocator) -> &'static str {
     match allocator {
         Allocator::Colour => "coloured",
@@ -23,7 +23,7 @@ fn word(allocator: Allocator) -> &'static str {
     }
 }
 
-// Writes down what it sees of the function of this name.
+// Writes down what it sees of the function with this name.
 #[derive(Drop)]
 struct Writing<'a> {
     name: &'a [u8],
@@ -44,7 +44,7 @@ impl<'a> Writing<'a> {
         }
     }
 
-    // Writes what was seen: a stage, or of LTL first whose it is, and then how it was judged.
+    // Writes what was seen: a stage; for LTL, first which allocator made it, and then how it was judged.
     fn write(&mut self, seen: Seen<'_>) -> io::Result<()> {
         match seen {
             Seen::Cminor(pair) => Stage::Cminor.write(self.name, pair, &mut self.text),
@@ -78,7 +78,7 @@ impl<'a> Writing<'a> {
         stage.write(self.name, &why, &mut self.text)
     }
 
-    // Writes the end: the line that begins its code, or why it has none if no stage says so yet.
+    // Writes the end: the line that begins the function's code, or why it has none, if no stage has said so yet.
     fn write_end(&mut self, piece: &Result<Piece, PieceFault>) -> io::Result<()> {
         match piece {
             Ok(_) => Stage::Code.begin(self.name, &mut self.text),

@@ -23,7 +23,7 @@ pub(crate) enum Stage {
 }
 
 impl Stage {
-    // Its name in the line at its beginning.
+    // The stage's name, for the line at its beginning.
     fn title(self) -> &'static str {
         match self {
             Stage::Cminor => "Cminor",
@@ -37,7 +37,8 @@ impl Stage {
         }
     }
 
-    /// Writes the line at its beginning, for the function with this name. No other line of a stage begins with `==`.
+    /// Writes the line at the beginning of the stage, for the function with this name. No other line of a stage begins with
+    /// `==`.
     pub(crate) fn begin<W: Write>(self, name: &[u8], writer: &mut W) -> io::Result<()> {
         let title = self.title();
         writer.write_all(b"== ")?;
@@ -45,7 +46,7 @@ impl Stage {
         writeln!(writer, ": {title}")
     }
 
-    /// Writes it with its text.
+    /// Writes the stage, with its text.
     pub(crate) fn write<T: Display, W: Write>(
         self,
         name: &[u8],

@@ -1,15 +1,15 @@
 // The steps of a function as text: its number and its slots, and a line for each step, in the form of Linear.
 //
-// A step that is an item of Linear has that one's text. An operator has the word in place of its second register, `x7 = add x8, 12`; the
-// element of a number has the number in place of a register, `x7 = object0[3]` and `object0[3] = x8`, or a register and a word whose sum is
-// the number, `x7 = object0[x8 + 3]`; a branch has the comparison, and leads to the label if it holds, `branch lt_s x7, x8 -> 3`, or if it
-// does not, `branch not lt_s x7, 12 -> 3`. Words are unsigned.
+// A step that is an item of Linear has that item's text. An operator has the word in place of its second register, `x7 = add
+// x8, 12`; the element of a number has the number in place of a register, `x7 = object0[3]` and `object0[3] = x8`, or a
+// register and a word whose sum is the number, `x7 = object0[x8 + 3]`; a branch has the comparison, and leads to the label if
+// it holds, `branch lt_s x7, x8 -> 3`, or if it does not, `branch not lt_s x7, 12 -> 3`. Words are unsigned.
 
 use cc_linear_language::LinearItem;
 use cc_select::{SelectedPair, Step, WordOperator};
 use std::io::{self, Write};
 
-// The name of an operator on a register and a word, as that of the same operator on two registers.
+// The name of an operator on a register and a word, which is that of the same operator on two registers.
 fn immediate_name(operator: WordOperator) -> &'static str {
     match operator {
         WordOperator::Add => "add",
@@ -33,7 +33,8 @@ fn immediate_name(operator: WordOperator) -> &'static str {
     }
 }
 
-// The word before the comparison of a branch: it goes to its label if the comparison holds, or if it does not.
+// The word before the comparison of a branch. It says whether the branch goes to its label if the comparison holds, or if it
+// does not.
 fn sense(nonzero: bool) -> &'static str {
     if nonzero { "" } else { "not " }
 }
@@ -137,7 +138,7 @@ fn write_branch<W: Write>(step: &Step, writer: &mut W) -> io::Result<()> {
     }
 }
 
-// The space before a step on its line: all but labels are set in.
+// The space before a step on its line: all steps but labels are indented.
 fn indent(step: &Step) -> &'static str {
     match step {
         Step::One(LinearItem::Label { .. }) => "",

@@ -1,7 +1,7 @@
 // The stages of a unit's functions, one function after the other.
 //
-// Each function goes through the passes once. The pieces are linked, and what is shown of a function is what was seen of the run that made
-// its piece; so texts wait until there is an image.
+// Each function goes through the passes once. The pieces are linked, and what is shown of a function was seen in the run that
+// made its piece; so the texts are held back until there is an image.
 
 ghost use Rattle.std.specs.Prelude.{◌≡◌, ◌<◌, ℕ, Some, IsNone, IfSome, IfErr, IsErrOf, MatchOption, length, slice_get};
 ghost use Rattle.std.specs.Arc.{arc_value};
@@ -20,7 +20,7 @@ use std::alloc::{AllocError, Global};
 use std::io::{self, Write};
 use std::sync::Arc;
 
-// The number of the function of that name.
+// The number of the function with that name.
 fn number_of(unit: &TypedUnit, name: &[u8]) -> Option<usize>
     ensures found { IfSome result (λ f. slice_get (defined_names (source unit.now)) f ≡ Some name.now) }
     ensures none { IsNone result → ¬ IsDefined (source unit.now) name.now }
@@ -47,7 +47,7 @@ struct Run {
     shown: Vec<Shown>,
     // Their pieces, in their order, up to the first function that is refused.
     pieces: Vec<Piece>,
-    // Why there is no image: the first refusal, or that of the last function shown.
+    // Why there is no image: the first refusal, or the refusal of the last function shown.
     refused: Option<PieceFault>,
 }
 
@@ -60,7 +60,7 @@ impl Run {
         }
     }
 
-    // Shows a function that is wanted: whether the run goes on.
+    // Shows a function that is wanted. The result is whether the run goes on.
     fn show(&mut self, function: usize, passed: Passed) -> Result<bool, AllocError> {
         let Passed { text, piece } = passed;
         let has_piece = piece.is_ok();
@@ -182,14 +182,15 @@ fn write_stages<W: Write>(
     }
 }
 
-/// Writes the stages of each function of a unit in a mode, in the order of definitions, or those of the function of that name alone. Each stage begins
-/// with a line `== f: RTL`; then come its lines, as docs/INTERMEDIATE.md has them. The last stage has the function's lines of the image's
-/// listing. All stages of a function are of one run of the passes. The writer is not flushed.
+/// Writes the stages of each function of a unit in a mode, in the order of definitions, or only those of the function with that
+/// name. Each stage begins with a line `== f: RTL`; then come its lines, as docs/INTERMEDIATE.md describes them. The last stage
+/// has the function's lines from the image's listing. All stages of a function come from one run of the passes. The writer is
+/// not flushed.
 ///
-/// Refusals: 59 if no function has that name, with nothing written. If a function has no piece (22, 24), its stages end with the one
-/// that says so, and nothing comes after it. If the unit has no image, for a function that is not wanted (22, 24) or for its
-/// size (25), the wanted functions have all other stages. 40 if memory ran out, 54 if the text could not be written: it may end
-/// anywhere then.
+/// Refusals: 59 if no function has that name, with nothing written. If a function has no piece (22, 24), its stages end with
+/// the one that says so, and nothing comes after it. If the unit has no image, for a function that is not wanted (22, 24) or
+/// for its size (25), the wanted functions have all other stages. 40 if memory ran out, 54 if the text could not be written: it
+/// may end anywhere then.
 pub fn stages<W: Write>(
     alloc: Global,
     mode: Mode,

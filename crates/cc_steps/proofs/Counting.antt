@@ -1,9 +1,10 @@
--- A run within two numbers of steps: if it is going within the larger one it is going within the smaller one, and what has ended stays so.
+-- A run within two numbers of steps: if it is going within the larger one, it is going within the smaller one, and once it has
+-- ended it stays ended.
 use Rattle.std.proofs.Common.{◌≡◌, ◌⊎◌, inl, inr, ℕ, ◌+◌, ◌-◌, ◌<◌, ◌≤◌, List, refl, sym, ap, subst, ◌∙◌, arith}
 use Rattle.cc_ast.specs.Tree.{Source}
-use Rattle.cc_c_laws.specs.Function.{GoesOn, RunsGoOn}
-use Rattle.cc_c_laws.specs.Meaning.{source_behavior}
-use Rattle.cc_c_laws.specs.Outcome as outcome
+use Rattle.cc_c_semantics.specs.Function.{GoesOn, RunsGoOn}
+use Rattle.cc_c_semantics.specs.Meaning.{source_behavior}
+use Rattle.cc_c_semantics.specs.Outcome as outcome
 use Rattle.cc_steps.specs.Count.{IsStepCount}
 
 going_or_not : (s : outcome.Stop ℕ) → (s ≡ outcome.Going) ⊎ (s ≡ outcome.Going → ⊥)
@@ -21,24 +22,24 @@ settled (outcome.Ended w) a z over on = on
 settled (outcome.Wrong cause) a z over on = on
 
 module _ (law : RunsGoOn) (source : Source) (input : List ℕ) where
-  -- what has ended within fewer steps is the same within more
+  -- a run that has ended within n steps is the same within more
   pub stays : (n m : ℕ) → n ≤ m → ((source_behavior source input n).stop ≡ outcome.Going → ⊥) → source_behavior source input m ≡ source_behavior source input n
   stays n m le over =
       let parts : n + (m - n) ≡ m = omega arith in
       let on = settled (source_behavior source input n).stop (source_behavior source input n) (source_behavior source input (n + (m - n))) over (law source input n (m - n)) in
       ap (λ (k : ℕ). source_behavior source input k) (sym parts) ∙ on
 
-  -- what is going within more steps is going within fewer
+  -- a run that is going within m steps is going within fewer
   pub goes_before : (n m : ℕ) → n ≤ m → (source_behavior source input m).stop ≡ outcome.Going → (source_behavior source input n).stop ≡ outcome.Going
   goes_before n m le going =
       either ((source_behavior source input n).stop ≡ outcome.Going) (going_or_not (source_behavior source input n).stop)
       (λ other. sym (ap (λ (o : outcome.Outcome ℕ). o.stop) (stays n m le other)) ∙ going)
 
-  -- a run that is going, with one more step
+  -- a run that is going within `tried` steps is going within any number below one more
   pub goes_until : (tried : ℕ) → (source_behavior source input tried).stop ≡ outcome.Going → (n : ℕ) → n < tried + 1 → (source_behavior source input n).stop ≡ outcome.Going
   goes_until tried here n less = goes_before n tried (omega arith) here
 
-  -- a count within which the run has ended, and with less than which it is going
+  -- a count within which the run has ended, while it is still going within fewer
   pub counted : (bound count : ℕ) → count ≤ bound → ((n : ℕ) → n < count → (source_behavior source input n).stop ≡ outcome.Going) → ((source_behavior source input count).stop ≡ outcome.Going → ⊥)
       → IsStepCount source bound input count
   counted bound count within before over =
@@ -50,6 +51,6 @@ module _ (law : RunsGoOn) (source : Source) (input : List ℕ) where
         bound_is = λ going. absurd (over (sym (ap (λ (o : outcome.Outcome ℕ). o.stop) same) ∙ going));
       }
 
-  -- for a run that is still going within the bound, the count is the bound
+  -- if a run is still going within the bound, the count is the bound
   pub unended : (bound : ℕ) → (source_behavior source input bound).stop ≡ outcome.Going → IsStepCount source bound input bound
   unended bound going = record { within = omega arith; comes = refl; going = λ n less. goes_before n bound (omega arith) going; bound_is = λ _. refl }

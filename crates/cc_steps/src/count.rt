@@ -1,13 +1,14 @@
 // Counts the steps of a run.
 //
-// The interpreter says how a run comes out within a bound, but not after how many steps. A run that ends within some bound ends within each
-// larger one, so the least is found by bisection. No bound is tried that is more than one above twice the number of steps in which the run
-// is known to go on. So a search costs some runs of twice the length, and never one of the whole bound.
+// The interpreter says how a run ends within a bound, but not after how many steps. A run that ends within some bound ends
+// within each larger one, so the least bound is found by bisection. If the run is known to be still going within some number of
+// steps, no bound above twice that number plus two is tried. So a search costs some runs of twice the length, and never a run
+// of the whole bound.
 
 ghost use Rattle.std.specs.Prelude.{◌≡◌, ◌≢◌, ◌↔◌, IsTrue, IfOk};
-ghost use Rattle.cc_c_laws.specs.Outcome as outcome;
+ghost use Rattle.cc_c_semantics.specs.Outcome as outcome;
 ghost use Rattle.cc_ast.specs.Source.{source};
-ghost use Rattle.cc_c_laws.specs.Meaning.{source_behavior};
+ghost use Rattle.cc_c_semantics.specs.Meaning.{source_behavior};
 ghost use Rattle.cc_meaning.specs.Erase.{outcome_tree};
 ghost use Rattle.cc_steps.specs.Count.{IsStepCount};
 
@@ -15,7 +16,7 @@ use cc_meaning::{MeaningFault, Outcome, Stop, interpret, runs_go_on};
 use cc_types::TypedUnit;
 use std::alloc::Global;
 
-/// How a run comes out, and after how many steps.
+/// How a run ends, and after how many steps.
 #[derive(Drop)]
 pub struct CountedOutcome {
     pub outcome: Outcome,
@@ -29,7 +30,7 @@ fn is_going(done: &Outcome) -> bool
     matches!(done.stop, Stop::Going)
 }
 
-// Whether a program is still going after these steps.
+// Whether a program is still going after this many steps.
 fn goes(alloc: Global, unit: &TypedUnit, input: &[u32], steps: u64) -> Result<bool, MeaningFault>
     ensures { IfOk result (λ goes. IsTrue goes ↔ ((source_behavior (source unit.now) input.now steps).stop ≡ outcome.Going)) }
 {
@@ -43,7 +44,7 @@ fn goes(alloc: Global, unit: &TypedUnit, input: &[u32], steps: u64) -> Result<bo
     }
 }
 
-// The least number of steps within which a program has ended, if it ends within this bound.
+// The least number of steps within which a program has ended. It has to end within the bound.
 fn least(alloc: Global, unit: &TypedUnit, input: &[u32], bound: u64) -> Result<u64, MeaningFault>
     requires { (source_behavior (source unit.now) input.now bound).stop ≢ outcome.Going }
     ensures { IfOk result (IsStepCount (source unit.now) bound input.now) }
@@ -62,8 +63,8 @@ fn least(alloc: Global, unit: &TypedUnit, input: &[u32], bound: u64) -> Result<u
     Ok(high)
 }
 
-/// What a program does on the words of an input within `steps` steps, and the least number of steps with that result; the bound, if the run
-/// is still going then. 40 if memory runs out.
+/// What a program does on the words of an input within `steps` steps, and the least number of steps with that result; the
+/// bound, if the run is still going then. Fails with 40 if memory runs out.
 pub fn interpret_counted(
     alloc: Global,
     unit: &TypedUnit,

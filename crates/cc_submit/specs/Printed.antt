@@ -28,7 +28,7 @@ has_bytes (Some (Update name expected length)) = false
 has_bytes (Some (Call name steps length)) = true
 has_bytes (Some Space) = false
 
--- one that has two sources after it
+-- a line that has two sources after it
 abbrev pub has_two_sources : Option ScriptRequest → Bool
 has_two_sources (Some (Update name expected length)) = true
 has_two_sources asked = false
@@ -55,45 +55,49 @@ abbrev pub asks_source : Option ScriptRequest → Bool
 asks_source (Some (Source name)) = true
 asks_source asked = false
 
--- A line is a command if it is whole, or is one once the number of bytes comes after it that follow it, or two such numbers. None is a script from standard input.
+-- A line is a command if it is whole, or becomes one once the number of bytes that follow it, or two such numbers, are written
+-- after it. None is a script from standard input.
 abbrev pub is_command : (line : Option (List ℕ)) → Bool
 is_command None = true
 is_command (Some line) =
     is_whole (asked_of Served line) || (has_bytes (asked_of Served (line ++ codes " 0")) || has_two_sources (asked_of Served (line ++ codes " 0 0")))
 
--- the line, if one is sent and not a script from standard input, asks for a source
+-- a line is sent, not a script from standard input, and it asks for a source
 abbrev pub fetches : (line : Option (List ℕ)) → Bool
 fetches None = false
 fetches (Some line) = asks_source (asked_of Served line)
 
 -- ---- what is printed
 
--- these bytes, if they could be written
+-- these bytes are printed, if they could be written
 abbrev pub Says : (is_written : Bool) (old new : Option (List ℕ)) (text : List ℕ) → Type 0
 Says is_written old new text = IsTrue is_written → Appends old new text
 
--- these, and then the line of the fault by which the system refused a call: 40 OutOfMemory, or 56 FolderFault
+-- these bytes are printed, and then the line for the fault with which the system refused a call: 40 OutOfMemory, or 56
+-- FolderFault
 abbrev pub SaysRefused : (is_written : Bool) (old new : Option (List ℕ)) (begun : List ℕ) → Type 0
 SaysRefused is_written old new begun = IsTrue is_written → Appends old new (begun ++ codes "fault 40 OutOfMemory\n") ⊎ Appends old new (begun ++ codes "fault 56 FolderFault\n")
 
--- the source, with 0; or it could not be written, and 1
+-- the source is printed, and the status is 0; or it could not be written, and the status is 1
 abbrev pub PrintsSource : (source : List ℕ) (old new : Option (List ℕ)) (is_written : Bool) (status : ℕ) → Type 0
 PrintsSource source old new true status = (status ≡ 0) × Appends old new source
 PrintsSource source old new false status = status ≡ 1
 
--- An answer that tells no fault is printed whole, and the status is 0. If it is to be a source, that alone is; or nothing, and the status is 1.
+-- An answer that reports no fault is printed whole, and the status is 0. If it is to be a source, only the source is printed; or
+-- nothing is, and the status is 1.
 abbrev pub PrintsWell : (fetches : Bool) (answer : List ℕ) (old new : Option (List ℕ)) (is_written : Bool) (status : ℕ) → Type 0
 PrintsWell false answer old new is_written status = (status ≡ 0) × Appends old new answer
 PrintsWell true answer old new is_written status =
     ((source : List ℕ) × (answer ≡ framed source) × PrintsSource source old new is_written status) ⊎ ((status ≡ 1) × (new ≡ old))
 
--- One that tells a fault is printed whole, and the status is 1. If it was to be a source, it is not said what is printed.
+-- An answer that reports a fault is printed whole, and the status is 1. If it was to be a source, nothing is stated about what is
+-- printed.
 abbrev pub PrintsFault : (fetches : Bool) (answer : List ℕ) (old new : Option (List ℕ)) (status : ℕ) → Type 0
 PrintsFault false answer old new status = (status ≡ 1) × Appends old new answer
 PrintsFault true answer old new status = status ≡ 1
 
--- By what came of the script. If no answer came, the line of a fault is printed, after what was printed of an answer that could not be read to its
--- end, and a newline.
+-- What is printed depends on what became of the script. If no answer came, the line for a fault is printed; if an answer could
+-- not be read to its end, that line comes after what was printed of the answer, and a newline.
 abbrev pub Prints : (fetches : Bool) → Option Submission → (old new : Option (List ℕ)) (is_written : Bool) (status : ℕ) → Type 0
 Prints fetches (Some (Answered None)) old new is_written status = (answer : List ℕ) × (¬ TellsFault answer) × PrintsWell fetches answer old new is_written status
 Prints fetches (Some (Answered (Some number))) old new is_written status = (answer : List ℕ) × TellsFault answer × PrintsFault fetches answer old new status
@@ -104,7 +108,7 @@ Prints fetches (Some (CutShort name why)) old new is_written status = (status �
 Prints fetches (Some (Lost name why)) old new is_written status = (status ≡ 1) × SaysRefused is_written old new []
 Prints fetches None old new is_written status = (status ≡ 1) × SaysRefused is_written old new []
 
--- of a line that is no command, 2, and nothing is sent or printed
+-- for a line that is not a command the status is 2, and nothing is sent or printed
 abbrev pub EndsAs : (is_command fetches : Bool) (old new : Option (List ℕ)) → Ended → Type 0
 EndsAs false fetches old new ended = (ended.status ≡ 2) × (ended.came ≡ None) × (new ≡ old)
 EndsAs true fetches old new ended = Prints fetches ended.came old new ended.is_written ended.status

@@ -1,7 +1,7 @@
--- What only private contracts speak of.
--- What is sent of a line.
+-- What only private contracts use.
+-- What is sent for a line.
 pub mod Sent
--- What is done of a submission.
+-- What is done with a submission.
 pub mod Finished
--- What is sent of a line with bytes after it.
+-- What is sent for a line with bytes after it.
 pub mod Script

@@ -1,4 +1,4 @@
-// What is sent of a line with bytes after it.
+// What is sent for a line with bytes after it.
 
 ghost use Rattle.std.specs.Prelude.{◌≡◌, ◌++◌, IfOk, OnOk, codes, length};
 ghost use Rattle.std.specs.Fmt.{decimal};
@@ -42,7 +42,7 @@ fn write_counts<W: Write>(
     writeln!(writer, " {expected} {source}")
 }
 
-// Writes a line, how many bytes follow it, and these.
+// Writes a line, how many bytes follow it, and these bytes.
 #[tactic(auto, using(cc_answers::proofs::Writing::written_on))]
 fn write_with<W: Write>(line: &str, bytes: &[u8], writer: &mut W) -> io::Result<()>
     ensures { OnOk result (Appends (W.contents writer.old) (W.contents writer.new) (text_with line.now bytes.now)) }
@@ -51,7 +51,7 @@ fn write_with<W: Write>(line: &str, bytes: &[u8], writer: &mut W) -> io::Result<
     write_piece(bytes, writer)
 }
 
-// Writes a line of an update with the two sources.
+// Writes the line of an update, and its two sources.
 #[tactic(auto, using(cc_answers::proofs::Writing::written_third))]
 fn write_update<W: Write>(
     line: &str,
@@ -66,7 +66,7 @@ fn write_update<W: Write>(
     write_piece(source, writer)
 }
 
-/// What is sent of a line with a source or input words after it.
+/// What is sent for a line with a source or input words after it.
 pub(crate) fn script_with(alloc: Global, line: &str, bytes: &[u8]) -> io::Result<Vec<u8>>
     ensures { IfOk result (λ script. script.items ≡ text_with line.now bytes.now) }
 {
@@ -75,7 +75,7 @@ pub(crate) fn script_with(alloc: Global, line: &str, bytes: &[u8]) -> io::Result
     Ok(script)
 }
 
-/// What is sent of a line `update NAME` with the source that is expected and the new one.
+/// What is sent for a line `update NAME` with the source that is expected and the new one.
 pub(crate) fn update_script(
     alloc: Global,
     line: &str,

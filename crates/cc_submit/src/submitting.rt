@@ -14,15 +14,12 @@ use cc_answers::{Persons, Telling, explain_bad_line, explain_no_command, explain
 use cc_command_line::Submitter;
 use cc_screen::Screen;
 use cc_script::{Dialect, ScriptCommand, ScriptFault, command_of};
-use cc_sources::{Origin, join};
+use cc_sources::{MOST_READ, Origin, join};
 use cc_spool::{FolderLayout, SpoolFault, Submission, fault_lines, source_in, submit};
 use cc_task::Task;
 use cc_tasks::{perform_and_explain, perform_texts_and_explain, read_or_refuse};
 use std::alloc::{AllocError, Global};
 use std::io::{self, BufWriter, Input, Read, Write};
-
-/// The most bytes of a source that are sent: one more than a source may have, so that the server sees that it is too long.
-const MOST_SOURCE: usize = 65_537;
 
 const NO_MEMORY: &[u8] = b"fault 40 OutOfMemory\n";
 
@@ -35,12 +32,12 @@ const NOT_TAKEN: &[u8] = b"fault 58 NotTaken\n";
 /// How a command ended.
 #[derive(Drop)]
 pub struct Ended {
-    /// What became of the script; none if it could not be left in the folder, or the line is no command. What was to be a source and was
-    /// cut short is lost.
+    /// What became of the script; none if it could not be left in the folder, or the line is no command. An answer that was to be
+    /// a source and was cut short is lost.
     pub came: Option<Submission>,
     /// The status.
     pub status: u8,
-    /// Whether all that was to be printed is.
+    /// Whether all that was to be printed was printed.
     pub is_written: bool,
 }
 
@@ -51,13 +48,13 @@ enum Sent<'a> {
     Script,
     // A line that takes no source.
     Line(Vec<u8>),
-    // The same, whose answer is a source.
+    // A line that takes no source, and whose answer is a source.
     Fetch(Vec<u8>),
-    // A line with its source, how many bytes come before that, and where the source comes from.
+    // A script of a line and its source, the offset of the source in the script, and where the source comes from.
     Source(Vec<u8>, usize, Origin<'a>),
 }
 
-// Whether a line takes a source, or input words: it is one with a length behind it.
+// Whether a line takes a source, or input words: it does if it becomes a command with a length after it.
 fn takes_bytes(alloc: Global, line: &str) -> Result<bool, AllocError>
     ensures { IfOk result (λ takes. takes ≡ has_bytes (asked_of Served (line.now ++ 32 ∷ 48 ∷ []))) }
 {
@@ -72,7 +69,7 @@ fn takes_bytes(alloc: Global, line: &str) -> Result<bool, AllocError>
     })
 }
 
-// Whether a line takes two sources: it is one with two lengths behind it.
+// Whether a line takes two sources: it does if it becomes a command with two lengths after it.
 fn takes_two_sources(alloc: Global, line: &str) -> Result<bool, AllocError>
     ensures { IfOk result (λ takes. takes ≡ has_two_sources (asked_of Served (line.now ++ 32 ∷ 48 ∷ 32 ∷ 48 ∷ []))) }
 {
@@ -99,8 +96,8 @@ fn is_whole(line: &str) -> bool
     }
 }
 
-// Whether it is a script from standard input, or a line that is a command, with how many bytes of sources or of input words come after it if it
-// takes them.
+// Whether this is a command: a script from standard input, or a line that is a command once the lengths of the sources or input
+// words that it takes are written after it.
 fn is_command(alloc: Global, line: Option<&str>) -> Result<bool, AllocError>
     ensures { IfOk result (λ is. is ≡ is_command (option_map (λ l. l.now) line.entry)) }
 {
@@ -132,7 +129,8 @@ fn source<R: Input>(rt: &R, alloc: Global, origin: Origin<'_>) -> io::Result<Vec
         Origin::Input => source_on_input(rt, alloc),
         Origin::Texts(texts) => {
             let mut source = join(alloc, texts)?;
-            source.truncate(MOST_SOURCE);
+            // One byte more than a source may have, so that the server sees that it is too long.
+            source.truncate(MOST_READ);
             Ok(source)
         }
     }
@@ -149,28 +147,28 @@ fn source_on_input<R: Input>(rt: &R, alloc: Global) -> io::Result<Vec<u8>> {
             Err(error) if error.kind() == io::ErrorKind::Interrupted => continue,
             Err(error) => return Err(error),
         };
-        if count == 0 || source.len() >= MOST_SOURCE {
+        if count == 0 || source.len() >= MOST_READ {
             break;
         }
         source.extend_from_slice(&piece[..count])?;
     }
-    source.truncate(MOST_SOURCE);
+    source.truncate(MOST_READ);
     Ok(source)
 }
 
-// At which byte the source begins in a script that ends with it and a newline.
+// The offset of the source in a script that ends with it and a newline.
 fn begin_of(script: &[u8], source: &[u8]) -> usize {
     script.len().saturating_sub(source.len()).saturating_sub(1)
 }
 
-// What is sent of a line with input words.
+// What is sent for a line with input words.
 fn words_after<'a>(alloc: Global, line: &str, words: &str) -> io::Result<Sent<'a>>
     ensures { IfOk result (λ sent. is_fetch sent ≡ false) }
 {
     Ok(Sent::Line(script_with(alloc, line, words.as_bytes())?))
 }
 
-// What is sent of a line with a source.
+// What is sent for a line with a source.
 fn source_after<'a, R: Input>(
     rt: &R,
     alloc: Global,
@@ -185,7 +183,7 @@ fn source_after<'a, R: Input>(
     Ok(Sent::Source(script, begin, origin))
 }
 
-// What is sent of a line with the source that is expected, if there is one, and a source.
+// What is sent for a line with the source that is expected and the new one; an error if no expected source is given.
 fn sources_after<'a, R: Input>(
     rt: &R,
     alloc: Global,
@@ -204,7 +202,7 @@ fn sources_after<'a, R: Input>(
     Ok(Sent::Source(script, begin, origin))
 }
 
-// What is sent of a line that is a command, with its input words or the source that it expects, if it has one of these.
+// What is sent for a line that is a command, with its input words or the source that it expects, if it has one of these.
 fn sent_of<'a, R: Input>(
     rt: &R,
     alloc: Global,
@@ -272,7 +270,7 @@ fn send<R: Input, W: Write, E: Write>(
     }
 }
 
-// Writes bytes; whether they are written.
+// Writes bytes. The result is whether they were written.
 fn put<W: Write>(text: &[u8], writer: &mut W) -> bool
     ensures { Says result (W.contents writer.old) (W.contents writer.new) text.now }
 {
@@ -285,7 +283,8 @@ fn put<W: Write>(text: &[u8], writer: &mut W) -> bool
     }
 }
 
-// Tells a person what is known of the fault that an answer told last: of one that stands in the source what `check` tells of that.
+// Explains to a person the fault that an answer reported last; if the fault has a place in the source, this is what `check`
+// reports about the source.
 fn explain<R: AllocGlobal, E: Write>(
     rt: &R,
     number: u32,
@@ -295,7 +294,7 @@ fn explain<R: AllocGlobal, E: Write>(
     if number == SpoolFault::Interrupted.number() {
         writeln!(
             told,
-            "cclib: the server ended while it did the script; `list` tells whether the last command was done"
+            "cclib: the server ended while it did the script; `list` shows whether the last command was done"
         )?;
         return told.flush();
     }
@@ -313,7 +312,7 @@ fn explain<R: AllocGlobal, E: Write>(
     Ok(())
 }
 
-// Tells a person what `check` tells of a source.
+// Explains to a person what `check` reports about a source.
 fn explain_source<R: AllocGlobal, E: Write>(
     rt: &R,
     source: &[u8],
@@ -328,7 +327,8 @@ fn explain_source<R: AllocGlobal, E: Write>(
     };
 }
 
-// Writes the line of the fault by which the system refused a call in the folder: 40 if it was memory, else 56; whether it is written.
+// Writes the line for the fault with which the system refused a call in the folder: 40 if memory ran out, else 56. The result is
+// whether the line was written.
 fn refused<W: Write>(why: &io::Error, writer: &mut W) -> bool
     ensures { SaysRefused result (W.contents writer.old) (W.contents writer.new) [] }
 {
@@ -339,7 +339,8 @@ fn refused<W: Write>(why: &io::Error, writer: &mut W) -> bool
     }
 }
 
-// Writes the line of a fault of the folder, and tells why and where the script is; whether the line is written.
+// Writes the line for a fault of the folder, and explains why it came and where the script is. The result is whether the line was
+// written.
 fn folder_fault<W: Write, E: Write>(
     folder: &str,
     why: &io::Error,
@@ -362,7 +363,7 @@ fn folder_fault<W: Write, E: Write>(
     is_written
 }
 
-// The same of an answer that was not read to its end: what was written of it may have ended within a line.
+// Does the same for an answer that was not read to its end: what was written of it may have ended within a line.
 fn cut_short<W: Write, E: Write>(
     folder: &str,
     why: &io::Error,
@@ -377,7 +378,7 @@ fn cut_short<W: Write, E: Write>(
     is_ended && is_written
 }
 
-// Tells that a script was taken back; whether the line is written.
+// Reports that a script was taken back. The result is whether the line was written.
 fn not_taken<W: Write, E: Write>(asked: &Submitter, writer: &mut W, told: &mut E) -> bool
     ensures { Says result (W.contents writer.old) (W.contents writer.new) (codes "fault 58 NotTaken\n") }
 {
@@ -397,7 +398,7 @@ fn not_taken<W: Write, E: Write>(asked: &Submitter, writer: &mut W, told: &mut E
     is_written
 }
 
-// The status of what became of a script.
+// The status for what became of a script.
 fn status_of(done: &io::Result<Submission>) -> u8
     ensures { result ≡ status_of (came_of done.now) }
 {
@@ -407,7 +408,7 @@ fn status_of(done: &io::Result<Submission>) -> u8
     }
 }
 
-// Writes what became of a script after its answer, and tells a person of it; whether that is written.
+// Writes what became of a script after its answer, and explains it to a person. The result is whether that was written.
 fn tell<R: AllocGlobal, W: Write, E: Write>(
     rt: &R,
     done: &io::Result<Submission>,
@@ -447,7 +448,7 @@ fn tell<R: AllocGlobal, W: Write, E: Write>(
     }
 }
 
-// Writes what became of a script after its answer, and tells a person of it.
+// Writes what became of a script after its answer, and explains it to a person.
 fn finish<R: AllocGlobal, W: Write, E: Write>(
     rt: &R,
     done: io::Result<Submission>,
@@ -471,7 +472,7 @@ fn finish<R: AllocGlobal, W: Write, E: Write>(
     }
 }
 
-// Writes the source that an answer is which tells no fault, and nothing else.
+// Writes the source in an answer that reports no fault, and nothing else.
 fn finish_well<W: Write, E: Write>(
     alloc: Global,
     answer: &[u8],
@@ -505,7 +506,7 @@ fn finish_well<W: Write, E: Write>(
     }
 }
 
-// Writes the lines of the faults that an answer tells which was to be a source, and tells a person of the last.
+// Writes the lines that report faults in an answer that was to be a source, and explains the last one to a person.
 fn finish_fault<R: AllocGlobal, W: Write, E: Write>(
     rt: &R,
     number: u32,
@@ -533,7 +534,7 @@ fn finish_fault<R: AllocGlobal, W: Write, E: Write>(
     }
 }
 
-// Writes what became of a line whose answer is a source, and tells a person of it.
+// Writes what became of a line whose answer is a source, and explains it to a person.
 fn finish_source<R: AllocGlobal, W: Write, E: Write>(
     rt: &R,
     done: io::Result<Submission>,
@@ -559,7 +560,7 @@ fn finish_source<R: AllocGlobal, W: Write, E: Write>(
     }
 }
 
-// Leaves what is sent in the folder, writes the answer, and tells a person of it.
+// Leaves what is sent in the folder, writes the answer, and explains it to a person.
 fn leave<R: AllocGlobal + Input, W: Write, E: Write + Drop>(
     rt: &R,
     layout: &FolderLayout,
@@ -573,7 +574,7 @@ fn leave<R: AllocGlobal + Input, W: Write, E: Write + Drop>(
     ensures { Prints (is_fetch sent.now) result.came (W.contents writer.old) (W.contents writer.new) result.is_written result.status }
 {
     let wait = asked.wait;
-    // That it waits is told to who sees it, and not to a file.
+    // The note that the command is waiting goes to a person who sees it, and not to a file.
     told.is_quiet = persons.is_quiet || !persons.is_watched;
     if let Sent::Fetch(_) = sent {
         let mut answer = Vec::new(rt.alloc());
@@ -586,10 +587,11 @@ fn leave<R: AllocGlobal + Input, W: Write, E: Write + Drop>(
     finish(rt, done, asked, sent, writer, told)
 }
 
-/// Leaves a script for the server of a folder, and writes its answer; what came of it and the status: 0 if an answer came, was written whole
-/// and tells no fault, 2 if the line is no command, else 1. Of an answer that is a source its bytes alone are written. The source of a line that
-/// takes one is in the texts, or on standard input; that which an update expects is given, else it is one that can't be read. The error is lack
-/// of memory before it began.
+/// Leaves a script for the server of a folder, and writes its answer. The result is what became of the script, and the status: 0 if an
+/// answer came, was written whole and reports no fault, 2 if the line is no command, else 1. If the answer is a source, only its bytes
+/// are written. The source of a line that takes one is in the texts, or on standard input; the source that an update expects is
+/// `expected`, and if none is given, the answer is as for a source that can't be read. The only error is that memory ran out before
+/// the command began.
 pub fn submit_to<R: AllocGlobal + Input, W: Write, E: Write + Drop>(
     rt: &R,
     layout: &FolderLayout,
@@ -637,9 +639,9 @@ pub fn submit_to<R: AllocGlobal + Input, W: Write, E: Write + Drop>(
     Ok(ended)
 }
 
-/// Leaves a script for the server of a folder, and prints its answer, as `submit_to` does; the status. The source of a line that takes one is in
-/// the files of these names, or on standard input if there are none. If the answer is seen by a person control bytes of it are shown as `?`. The
-/// error is lack of memory before it began.
+/// Leaves a script for the server of a folder, and prints its answer, as `submit_to` does. The result is the status. The source
+/// of a line that takes one is in the files of these names, or on standard input if there are none. If a person sees the answer,
+/// control bytes of it are shown as `?`. The only error is that memory ran out before the command began.
 pub fn submit_script<R: AllocGlobal + Input, A: Write + Drop, E: Write + Drop>(
     rt: &R,
     files: &HostRuntime,
@@ -680,7 +682,7 @@ pub fn submit_script<R: AllocGlobal + Input, A: Write + Drop, E: Write + Drop>(
         return Ok(1);
     };
     let mut was = join(alloc, found.as_slice())?;
-    was.truncate(MOST_SOURCE);
+    was.truncate(MOST_READ);
     let expected = if found.is_empty() {
         None
     } else {

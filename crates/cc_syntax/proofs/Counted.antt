@@ -1,4 +1,4 @@
--- The count of a full expression never passes its limit: the step refuses a token that would.
+-- The count of a full expression never exceeds its limit: the step refuses a token that would.
 use Rattle.std.proofs.Common.{◌≡◌, ◌<◌, ◌≤◌, ◌∙◌, ℕ, Option, Some, None, Result, Ok, Err, refl, sym, ap, subst, arith, inl, inr}
 use Rattle.cc_syntax.specs.declared.parser.state.Parser as parser
 use Rattle.cc_syntax.specs.declared.parser.state.Stage as stage

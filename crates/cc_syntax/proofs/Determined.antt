@@ -1,6 +1,6 @@
 -- Each text has exactly one answer. There is at least one, because a text has tokens or a first error, and the parser runs over
--- the tokens (Verdict). There is at most one, because tokens, error and tree are determined, and of two tokens that break the
--- grammar or a limit only the earlier one is the first.
+-- the tokens (Verdict). There is at most one, because the text determines its tokens, its error and its tree, and of two tokens
+-- that break the grammar or a limit only the earlier one comes first.
 use Rattle.std.proofs.Common.{◌≡◌, ◌<◌, ◌≤◌, ◌+◌, ◌⊎◌, inl, inr, ℕ, zero, suc, List, [], ◌∷◌, ◌++◌, length, take, drop, get_or, Option, Some, None, Result, Ok, Err, refl, sym, ap, subst, ◌∙◌, arith, append_assoc}
 use Rattle.std.proofs.lemmas.List.{map-append, take-append-drop, take_all}
 use Rattle.std.proofs.lemmas.Bool.{cases_lt, cases_order}
@@ -77,7 +77,7 @@ begins_prefix tokens n m h b =
       (b.2.0, b.2.1, b.2.2 ∙ ap (λ (z : List Lexeme). z ++ b.0) cut ∙ append_assoc (take n tokens) (drop n (take m tokens)) b.0),
     )
 
--- some unit begins with the tokens up to and including one that is too deep in it
+-- if token number k is too deep, some unit begins with the tokens up to and including it
 deep_begins : (tokens : List Lexeme) (k : ℕ) → TooDeepAt tokens k → Begins (take (suc k) tokens)
 deep_begins tokens k d =
     let whole : plain_tokens (d.0 ++ d.2 ∷ d.1) ≡ take (suc k) tokens ++ plain_tokens d.1 =
@@ -85,7 +85,7 @@ deep_begins tokens k d =
     ∙ ap (λ (z : List Lexeme). z ++ plain_tokens d.1) d.7 in
     (plain_tokens d.1, d.3, (d.0 ++ d.2 ∷ d.1, d.6, whole))
 
--- one token is not both
+-- no token is both unexpected and too deep
 not_both : (tokens : List Lexeme) (k : ℕ) → UnexpectedAt tokens k → TooDeepAt tokens k → ⊥
 not_both tokens k (inl u) d = u.1 (deep_begins tokens k d)
 not_both tokens k (inr u) d = let inside = d.4 in let end = u.0 in omega arith
@@ -95,7 +95,7 @@ refused_within text tokens k f (inl (inl u, e)) = let inside = u.0 in omega arit
 refused_within text tokens k f (inl (inr u, e)) = let end = u.0 in omega arith
 refused_within text tokens k f (inr (d, e)) = let inside = d.4 in omega arith
 
--- no token is refused before one up to which all is fine
+-- if all is fine before token number j, no earlier token is refused
 not_before : (text : List ℕ) (tokens : List Lexeme) (k j : ℕ) (f : SyntaxFault) → k < j → j ≤ length tokens → RefusedAt text tokens k f → IsFineBefore tokens j → ⊥
 not_before text tokens k j f h i (inl (inl u, e)) fine = u.1 (begins_prefix tokens (suc k) j (omega (arith, h)) fine.0)
 not_before text tokens k j f h i (inl (inr u, e)) fine = let end = u.0 in omega arith
@@ -107,7 +107,7 @@ at_one text tokens k f g (inl (u, e)) (inr (d, i)) = absurd (not_both tokens k u
 at_one text tokens k f g (inr (d, e)) (inl (v, i)) = absurd (not_both tokens k v d)
 at_one text tokens k f g (inr (d, e)) (inr (c, i)) = e ∙ sym i
 
--- the first refused token is the same in both
+-- the first refused token is refused with one fault only
 refused_one : (text : List ℕ) (tokens : List Lexeme) (k j : ℕ) (f g : SyntaxFault) → IsFineBefore tokens k → RefusedAt text tokens k f → IsFineBefore tokens j → RefusedAt text tokens j g → f ≡ g
 refused_one text tokens k j f g fine here fine' here' = by (cases_order k j)
   where
@@ -175,7 +175,7 @@ module _ (text : List ℕ) (tokens : List Lexeme) (fits : length text ≤ 65536)
   unfolding Answers
   tree_answers tree spelled = (Ok tree, (fits, record { tokens = tokens; are = are; spelled = spelled }))
 
-  -- after the last token
+  -- there is an answer after the last token
   at_end : (s : State) (o : Option (List External)) → tree_of s ≡ o → Reached s tokens → Answers text
   at_end s (Some tree) e r =
       let unit = unit_state s tree e in
@@ -201,7 +201,7 @@ module _ (text : List ℕ) (tokens : List Lexeme) (fits : length text ≤ 65536)
   abbrev token_number : ℕ → Lexeme
   token_number k = get_or tokens k no_token
 
-  -- at token number k, given how to continue after it
+  -- there is an answer at token number k, if there is one in each state after it
   at_token : (k : ℕ) (s : State) → k < length tokens → Reached s (take k tokens) → ((m : State) → Reached m (take (suc k) tokens) → Answers text) → Answers text
   at_token k s inside r on = by (step s (token_number k)) refl
     where
@@ -213,7 +213,7 @@ module _ (text : List ℕ) (tokens : List Lexeme) (fits : length text ≤ 65536)
       by None h = unexpected_answers k (fine_before s tokens k r) (unexpected s tokens k (token_number k) r (cut_here k inside) h)
       by (Some m) h = by_limits m h (within_or_past (standing s (token_number k) m))
 
-  -- n tokens are left
+  -- there is an answer if n tokens are left
   from : (n k : ℕ) (s : State) → k + n ≡ length tokens → Reached s (take k tokens) → Answers text
   from zero k s e r = at_end s (tree_of s) refl (subst (λ (z : List Lexeme). Reached s z) (take_all k tokens (omega arith)) r)
   from (suc n) k s e r = at_token k s (omega arith) r (λ m next. from n (suc k) m (omega arith) next)

@@ -22,7 +22,7 @@ use Rattle.cc_syntax.proofs.ReadsExpression.{precedence-within}
 use Rattle.cc_syntax.proofs.ReadsAction.{Closes, terminator, behind, acted-behind, action-closes, named-ends}
 use Rattle.cc_syntax.proofs.ReadsDeclaration.{declared_state, declares-state}
 
--- a unit has an external declaration
+-- a unit has at least one external declaration
 abbrev pub IsUnit : List External → Type 0
 IsUnit [] = ⊥
 IsUnit (e ∷ es) = Unit {0}
@@ -41,7 +41,7 @@ of k = record { kind = k; text = []; at = 0 }
 abbrev mark : Punctuator → TokenKind
 mark p = kind.Punctuator p
 
--- by one more token
+-- if a unit can be finished after one more token, it can be finished before that token
 by : (s m : State) (k : TokenKind) → step s (of k) ≡ Some m → Finishes m → Finishes s
 by s m k h f = record { rest = standing s (of k) m ∷ f.rest; tree = f.tree; unit = f.unit; runs = (m, h, refl, refl, f.runs) }
 
@@ -108,7 +108,7 @@ finish_top b h =
 abbrev zero_of : Expr
 zero_of = Number scalar.Int 0
 
--- after a complete statement, by the open statements
+-- after a complete statement: by induction on the open statements
 finish_settled : (os : List Open) (w : Bool) (b : Inside) (s : Stmt) → Finishes (in_body (settled w b os s))
 finish_settled [] w b s = finish_top (record { externals = b.externals; signature = b.signature; finished = with_last b.finished s; opened = [] }) refl
 finish_settled (InBlock ss ∷ os) w b s =
@@ -204,7 +204,7 @@ record Ends (c : Context) (n : ℕ) (ws : List Waiting) (e : Expr) : Type 0 wher
 end_token : (c : Context) (n : ℕ) (ws : List Waiting) (e : Expr) → Ends c n ws e → Finishes (operator c n ws e)
 end_token c n ws e h = by _ h.after h.last (h.closes (full_of c ws n) e ∙ h.goes ws) h.finishes
 
--- a pending part has its operand already
+-- what ends an expression also ends one that reduces to the same
 earlier : (c : Context) (n : ℕ) (ws us : List Waiting) (e d : Expr) → reduced 1 us d ≡ reduced 1 ws e → Ends c n ws e → Ends c n us d
 earlier c n ws us e d same h =
     record { last = h.last; after = h.after; closes = h.closes; goes = λ vs. ap (λ (r : Expr × List Waiting). close (full_of c vs n) (role_of h.last) r) same ∙ h.goes vs; finishes = h.finishes }

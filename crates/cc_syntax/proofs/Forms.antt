@@ -30,7 +30,7 @@ full_after-append n (x ∷ xs) ys = ap (λ (ps : List Measured). record { token 
 pub runs-full : (s m e : State) (n : ℕ) (xs ys : List Lexeme) → Runs s (full_after n xs) m → Runs m (full_after (count_after n xs) ys) e → Runs s (full_after n (xs ++ ys)) e
 runs-full s m e n xs ys h k = subst (λ (ps : List Measured). Runs s ps e) (sym (full_after-append n xs ys)) (runs-append s m e (full_after n xs) (full_after (count_after n xs) ys) h k)
 
--- a pending part binds as tightly as the level, or does not
+-- the two cases of a reduction: a pending part binds at least as tightly as the level, or does not
 pub pops : {A : Type 0} (q t : ℕ) (x y : A) → q ≤ t → cond (leb q t) x y ≡ x
 pops q t x y h = ap (λ v. cond v x y) (le-leb q t h)
 

@@ -1,4 +1,4 @@
--- In every state, reading a token extends what the tokens so far spell. So what a run has read is spelled.
+-- In every state, reading a token extends what the tokens so far spell. So the tokens of a run spell what the parser has read.
 use Rattle.std.proofs.Common.{ℕ, List, [], ◌∷◌, ◌++◌, Option, refl, sym, ap, subst, ◌∙◌, append_assoc}
 use Rattle.std.proofs.lemmas.List.{append-nil}
 use Rattle.cc_tokens.specs.Token.{Lexeme}
@@ -30,7 +30,7 @@ so_far (p ∷ us) s e ts k h =
     (subst (λ (l : ℕ). SoFar h.0 (ts ++ record { token = p.token; count = count_of h.0; level = l } ∷ [])) (sym h.3) one) in
     subst (λ (z : List Measured). SoFar e z) (append_assoc ts (p ∷ []) us) (so_far us h.0 e (ts ++ p ∷ []) named h.4)
 
--- the tokens of a run to the end of a unit spell it
+-- the tokens of a run to the end of a unit spell that unit
 pub unit_spelled : (tree : List External) (ts : List Measured) → IsUnit tree → Runs start ts (AtFile tree Between) → SpellsUnit ts tree
 unit_spelled tree ts u h =
     let s = so_far ts start (AtFile tree Between) [] ([], [], refl, refl, refl) h in

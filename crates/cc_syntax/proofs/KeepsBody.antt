@@ -12,7 +12,7 @@ use Rattle.cc_syntax.specs.internal.Parser.{Inside, Stage, AsLocal, AsHeader, As
 use Rattle.cc_syntax.proofs.ReadsStatement.{CanStand}
 use Rattle.cc_syntax.proofs.SoFarBody.{depth, first, TestingSoFar, SteppingSoFar, StartingSoFar, ReturningSoFar, DeclarationSoFar, SpotSoFar, OpenSoFar, BodySoFar, StageSoFar}
 
--- between two tokens of a body
+-- what the tokens spell so far, between two tokens of a body
 abbrev pub InBodySoFar : Inside × Stage → List Measured → Type 0
 InBodySoFar r ts =
     (before mine : List Measured) × BodySoFar r.0.externals r.0.signature r.0.finished r.0.opened before × StageSoFar r.1 r.0.opened mine × (ts ≡ before ++ mine)

@@ -58,7 +58,7 @@ kept-declared w b t ds v i initial before mine ts x behind h k n s same e =
     finish AsLocal inner start d g = kept-settle b (Local t (ds ++ declared v i ∷ [])) before (start ++ inner) ts x 0 k d.0 d.1 tt g
     finish AsHeader inner start d g = (before, start ++ inner, k, d, g)
 
--- the tokens of a full expression with one more
+-- the tokens of a full expression, with one more token
 pub pushed-tokens : (c : Context) (ws : List Waiting) (k : ℕ) (p : Phase) (ts : List Measured) (x : Lexeme) → (h : FullSoFar c ws k p ts) → ts ++ record { token = x; count = suc k; level = 0 } ∷ [] ≡ h.before ++ leads_of c (full (h.prefix ++ (h.xs ++ x ∷ [])))
 pushed-tokens c ws k p ts x h =
     let y : Measured = record { token = x; count = suc k; level = 0 } in

@@ -1,4 +1,4 @@
--- A pending part takes its operand: the tokens still spell the expression.
+-- When a pending part takes its operand, the tokens still spell the expression.
 use Rattle.std.proofs.Common.{◌≡◌, ◌≤◌, ℕ, suc, List, [], ◌∷◌, ◌++◌, refl, sym, ap, subst, ◌∙◌, arith, append_assoc, inl, inr}
 use Rattle.std.proofs.lemmas.Bool.Decides.{leb_tells}
 use Rattle.cc_tokens.specs.Token.{Lexeme}
@@ -45,7 +45,7 @@ room-one (Infix op a ∷ ws) h = let range = precedence-within op in absurd (ome
 room-one (Then c ∷ ws) h = omega arith
 room-one (Otherwise c a ∷ ws) h = omega arith
 
--- an operand reduced before an operator of the level: no pending part that is left binds as tightly
+-- an operand after the reduction before an operator of the level: no pending part that is left binds as tightly
 pub record Reduces (level : ℕ) (xs : List Lexeme) (r : Expr × List Waiting) : Type 0 where
   pub holds : Holds r.1 r.0 xs level
   pub room : Room level r.1

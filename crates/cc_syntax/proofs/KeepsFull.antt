@@ -102,7 +102,7 @@ kept-index n e ws xs x h l =
     closed e (Element n e) ws xs w.0 (identifier n ∷ w.1 ∷ []) l.part l.prefix x w.2 l.whole w.4
     (w.1, x, l.part, w.3, h, spells-looser e l.level 1 l.part l.tight l.spelled, refl)
 
--- arguments with one more
+-- arguments with one more argument
 arguments-last : (es : Exprs) (e : Expr) (xs part : List Lexeme) → ArgumentsSoFar xs es → SpellsExpression 1 part e → SpellsArguments (xs ++ part) (with_argument es e)
 arguments-last none e xs part h k = subst (λ (z : List Lexeme). SpellsExpression 1 (z ++ part) e) (sym h) k
 arguments-last (more d es) e xs part h k =

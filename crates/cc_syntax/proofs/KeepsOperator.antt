@@ -38,7 +38,7 @@ first-joins : (c : Context) (x : Lexeme) (qs : List Measured) → leads_of c (fu
 first-joins (OfBody b p) x qs = leads-joins (spot_of p) b.opened x [] qs
 first-joins (OfObject es n p) x qs = refl
 
--- before an operand, and after the tokens of the same full expression that precede the expression
+-- the state before an operand, if only the tokens `zs` of the same full expression precede the operand's expression
 pub begun : (b : Inside) (p : Purpose) (k : ℕ) (before ts : List Measured) (zs : List Lexeme) → ContextSoFar (OfBody b p) before zs → k ≡ count_after 0 zs → ((qs : List Measured) → leads (spot_of p) b.opened (full zs ++ qs) ≡ leads (spot_of p) b.opened (full zs) ++ qs) → ts ≡ before ++ leads (spot_of p) b.opened (full zs) → FullSoFar (OfBody b p) [] k Operand ts
 begun b p k before ts zs h c j w =
     let same : zs ≡ zs ++ [] = sym (append-nil zs) in
@@ -110,7 +110,7 @@ target-spelled (Variable n) xs h = h
 target-spelled (Element n e) xs h = h
 target-spelled _ xs h = tt
 
--- the tokens of an action, with one more
+-- the tokens of an action, with one more token
 action-tokens : (b : Inside) (p : Spot) (ws : List Waiting) (k : ℕ) (q : Phase) (ts : List Measured) (x : Lexeme) → (h : FullSoFar (OfBody b (ToPerform p)) ws k q ts) → (ts ++ record { token = x; count = suc k; level = 0 } ∷ [] ≡ h.before ++ leads p b.opened (full (h.xs ++ x ∷ []))) × (suc k ≡ count_after 0 (h.xs ++ x ∷ []))
 action-tokens b p ws k q ts x h =
     let none = h.context.3.0 in (

@@ -87,7 +87,7 @@ kept-do : (r : Role) (b : Inside) (s : Stmt) (ts : List Measured) (x : Lexeme) �
 kept-do role.While b s ts x h k = (k.0, k.1 ++ outside x ∷ [], k.2, k.3 x h, regrouped ts k.0 k.1 (outside x ∷ []) k.4)
 kept-do _ b s ts x h k = tt
 
--- what comes after a statement that no `else` follows, by how many statements stay open
+-- what comes after a statement that no `else` follows, depending on how many statements stay open
 abbrev Rests : Option ℕ → Inside × Stage → Type 0
 Rests (Some d) (b, Item) = length b.opened ≡ d
 Rests None (b, AfterDo s) = Unit {0}
@@ -127,7 +127,7 @@ kept-else role.Else b c s ts x h k =
     kept-opens b (InElse c s) k.0 mine ts x 0 k.2 (λ last u hu iu. t.2.1 t.1 last x s u t.3 t.4 t.5 h hu iu, t.5) tokens
 kept-else r b c s ts x h k = kept-other b c s r ts x h k
 
--- conditions, jumps
+-- conditions and jumps
 
 kept-testing : (r : Role) (b : Inside) (t : Test) (ts : List Measured) (x : Lexeme) → HasRole r x → InBodySoFar (b, Testing t) ts → Kept (testing_step b t r) ts x 0
 kept-testing role.OpenParenthesis b t ts x h k =
@@ -215,7 +215,7 @@ kept-has-declared _ b w t ds v ts x h k = tt
 
 -- increments and decrements that begin with their operator
 
--- the tokens of an action, with one more
+-- the tokens of an action, with one more token
 joined : (p : Spot) (os : List Open) (mine before : List Measured) (x : Lexeme) (xs : List Lexeme) (y : Measured) → mine ≡ before ++ leads p os (full (x ∷ xs)) → mine ++ y ∷ [] ≡ before ++ leads p os (full (x ∷ xs) ++ y ∷ [])
 joined p os mine before x xs y e = regrouped mine before (leads p os (full (x ∷ xs))) (y ∷ []) e ∙ ap (λ (z : List Measured). before ++ z) (sym (leads-joins p os x xs (y ∷ [])))
 

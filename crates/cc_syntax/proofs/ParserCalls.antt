@@ -1,4 +1,4 @@
--- A closing parenthesis in the place of an argument only ends a call without arguments.
+-- A closing parenthesis in the place of an argument can end only a call without arguments.
 use Rattle.std.proofs.Common.{◌≡◌, List, [], ◌∷◌, ◌++◌, None, ap, ◌∙◌, refl}
 use Rattle.cc_ast.specs.Tree.{Name}
 use Rattle.cc_ast.specs.internal.Arguments.{expressions_of}

@@ -26,7 +26,7 @@ all_named-trees (p ∷ ps) =
 pub open_views-last : (xs os : List open_statement.Open) (o : open_statement.Open) (v : Open) → xs ≡ os ++ o ∷ [] → open_view o ≡ v → open_views xs ≡ v ∷ open_views os
 open_views-last xs os o v e d = ap open_views e ∙ open_views-push os o ∙ ap (λ (u : Open). u ∷ open_views os) d
 
--- it does not matter which open statements the body itself has
+-- `settled` does not depend on the open statements of the body itself
 pub settled-inside : (w : Bool) (b : Inside) (x os : List Open) (s : Stmt) → settled w b os s ≡ settled w (inside_of b b.finished x) os s
 settled-inside w b x [] s = refl
 settled-inside w b x (InBlock ss ∷ os) s = refl
@@ -44,19 +44,19 @@ settled-block w b xs os o s ss rr r e d f g =
     ∙ ap (λ (u : Stmts). let p : Inside × Stage = (inside_of b b.finished (InBlock u ∷ open_views os), Item) in p) (sym f)
     ∙ ap (λ (u : Inside). let p : Inside × Stage = (u, Item) in p) (sym g)
 
--- it completes the part after `else`
+-- a complete statement ends the part after `else`
 pub settled-else : (w : Bool) (b : Inside) (xs os : List open_statement.Open) (o : open_statement.Open) (s : Stmt) (c : Expr) (t r : Stmt) → xs ≡ os ++ o ∷ [] → open_view o ≡ InElse c t → r ≡ IfElse c t s → settled w b (open_views xs) s ≡ settled w b (open_views os) r
 settled-else w b xs os o s c t r e d f =
     ap (λ (v : List Open). settled w b v s) (open_views-last xs os o (InElse c t) e d)
     ∙ ap (λ (u : Stmt). settled w b (open_views os) u) (sym f)
 
--- it completes a `for`
+-- a complete statement ends the body of a `for`
 pub settled-for : (w : Bool) (b : Inside) (xs os : List open_statement.Open) (o : open_statement.Open) (s : Stmt) (a : Beginning) (c : Option Expr) (l : Option Action) (r : Stmt) → xs ≡ os ++ o ∷ [] → open_view o ≡ InFor a c l → r ≡ For a c l s → settled w b (open_views xs) s ≡ settled w b (open_views os) r
 settled-for w b xs os o s a c l r e d f =
     ap (λ (v : List Open). settled w b v s) (open_views-last xs os o (InFor a c l) e d)
     ∙ ap (λ (u : Stmt). settled w b (open_views os) u) (sym f)
 
--- it is the latest statement of the function's body
+-- if no statement is open, a complete statement is the latest one of the function's body
 pub settled-finished : (w : Bool) (b : Inside) (xs os : List open_statement.Open) (s : Stmt) (r : Inside) → xs ≡ [] → os ≡ [] → r ≡ inside_of b (with_last b.finished s) (open_views os) → settled w b (open_views xs) s ≡ (r, Item)
 settled-finished w b xs os s r e d g =
     ap (λ (v : List open_statement.Open). settled w b (open_views v) s) e

@@ -1,4 +1,4 @@
--- Each action that tokens spell is read from them: an assignment, an increment or decrement, an expression.
+-- Each action that tokens spell is read from them: an assignment, an increment or decrement, or an expression.
 use Rattle.std.proofs.Common.{◌≡◌, ℕ, true, false, suc, List, [], ◌∷◌, ◌++◌, Some, Bool, refl, sym, ap, subst, ◌∙◌, arith, append_assoc, inl, inr}
 use Rattle.cc_ast.specs.declared.ast.AssignmentOperator.{AssignmentOperator}
 use Rattle.cc_ast.specs.declared.ast.AssignmentOperator.TheVariants as assignment

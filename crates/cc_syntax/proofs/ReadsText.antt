@@ -26,7 +26,7 @@ pub record ReadTo (text : List ℕ) (s : State) (at : ℕ) : Type 0 where
 pub read_none : (text : List ℕ) (s : State) → s ≡ start → ReadTo text s 0
 read_none text s e = record { tokens = []; found = found_none text; reached = subst (λ (z : State). Reached z []) (sym e) at_start }
 
--- no token up to a later offset
+-- if the tokens read so far are all tokens before a later offset, they led to the state there too
 pub read_blank : (text : List ℕ) (s : State) (at to : ℕ) (r : ReadTo text s at) → FoundBefore text r.tokens to → ReadTo text s to
 read_blank text s at to r f = record { tokens = r.tokens; found = f; reached = r.reached }
 
@@ -51,7 +51,7 @@ read_all text s at tree r past e =
       spelled = spelled_within tree (lexemes text r.tokens) unit.1 (subst (λ (z : State). Reached z (lexemes text r.tokens)) unit.0 r.reached);
     }
 
--- so the result at the end is what the text spells
+-- at the end the result is what the text spells
 pub read_answered : {E : Type 0} (text : List ℕ) (s : State) (at : ℕ) (view : E → List External) (r : Option E) → ReadTo text s at → length text ≤ at → option_map view r ≡ tree_of s → IfSome r (λ x. SpellsText text (view x))
 read_answered text s at view None read past e = tt
 read_answered text s at view (Some x) read past e = read_all text s at (view x) read past (sym e)

@@ -1,4 +1,4 @@
--- A block keeps its statements in a row, and a call its arguments. Their trees are those of the rows as lists.
+-- A block keeps its statements in a row, and a call its arguments. The tree of each is the same as the tree of its row as a list.
 use Rattle.std.proofs.Common.{◌≡◌, refl, ap}
 use Rattle.cc_ast.specs.Tree.{next, more}
 use Rattle.cc_ast.specs.Erase.{statement_tree, statements_tree, statements_of, expression_tree, expressions_tree}

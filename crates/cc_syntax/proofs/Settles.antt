@@ -1,4 +1,5 @@
--- What the parser does with a complete statement: at once, if an `else` may follow, and after one more token.
+-- What the parser does with a complete statement: what it does at once, what it does if an `else` may follow, and what it does
+-- after one more token.
 use Rattle.std.proofs.Common.{◌≡◌, true, false, List, [], ◌∷◌, ◌++◌, Option, Some, None, refl, sym, ap, ◌∙◌}
 use Rattle.std.specs.Prelude.{Bool}
 use Rattle.cc_syntax.specs.declared.parser.role.Role.{Role}
@@ -13,7 +14,7 @@ use Rattle.cc_syntax.proofs.ParserRuns.{Runs}
 abbrev pub within : Inside → List Open → Inside
 within b os = inside_of b b.finished os
 
--- what a complete statement gives does not depend on the open statements that the body itself has
+-- the effect of a complete statement does not depend on the open statements that the body itself has
 pub settled-within : (w : Bool) (b : Inside) (us os : List Open) (s : Stmt) → settled w (within b us) os s ≡ settled w b os s
 settled-within w b us [] s = refl
 settled-within w b us (InBlock ss ∷ os) s = refl

@@ -1,4 +1,4 @@
--- What the tokens so far of a full expression spell: for each pending part, how it relates to the tokens before it. Reading a
+-- What the tokens of a full expression spell so far: for each pending part, how it relates to the tokens before it. Reading a
 -- token extends this (KeepsExpression).
 use Rattle.std.proofs.Common.{◌≡◌, ◌≤◌, ℕ, suc, List, [], ◌∷◌, ◌++◌}
 use Rattle.cc_tokens.specs.declared.scalar.Scalar.{Scalar}

@@ -1,5 +1,5 @@
 -- The parser stops at the first token that breaks the grammar or a limit: some unit continues from what it has read (Finishes,
--- Keeps), and every unit that begins so is read through the same states (ReadsExternal).
+-- Keeps), and every unit that begins with these tokens is read through the same states (ReadsExternal).
 use Rattle.std.proofs.Common.{◌≡◌, ◌<◌, ◌≤◌, ℕ, zero, suc, List, [], ◌∷◌, ◌++◌, length, take, drop, Option, Some, None, refl, sym, ap, subst, ◌∙◌, arith, append_assoc, inl, inr}
 use Rattle.std.specs.List.{AllByRecursion}
 use Rattle.std.proofs.lemmas.List.{map-append, take-append-drop}
@@ -13,7 +13,7 @@ use Rattle.cc_syntax.proofs.ReadsExternal.{read_unit}
 use Rattle.cc_syntax.proofs.Finishes.{IsUnit, finishes}
 use Rattle.cc_syntax.proofs.Keeps.{unit_spelled}
 
--- the parser has reached the state over these tokens, and none of them passes a limit
+-- the parser has reached the state over these tokens, and none of them exceeds a limit
 pub record Reached (s : State) (xs : List Lexeme) : Type 0 where
   pub placed : List Measured
   pub runs : Runs start placed s
@@ -77,7 +77,7 @@ pub record IsCutAt (tokens : List Lexeme) (k : ℕ) (x : Lexeme) : Type 0 where
   pub inside : k < length tokens
   pub next : take (suc k) tokens ≡ take k tokens ++ x ∷ []
 
--- if the parser has no step, no unit continues
+-- if the parser has no step for a token, no unit continues with it
 pub unexpected : (s : State) (tokens : List Lexeme) (k : ℕ) (x : Lexeme) → Reached s (take k tokens) → IsCutAt tokens k x → step s x ≡ None → UnexpectedAt tokens k
 unexpected s tokens k x r c h = inl (c.inside, no_unit)
   where
@@ -128,7 +128,7 @@ none_too_deep s tokens k r j h d =
 pub fine_before : (s : State) (tokens : List Lexeme) (k : ℕ) → Reached s (take k tokens) → IsFineBefore tokens k
 fine_before s tokens k r = (begins_from s (take k tokens) r, none_too_deep s tokens k r)
 
--- a token that passes a limit
+-- a token that exceeds a limit
 pub too_deep : (s m : State) (tokens : List Lexeme) (k : ℕ) (x : Lexeme) → Reached s (take k tokens) → IsCutAt tokens k x → step s x ≡ Some m → PassesLimit (standing s x m) → TooDeepAt tokens k
 too_deep s m tokens k x r c h past =
     let f = finishes m in

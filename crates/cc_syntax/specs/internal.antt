@@ -3,7 +3,7 @@
 pub mod Roles
 -- what the parser's functions compute, token by token
 pub mod Parser
--- the parser's state in the code, as a state of the module before
+-- the parser's state in the code, as a state of `Parser`
 pub mod ParserView
 -- all clauses of `parse` but one, as a relation
 pub mod Answer

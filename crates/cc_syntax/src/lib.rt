@@ -3,8 +3,8 @@
 //! `parser` finds the tree. The tree, the grammar and a text with its tree are defined in `cc_ast`; the tokens, the places and
 //! the refusals in `cc_tokens`.
 //!
-//! The crate exports `parse`, the theorems that its result is determined by the text, and the items of those two crates. The
-//! definitions that its contracts use are those of `cc_ast`.
+//! The crate exports `parse`, the theorems that its result is determined by the text, and the items of those two crates. Its
+//! contracts use the definitions of `cc_ast`.
 #![tactic(auto)]
 
 mod parser;

@@ -3,7 +3,7 @@
 // The parser reads the tokens once, and its state is changed in place. No call is nested deeper for a deeper text.
 //
 // - `state`: the parser's state between two tokens.
-// - `step`: what one token does, by what is being read.
+// - `step`: what one token does, depending on what is being read.
 // - `cursor`: a token in its text; `role`: what a token is to the grammar.
 // - `outer` and `objects`: tokens at file scope.
 // - `body`, with `settle` for the ends of statements: tokens in a function's body.
@@ -74,7 +74,7 @@ fn fault_of(text: &[u8], tokens: &[Token], refusal: Refusal) -> SyntaxFault
     }
 }
 
-/// Makes a unit of a text and the external declarations that its tokens spell.
+/// Makes a unit from a text and the external declarations that its tokens spell.
 fn unit_of(alloc: Global, text: &[u8], externals: Vec<External>) -> Result<Unit, SyntaxFault>
     requires fits { length text.now ≤ most_bytes }
     requires spelled { SpellsText text.now (external_trees externals.items) }
@@ -134,10 +134,10 @@ fn parse_text(alloc: Global, text: &[u8]) -> Result<Unit, SyntaxFault>
 
 /// Returns the text with the tree that it spells (C99 6.5 to 6.9, and the profile's grammar).
 ///
-/// Refuses with 7 (SourceTooLarge) and 1 to 4 as `tokens` does. Otherwise it refuses with 5 or 6 at the first token that is
-/// wrong. This is 5 (Unexpected) if no unit begins with the tokens up to and including that one; the end of the text counts as a
-/// last token. It is 6 (TooDeep) if the token comes after the 512th of its full expression, or begins a statement or declaration
-/// below level 64. It refuses with 40 (OutOfMemory) if memory runs out.
+/// Refuses with 7 (SourceTooLarge) or 1 to 4, as `tokens` does. Otherwise it refuses with 5 or 6 at the first token that is
+/// wrong. The fault is 5 (Unexpected) if no unit begins with the tokens up to and including that one; the end of the text counts
+/// as a last token. It is 6 (TooDeep) if the token comes after the 512th of its full expression, or begins a statement or
+/// declaration below level 64. It refuses with 40 (OutOfMemory) if memory runs out.
 pub fn parse(alloc: Global, text: &[u8]) -> Result<Unit, SyntaxFault>
     ensures fits { IfOk result (λ _. length text.now ≤ most_bytes) }
     ensures text { IfOk result (λ u. (source u).text ≡ text.now) }

@@ -62,7 +62,7 @@ fn is_listed(list: &[&str], word: &[u8]) -> bool {
 }
 
 impl<'a> Around<'a> {
-    /// Returns what surrounds the token, among these, that begins at an offset, or the end of the text.
+    /// Returns what surrounds the token that begins at the offset `at`, or the end of the text if no token does.
     pub fn new(text: &'a [u8], tokens: &'a [Token], at: usize) -> Around<'a> {
         let count = count_before(tokens, at);
         Around {
@@ -114,7 +114,7 @@ impl<'a> Around<'a> {
         self.behind.get(count).copied()
     }
 
-    /// The last token before it, or the one `count` before that.
+    /// The last token before this one, or the one `count` before that.
     pub fn last(&self, count: usize) -> Option<Token> {
         let place = self.before.len().checked_sub(count)?.checked_sub(1)?;
         self.before.get(place).copied()
@@ -128,7 +128,7 @@ impl<'a> Around<'a> {
         }
     }
 
-    /// The end of the last token before it.
+    /// The end of the last token before this one.
     pub fn end_before(&self) -> usize {
         match self.last(0) {
             Some(token) => token.to,
@@ -144,7 +144,7 @@ impl<'a> Around<'a> {
         }
     }
 
-    /// Whether a line ends between the last token before it and the token itself.
+    /// Whether a line ends between the last token before this one and the token itself.
     pub fn begins_line(&self) -> bool {
         self.between(self.end_before(), self.at).contains(&b'\n')
     }

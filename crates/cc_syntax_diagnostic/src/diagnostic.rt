@@ -54,7 +54,7 @@ impl Diagnostic {
     }
 }
 
-/// Makes a diagnostic of some words about the name of this many bytes at an offset of a text; the name in quotes comes first.
+/// Makes a diagnostic about the name of this many bytes at an offset of a text: the name in quotes, and then these words.
 ///
 /// `AllocError` if memory runs out.
 pub fn of_name<'a>(

@@ -5,7 +5,7 @@ ghost use Rattle.std.specs.Prelude.{◌≤◌, length};
 use super::spelling::{Look, Shown};
 use std::io::{self, Write};
 
-/// The most bytes of a line that are shown before the caret, and from it on.
+/// At most this many bytes of a line are shown before the caret, and from the caret on.
 const BEFORE: usize = 80;
 
 const BEHIND: usize = 80;
@@ -48,7 +48,7 @@ fn excerpt_at(text: &[u8], at: usize) -> Excerpt<'_>
     }
 }
 
-/// Writes the line of an offset with its number, and a caret on the line below.
+/// Writes the line in which an offset lies, with the line's number, and a caret on the line below.
 pub fn write_excerpt<W: Write>(
     text: &[u8],
     at: usize,

@@ -2,7 +2,7 @@
 //
 // The parser itself decides: the text before the token is parsed with a candidate after it. If the parser then only misses
 // something at the very end, the candidate could come there. So the report agrees with the grammar by construction. Only the
-// external declaration that has the token is kept from the text before it; earlier ones are complete.
+// external declaration that has the token is kept from the text before it; earlier declarations are complete.
 
 use cc_syntax::{Punctuator, SyntaxFault, Token, TokenKind, parse, place_at};
 use std::alloc::{AllocError, Global};
@@ -12,7 +12,7 @@ use std::alloc::{AllocError, Global};
 pub enum Reply {
     /// The grammar allows it.
     Accepted,
-    /// The grammar allows it, but a limit is passed.
+    /// The grammar allows it, but a limit is exceeded.
     PastLimit,
     /// The grammar does not allow it, or nothing is known.
     Refused,
@@ -60,7 +60,7 @@ impl Outline {
     }
 }
 
-// The offset at which the external declaration begins that has the token at an offset: after the declaration before it.
+// The offset at which the external declaration with the token at `at` begins: after the declaration before it.
 fn start_of_external(tokens: &[Token], at: usize) -> usize {
     let mut outline = Outline {
         start: 0,

@@ -1,6 +1,6 @@
 // What this C leaves out of C99, and words of other languages: what to say about each, and what to write instead.
 //
-// Each table is searched once, by spelling. Its words are written after a colon.
+// Each table is searched once, by spelling. What it says about a spelling is written after a colon.
 
 /// A spelling, and what to say about it.
 pub type Entry = (&'static str, &'static str);
@@ -40,7 +40,7 @@ pub static KEYWORDS: [Entry; 26] = [
     ),
     (
         "const",
-        "there is no const in this C; leave it out, and write the number where a constant has to stand",
+        "there is no const in this C; leave it out, and write the number where a constant has to be",
     ),
     ("default", "there is no default in this C; write else"),
     (
@@ -104,7 +104,7 @@ pub static KEYWORDS: [Entry; 26] = [
     ),
     (
         "else",
-        "it stands without an 'if', whose statement would have to end directly before it",
+        "it has no 'if', whose statement would have to end directly before it",
     ),
 ];
 
@@ -156,11 +156,11 @@ pub static ACTIONS: [Entry; 13] = [
     ),
     (
         "++",
-        "there is no ++ inside an expression in this C; write a statement of its own, before or behind this one",
+        "there is no ++ inside an expression in this C; write a statement of its own, before or after this one",
     ),
     (
         "--",
-        "there is no -- inside an expression in this C; write a statement of its own, before or behind this one",
+        "there is no -- inside an expression in this C; write a statement of its own, before or after this one",
     ),
 ];
 
@@ -237,7 +237,7 @@ pub static BYTES: [Entry; 13] = [
     ),
     (
         "#define",
-        "there is no preprocessor in this C; write the number where the name stands, or declare a variable",
+        "there is no preprocessor in this C; write the number where the name is, or declare a variable",
     ),
     (
         "#",
@@ -255,8 +255,8 @@ pub static BYTES: [Entry; 13] = [
         "...",
         "there are no variable arguments in this C; give each parameter its type and name",
     ),
-    ("\\u", "names have letters, digits and _ alone in this C"),
-    ("\\U", "names have letters, digits and _ alone in this C"),
+    ("\\u", "names have only letters, digits and _ in this C"),
+    ("\\U", "names have only letters, digits and _ in this C"),
     (
         ".",
         "there are no structures in this C; write a variable or an array for each member",
@@ -294,7 +294,7 @@ pub static CHARACTERS: [(char, char, &str); 12] = [
     (
         '\u{80}',
         '\u{10ffff}',
-        "names have letters, digits and _ alone in this C, and outside comments there is no other",
+        "names have only letters, digits and _ in this C, and outside comments there is no other",
     ),
 ];
 
@@ -329,9 +329,9 @@ pub const INNER_FUNCTIONS: &str =
     "there are no functions inside a function; declare it at file scope, before this one";
 
 pub const SINGLE_BYTES: &str =
-    "there is no single unsigned char in this C; write [1] behind the name, or int for the type";
+    "there is no single unsigned char in this C; write [1] after the name, or int for the type";
 
 pub const NO_TARGET: &str =
-    "it stands behind no variable and no element of an array, and nothing else can be written to";
+    "it comes after no variable and no element of an array, and nothing else can be written to";
 
 pub const VOID_CASTS: &str = "there are no casts to void in this C; leave it out";

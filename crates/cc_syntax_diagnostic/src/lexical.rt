@@ -4,7 +4,7 @@ use super::left_out::{BYTES, CHARACTERS, FLOATING, said_of_prefix};
 use super::parts::{MessagePart, message, words};
 use std::alloc::{AllocError, Global};
 
-// Whether a backslash directly before the end of a line is here.
+// Whether the bytes here begin with a backslash directly before the end of a line.
 fn is_splice(rest: &[u8]) -> bool {
     rest.starts_with(b"\\\n".as_slice()) || rest.starts_with(b"\\\r\n".as_slice())
 }
@@ -113,7 +113,7 @@ fn begins(number: &[u8], lower: &[u8], upper: &[u8]) -> bool {
     number.starts_with(lower) || number.starts_with(upper)
 }
 
-// Whether a number has any of some bytes.
+// Whether a number has any of these bytes.
 fn has(number: &[u8], bytes: &[u8]) -> bool {
     for b in number {
         if bytes.contains(b) {
@@ -133,7 +133,7 @@ fn reason(number: &[u8]) -> &'static str {
     } else if has(number, b"lL") {
         "there is no suffix l or L in this C; int and unsigned have 32 bits"
     } else if is_hexadecimal || !number.starts_with(b"0") {
-        "it has decimal digits, or hexadecimal ones behind 0x, and then u or nothing"
+        "one has decimal digits, or hexadecimal ones after 0x, and then u or nothing"
     } else if has(number, b"8") {
         "8 is no octal digit, and a number that begins with 0 is octal"
     } else {
@@ -155,7 +155,7 @@ pub fn bad_constant(alloc: Global, text: &[u8], at: usize) -> Result<String, All
     )
 }
 
-// Whether a constant may be as large as an `unsigned`: if it has a suffix, or is octal or hexadecimal.
+// Whether a constant may be as large as an `unsigned`: it may if it has a suffix, or is octal or hexadecimal.
 fn may_be_unsigned(number: &[u8]) -> bool {
     number.first() == Some(&b'0') || matches!(number.last(), Some(b'u' | b'U'))
 }

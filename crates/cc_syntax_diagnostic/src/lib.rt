@@ -4,7 +4,7 @@
 //! - `parts` and `spelling`: what messages are made of, and how bytes of a text are shown.
 //! - `offset`: finds a place in a text.
 //! - `lexical` and `syntax`: messages about a text without a tree.
-//! - `reason`: why a token is unexpected, by the tables of `left_out`, by words that are `near`, and by what is   `around` it.
+//! - `reason`: why a token is unexpected, by the tables of `left_out`, by words that are `near`, and by what is `around` it.
 //! - `expected`: which tokens could come there.
 //!
 //! Crates above report on trees and on runs, with the same parts. The faults themselves come from the crates below; a report

@@ -45,7 +45,7 @@ impl fmt::Display for MessagePart<'_> {
     }
 }
 
-/// Joins these parts to a message. `AllocError` if memory runs out.
+/// Joins these parts into a message. `AllocError` if memory runs out.
 pub fn message(alloc: Global, parts: &[MessagePart<'_>]) -> Result<String, AllocError> {
     let mut text = String::new(alloc);
     for part in parts {

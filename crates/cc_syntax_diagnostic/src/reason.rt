@@ -58,7 +58,7 @@ fn is_one_of(bytes: &[u8], words: &[&[u8]]) -> bool {
     false
 }
 
-// What to say about `[`, by what precedes it.
+// What to say about `[`, given what precedes it.
 fn of_bracket(around: &Around<'_>) -> Option<&'static str> {
     let last = around.bytes(around.last(0));
     let is_inside = around.is_in_braces();
@@ -71,7 +71,7 @@ fn of_bracket(around: &Around<'_>) -> Option<&'static str> {
     }
 }
 
-// Whether an operand that could be written to ends before it, and not a parameter.
+// Whether what ends before the token is an operand that could be assigned to, and not a parameter.
 fn is_behind_target(around: &Around<'_>) -> bool {
     let last = around.last(0);
     (is_name(last) || around.is(last, b"]"))
@@ -135,7 +135,7 @@ fn is_void_cast(around: &Around<'_>) -> bool {
     around.is(around.next(0), b"void") && around.is(around.last(0), b"(")
 }
 
-// Whether the name before it can only be that of an array of `unsigned char`.
+// Whether the name before the token can only be that of an array of `unsigned char`.
 fn is_behind_byte_name(around: &Around<'_>) -> bool {
     is_name(around.last(0)) && around.is(around.last(1), b"char")
 }
@@ -157,7 +157,7 @@ fn said(around: &Around<'_>, bytes: &[u8]) -> Option<&'static str> {
     }
 }
 
-// What this C leaves out, if the token is such a thing.
+// The reason that this C leaves the token out, if it does.
 fn left_out<'a>(around: &Around<'a>) -> Option<Reason<'a>> {
     let bytes = around.bytes(around.next(0));
     match said_of(&KEYWORDS, bytes) {
@@ -172,7 +172,7 @@ fn left_out<'a>(around: &Around<'a>) -> Option<Reason<'a>> {
     }
 }
 
-// Two tokens that were meant to be one, or a different one.
+// Two adjacent tokens, and the one token that was meant.
 static JOINED: [(&[u8], &[u8], &str); 9] = [
     (b":", b"=", "="),
     (b"=", b">", ">="),

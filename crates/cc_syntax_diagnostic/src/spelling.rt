@@ -3,7 +3,7 @@
 
 use std::fmt;
 
-/// The most bytes of a name or another token that are shown.
+/// At most this many bytes of a name or another token are shown.
 const MOST_SHOWN: usize = 40;
 
 /// What is shown in place of a character.
@@ -11,7 +11,7 @@ const MOST_SHOWN: usize = 40;
 pub enum Look {
     /// The character itself.
     Plain,
-    /// As much blank space as it takes.
+    /// As much blank space as the character takes.
     Blank,
 }
 

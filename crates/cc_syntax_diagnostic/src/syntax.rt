@@ -122,7 +122,7 @@ fn one_ends(list: &[&str]) -> bool {
     false
 }
 
-// Whether a list only has things that end or separate something, and at least one that ends it.
+// Whether a list only has things that end or separate something, and at least one that ends something.
 fn is_missing(list: &[&str]) -> bool {
     let begins = match list.first() {
         Some(first) => !first.starts_with("'") || *first == "'('" || *first == "'while'",
@@ -131,7 +131,7 @@ fn is_missing(list: &[&str]) -> bool {
     !begins && one_ends(list)
 }
 
-// Reports a token by what could come in its place.
+// Reports a token by what could come in its place: as missing or as unexpected.
 fn by_list(alloc: Global, around: &Around<'_>, list: &[&str]) -> Result<Told, AllocError> {
     if is_missing(list) {
         missing(alloc, around, list)
@@ -148,7 +148,7 @@ fn is_name(list: &[&str]) -> bool {
     }
 }
 
-// Reports a token for a reason.
+// Reports a token, with the reason why it is unexpected.
 fn for_reason(
     alloc: Global,
     around: &Around<'_>,
@@ -238,7 +238,7 @@ fn more_than(alloc: Global, what: &str, most: usize, of: &str) -> Result<String,
     format!(in alloc; "{what} more than {most} {of}")
 }
 
-// The message about a token that passes a limit of the grammar: it begins a statement or a declaration, or is one too many in an
+// The message about a token that exceeds a limit of the grammar: it begins a statement or a declaration, or is one too many in an
 // expression.
 fn too_deep(alloc: Global, text: &[u8], at: usize) -> Result<String, AllocError> {
     let tokens = tokens_of(alloc, text)?;
@@ -267,9 +267,9 @@ fn told_at(alloc: Global, text: &[u8], fault: &SyntaxFault, at: usize) -> Result
     }
 }
 
-/// Makes a diagnostic of the fault that `parse` returned for a text: which byte, number or token was found, and what could come
-/// there, what is missing before it, or what to write instead of what this C leaves out; or which limit was passed. Its place is
-/// after the token before if something is missing, and at the misspelt word if there is one.
+/// Makes a diagnostic of the fault that `parse` returned for a text: which byte, number or token was found, and what could come there,
+/// what is missing before it, or what to write instead of what this C leaves out; or which limit was exceeded. If something is
+/// missing, the diagnostic's place is after the token before it; if a word is misspelt, the place is at that word.
 ///
 /// `AllocError` if memory runs out.
 pub fn of_syntax(alloc: Global, text: &[u8], fault: &SyntaxFault) -> Result<Diagnostic, AllocError>

@@ -3,7 +3,7 @@ use Rattle.std.specs.Prelude.{◌≤◌, ℕ}
 use Rattle.cc_task.specs.declared.task.Task.{Task}
 use Rattle.cc_task.specs.declared.task.Task.TheVariants.{Check, Interpret, Run, InterpretCounted, RunCounted, Asm, Image, Size, Safe}
 
--- how many steps a run may take, or instructions
+-- the largest number of steps or instructions that a run may take
 abbrev pub most_steps : ℕ
 most_steps = 1000000000
 

@@ -1,7 +1,8 @@
 //! What the program may be asked to do: a task for a text, and which part of a unit it is to take out of a library.
 //!
-//! It stands on nothing, so that what reads these off the command line (`cc_command_line`) and what does them (`cc_tasks`, `cc_session`)
-//! look down at it, and are proved side by side. Hands out `Task`, `Kind`, `Part` and the limit, and the definition that contracts name (`specs/`).
+//! It needs no other crate. So the crate that reads tasks from the command line (`cc_command_line`) and those that do them
+//! (`cc_tasks`, `cc_session`) build on it and are proved side by side. It exports `Task`, `Kind`, `Part` and the limit, and the
+//! definition that contracts name (`specs/`).
 #![tactic(auto)]
 
 mod part;

@@ -5,6 +5,6 @@
 pub enum Part {
     /// Its image, as Intel HEX.
     Image,
-    /// Its source, to the byte.
+    /// Its source, byte for byte.
     Source,
 }

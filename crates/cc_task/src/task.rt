@@ -8,7 +8,7 @@ pub const MOST_STEPS: u64 = 1_000_000_000;
 pub enum Kind {
     /// It owes nothing once the program goes wrong.
     Plain,
-    /// It goes on for ever then, and writes nothing more.
+    /// Once the program goes wrong, it goes on for ever and writes nothing more.
     Checked,
 }
 

@@ -84,7 +84,7 @@ done (Err fault) task input a b c text read same (inl unwritten) = inl unwritten
 done (Err fault) task input a b c text read same (inr by) =
     inr (inr (record { text = text; read = read; refused = by.0; written = subst (λ (o : Option (List ℕ)). Appends o c (fault_text text fault)) same by.1 }))
 
--- what follows of a fault
+-- what follows from a fault
 of_fault : (task : Task) (input a b : Option (List ℕ)) (status : ℕ) (fault : Fault) → HasNoAnswer task input a b fault → status ≡ 1 → IsPerformed task input a b status (is_told fault)
 of_fault task input a b status Write is it = it
 of_fault task input a b status (Text f) (inl e) it = absurd (cc)
@@ -102,7 +102,7 @@ of_fault task input a b status OutOfMemory (inr is) it = inr (it, (OutOfMemory, 
 of_fault task input a b status Read (inl e) it = absurd (cc)
 of_fault task input a b status Read (inr is) it = inr (it, (Read, is))
 
--- its status, and whether all is written
+-- the status of a task that was done, and whether all is written
 pub performed : (answer : Result Matter Fault) (task : Task) (input a b : Option (List ℕ)) (status : ℕ) (written : Bool) → IsDoneFor task input a b answer → status ≡ status_of answer → written ≡ written_of answer
     → IsPerformed task input a b status written
 performed (Ok matter) task input a b status written is it whole = subst (λ (w : Bool). IsPerformed task input a b status w) (sym whole) (inl (is.0, it ∙ is.1))

@@ -1,9 +1,9 @@
--- What the program answers of a text.
+-- What the program answers for a text.
 use Rattle.std.specs.Prelude.{ℕ, ◌≡◌, true, List, []}
 use Rattle.cc_ast.specs.Tree.{Source}
-use Rattle.cc_c_laws.specs.Meaning.{source_behavior}
-use Rattle.cc_c_laws.specs.declared.mode.Mode.{Mode}
-use Rattle.cc_c_laws.specs.declared.mode.Mode.TheVariants as mode
+use Rattle.cc_c_semantics.specs.Meaning.{source_behavior}
+use Rattle.cc_c_semantics.specs.declared.mode.Mode.{Mode}
+use Rattle.cc_c_semantics.specs.declared.mode.Mode.TheVariants as mode
 use Rattle.cc_meaning.specs.Erase.{outcome_tree}
 use Rattle.cc_rv32.specs.declared.image.Image.{Image}
 use Rattle.cc_rv32.specs.Listing.{listing}
@@ -48,7 +48,7 @@ abbrev pub mode_of : Kind → Mode
 mode_of Plain = mode.Plain
 mode_of Checked = mode.Checked
 
--- what `run` answers: what an image does that agrees with the text, and follows what its program shows in the mode
+-- what `run` answers: what is done by an image that agrees with the text and follows what its program shows in the mode
 abbrev pub IsExecuted : Mode → (steps : ℕ) → (words text : List ℕ) → Answer → Type 0
 IsExecuted m steps words text (Executed done) = (image : Image) × Agree text image × AgreeIn m text image × IsRunOf image steps words done
 IsExecuted m steps words text answer = ⊥
@@ -69,7 +69,8 @@ abbrev pub IsListed : Mode → (text : List ℕ) → Answer → Type 0
 IsListed m text (Listed lines) = (image : Image) × Agree text image × AgreeIn m text image × (lines.items ≡ listing image)
 IsListed m text answer = ⊥
 
--- a text is an image as Intel HEX: its bytes at each address and nothing else, in order of address, and laid out so
+-- a text is an image as Intel HEX: it has the image's bytes at their addresses and nothing else, in the order of the addresses,
+-- laid out as `image_text` is
 pub record IsHex (text : List ℕ) (image : Image) : Type 0 where
   pub holds : Holds text image
   pub says : Says text image
@@ -85,7 +86,7 @@ abbrev pub IsMeasured : Mode → (text : List ℕ) → Answer → Type 0
 IsMeasured m text (Measured it) = Measures m text it
 IsMeasured m text answer = ⊥
 
--- what `safe` answers: if nothing may go wrong, that the program goes wrong for no cause, on no input and at no bound
+-- what `safe` answers: if nothing may go wrong, it says that the program goes wrong for no cause, on no input and at no bound
 abbrev pub IsJudged : (text : List ℕ) → Answer → Type 0
 IsJudged text (Judged lines) = (p : ProgramOf text) × (lines.items ≡ [] → IsSafe p.program)
 IsJudged text answer = ⊥
@@ -102,7 +103,7 @@ Answers (ImageTask kind) text answer = IsImage (mode_of kind) text answer
 Answers (Size kind) text answer = IsMeasured (mode_of kind) text answer
 Answers Safe text answer = IsJudged text answer
 
--- why a text gets no answer for which no image is made: it is no program's, or memory was refused
+-- why a text gets no answer from a task that makes no image: it is no program's, or memory was refused
 abbrev pub HasNoProgram : (text : List ℕ) → Fault → Type 0
 HasNoProgram text (Text f) = IsTextRefusal text f
 HasNoProgram text (Meaning f) = Unit {0}
@@ -113,7 +114,8 @@ HasNoProgram text OutOfMemory = Unit {0}
 HasNoProgram text Read = ⊥
 HasNoProgram text Write = ⊥
 
--- why it gets none for which an image is made: it is no program's, it has no image in the mode, or memory was refused
+-- why a text gets no answer from a task that makes an image: it is no program's, it has no image in the mode, or memory was
+-- refused
 abbrev pub HasNoImage : Mode → (text : List ℕ) → Fault → Type 0
 HasNoImage m text (Text f) = IsTextRefusal text f
 HasNoImage m text (Meaning f) = ⊥

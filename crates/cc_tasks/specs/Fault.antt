@@ -18,7 +18,7 @@ fault_number OutOfMemory = 40
 fault_number Read = 53
 fault_number Write = 54
 
--- where in the text a fault is
+-- the place of a fault in the text
 abbrev pub fault_place : Fault → Option Place
 fault_place (Text f) = text_fault_place f
 fault_place (Meaning f) = None

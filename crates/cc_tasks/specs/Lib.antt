@@ -1,10 +1,10 @@
--- What the program answers of a text, and why it answers nothing.
+-- What the program answers for a text, and why it answers nothing.
 pub mod Answer
 -- The numbers and the places of the faults.
 pub mod Fault
--- What is written of a text, byte for byte.
+-- What is written for a text, byte for byte.
 pub mod Written
 -- What is taken out of a library, and why nothing is.
 pub mod Part
--- What only private contracts speak of.
+-- What only private contracts use.
 pub mod internal

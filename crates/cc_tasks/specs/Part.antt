@@ -25,12 +25,12 @@ abbrev pub IsPart : Part → StoredUnit → (bytes : List ℕ) → Type 0
 IsPart Image unit bytes = IsHex bytes unit.image
 IsPart Source unit bytes = bytes ≡ unit.source
 
--- the name is one, and this unit has it in the map
+-- these bytes are a name, and this unit has it in the map
 pub record IsFound (units : Units) (name : List ℕ) (unit : StoredUnit) : Type 0 where
   pub is_name : IsTrue (is_name name)
   pub found : map.get units name ≡ Some unit
 
--- the name is one, and no unit has it in the map
+-- these bytes are a name, and no unit has it in the map
 pub record IsAbsent (units : Units) (name : List ℕ) : Type 0 where
   pub is_name : IsTrue (is_name name)
   pub absent : map.get units name ≡ None
@@ -39,7 +39,8 @@ pub record IsAbsent (units : Units) (name : List ℕ) : Type 0 where
 abbrev pub IsPartIn : Units → (name : List ℕ) → Part → (bytes : List ℕ) → Type 0
 IsPartIn units name part bytes = (unit : StoredUnit) × IsFound units name unit × IsPart part unit bytes
 
--- why there is none: 33 exactly where the name is none, 32 exactly where it is one that no unit has; else memory ran out
+-- why there is no such part: 33 exactly if the bytes are no name, 32 exactly if they are a name that no unit has; otherwise
+-- memory ran out
 abbrev pub IsNoPartIn : Units → (name : List ℕ) → PartFault → Type 0
 IsNoPartIn units name BadName = is_name name ≡ false
 IsNoPartIn units name Absent = IsAbsent units name
@@ -50,7 +51,7 @@ IsNoPartIn units name OutOfMemory = (unit : StoredUnit) × IsFound units name un
 abbrev pub IsPartOn : (seen name : List ℕ) → Part → (bytes : List ℕ) → Type 0
 IsPartOn seen name part bytes = (units : Units) × Recovers seen units × IsPartIn units name part bytes
 
--- why there is none on a disk: the library is not opened, or there is none in the map to which the disk recovers
+-- why there is no such part on a disk: the library is not opened, or the map to which the disk recovers has no such part
 abbrev pub IsNoPartOn : (honest : Bool) (seen : List ℕ) (before after : ℕ) (name : List ℕ) → PartFault → Type 0
 IsNoPartOn honest seen before after name (Library f) = OpenFaults honest seen before after f
 IsNoPartOn honest seen before after name BadName = is_name name ≡ false

@@ -1,4 +1,4 @@
--- What the program writes of a text, byte for byte, and what it has then done.
+-- What the program writes for a text, byte for byte, and what it has done by then.
 use Rattle.std.specs.Prelude.{◌≡◌, ◌⊎◌, ℕ, Bool, true, false, List, [], ◌∷◌, ◌++◌, Option, Result, Ok, Err, Vec, codes}
 use Rattle.std.specs.declared.alloc.Global.{Global}
 use Rattle.std.specs.Fmt.{decimal}
@@ -36,7 +36,7 @@ stop_text (Wrong c) = line (codes "wrong " ++ cause_name c)
 abbrev pub outcome_text : Outcome → List ℕ
 outcome_text o = words_text o.output ++ stop_text o.stop
 
--- the same, and the line of its steps
+-- the words that a program writes, how it stops, and the line with its steps
 abbrev pub steps_text : ℕ → List ℕ
 steps_text steps = line (codes "steps " ++ decimal steps)
 
@@ -76,14 +76,15 @@ fault_text text fault = fault_line (fault_number fault) (where_text text fault)
 
 -- ---- what was taken out of a library
 
--- the bytes of the part, or the line of why there is none
+-- the bytes of the part, or the line that says why there is none
 abbrev pub found_text : Result (Vec ℕ Global) PartFault → List ℕ
 found_text (Ok bytes) = bytes.items
 found_text (Err fault) = fault_line (part_fault_number fault) []
 
 -- ---- from what is read to what is written
 
--- this text was appended to what was written before, and nothing else; or it could not be written: 54, and nothing is known of what was
+-- this text was appended to what was written before, and nothing else; or it could not be written, 54, and nothing is known about
+-- what was written
 abbrev pub Writes : {T : Type 0} → (old new : Option (List ℕ)) (text : List ℕ) → Result T Fault → Type 0
 Writes old new text (Ok done) = Appends old new text
 Writes old new text (Err fault) = fault ≡ Write
@@ -107,8 +108,8 @@ pub record IsTurnedDown (task : Task) (input old new : Option (List ℕ)) (fault
 abbrev pub IsToldFault : Task → (input old new : Option (List ℕ)) → Fault → Type 0
 IsToldFault task input old new fault = ((fault ≡ Read) × Appends old new (fault_text [] Read)) ⊎ IsTurnedDown task input old new fault
 
--- A task was done with this status, and all that was to be written is: the status is that of its answer, and 1 for a fault. Or something could not be
--- written, 54: the status is 1, and nothing is known of what was.
+-- A task was done with this status, and all that was to be written is written: the status is that of its answer, and 1 for a
+-- fault. Or something could not be written, 54: the status is 1, and nothing is known about what was written.
 abbrev pub IsPerformed : Task → (input old new : Option (List ℕ)) → (status : ℕ) (written : Bool) → Type 0
 IsPerformed task input old new status true =
     ((it : IsAnswered task input old new) × (status ≡ answer_status it.answer)) ⊎ ((status ≡ 1) × ((fault : Fault) × IsToldFault task input old new fault))

@@ -1,7 +1,7 @@
 // The answer to a task for a text.
 
 ghost use Rattle.std.specs.Prelude.{◌≡◌, ℕ, List, IfOk, IfErr};
-ghost use Rattle.cc_c_laws.specs.declared.mode.Mode.{Mode};
+ghost use Rattle.cc_c_semantics.specs.declared.mode.Mode.{Mode};
 ghost use Rattle.cc_link.specs.Agree.{Agree, AgreeIn};
 ghost use Rattle.cc_link.specs.Compile.{IsBuildRefusalIn};
 ghost use Rattle.cc_tasks.specs.Answer.{IsAccepted, IsRan, IsExecuted, IsListed, IsImage, IsJudged, IsMeasured, Answers, HasNoImage, HasNoProgram, IsRefused, mode_of};
@@ -26,23 +26,23 @@ pub enum Answer {
     Accepted,
     /// What the program does.
     Ran(Outcome),
-    /// What the program's image has written, and what its run has come to.
+    /// What the program's image has written, and how its run ended.
     Executed(ImageRun),
     /// What the program does, and in how many steps.
     RanCounted(CountedOutcome),
-    /// What the program's image has written and come to, and in how many instructions.
+    /// What the program's image has written, how its run ended, and in how many instructions.
     ExecutedCounted(CountedRun),
     /// The listing of the program's image.
     Listed(Vec<u8>),
     /// The program's image as Intel HEX.
     Image(Vec<u8>),
-    /// What the program's image takes.
+    /// How much memory the program's image takes.
     Sized(Measure),
-    /// What may go wrong in the program, where it is not said that nothing may.
+    /// What may go wrong in the program, unless it is shown that nothing may.
     Judged(Vec<Unsure>),
 }
 
-// That the text is a program.
+// Answers that the text is a program.
 fn accepted(alloc: Global, text: &[u8]) -> Result<Answer, Fault>
     ensures answer { IfOk result (λ answer. IsAccepted text.now answer) }
     ensures refused { IfErr result (λ fault. HasNoProgram text.now fault) }
@@ -54,7 +54,7 @@ fn accepted(alloc: Global, text: &[u8]) -> Result<Answer, Fault>
     Ok(Answer::Accepted)
 }
 
-// What the program does on the input words. 40 where memory was refused as it ran.
+// What the program does on the input words. 40 if memory was refused as it ran.
 fn ran(alloc: Global, text: &[u8], words: &[u32], steps: u64) -> Result<Answer, Fault>
     ensures answer { IfOk result (λ answer. IsRan steps words.now text.now answer) }
     ensures refused { IfErr result (λ fault. HasNoProgram text.now fault) }
@@ -78,7 +78,7 @@ pub fn mode_of(kind: Kind) -> Mode
     }
 }
 
-// The program's fault for one of compiling.
+// The program's fault for a fault of compiling.
 fn fault_of_build(fault: BuildFault) -> Fault
     ensures { (mode : Mode) (text : List ℕ) → IsBuildRefusalIn mode text fault → HasNoImage mode text result }
 {
@@ -101,7 +101,7 @@ pub(crate) fn compiled(alloc: Global, mode: Mode, text: &[u8]) -> Result<Compile
     }
 }
 
-// What the program's image does on the input words. 40 where memory was refused as it ran.
+// What the program's image does on the input words. 40 if memory was refused as it ran.
 fn executed(
     alloc: Global,
     mode: Mode,
@@ -150,7 +150,7 @@ fn in_hex(alloc: Global, mode: Mode, text: &[u8]) -> Result<Answer, Fault>
     }
 }
 
-// What the program's image takes.
+// How much memory the program's image takes.
 fn sized(alloc: Global, mode: Mode, text: &[u8]) -> Result<Answer, Fault>
     ensures answer { IfOk result (λ answer. IsMeasured mode text.now answer) }
     ensures refused { IfErr result (λ fault. HasNoImage mode text.now fault) }
@@ -180,11 +180,11 @@ fn judged(alloc: Global, text: &[u8]) -> Result<Answer, Fault>
     }
 }
 
-/// The answer to a task for a text: `check` and `interpret` by its tree, `run`, `asm`, `image` and `size` by its image, which agrees with it and follows
-/// what the program shows in its mode.
+/// The answer to a task for a text: that of `check` and `interpret` comes from its tree, that of `run`, `asm`, `image` and `size`
+/// from its image, which agrees with it and follows what the program shows in its mode.
 ///
-/// Refusals: those of `typed_unit`; for `run`, `asm`, `image` and `size` then 22, 24 and 25 of `compile_in`; 40 where memory was
-/// refused.
+/// Refusals: those of `typed_unit`; for `run`, `asm`, `image` and `size` then 22, 24 and 25, as `compile_in` has them; 40 if
+/// memory was refused.
 pub fn answer_for(alloc: Global, task: &Task, text: &[u8]) -> Result<Answer, Fault>
     ensures answer { IfOk result (λ answer. Answers task.now text.now answer) }
     ensures refused { IfErr result (λ fault. IsRefused task.now text.now fault) }

@@ -9,7 +9,7 @@ use cc_link::{Mode, typed_unit};
 use cc_steps::{interpret_counted, run_counted};
 use std::alloc::Global;
 
-/// What the program does on the input words, and in how many steps. 40 where memory was refused as it ran.
+/// What the program does on the input words, and in how many steps. 40 if memory was refused as it ran.
 pub(crate) fn ran_counted(
     alloc: Global,
     text: &[u8],
@@ -28,7 +28,7 @@ pub(crate) fn ran_counted(
     }
 }
 
-/// What the program's image does on the input words, and in how many instructions. 40 where memory was refused as it ran.
+/// What the program's image does on the input words, and in how many instructions. 40 if memory was refused as it ran.
 pub(crate) fn executed_counted(
     alloc: Global,
     mode: Mode,

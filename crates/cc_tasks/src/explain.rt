@@ -1,4 +1,4 @@
-// What a person reads beside the answer: about a fault, and about a run that went wrong.
+// What a person reads besides the answer: about a fault, and about a run that went wrong.
 
 use super::fault::Fault;
 use cc_answers::{of_fault, words_of_task};
@@ -14,7 +14,7 @@ use std::io::{self, Write};
 /// What an answer leaves to be explained to a person.
 #[derive(Clone, Copy)]
 pub(crate) enum Matter {
-    /// What is to be warned of in the text.
+    /// The warnings of the text.
     Text,
     /// Why the program went wrong.
     Wrong(Cause),
@@ -27,20 +27,20 @@ pub(crate) enum Matter {
 /// The explanation of the answer to a text.
 #[derive(Drop)]
 pub struct Explanation {
-    /// Words about no place of the text.
+    /// Words that belong to no place of the text.
     pub words: Option<&'static str>,
     /// The explanation of the fault, or of what went wrong in a run.
     pub first: Option<Diagnostic>,
     /// The calls that were open as a run went wrong, the innermost first.
     pub calls: Vec<Diagnostic>,
-    /// What would be said if the fault were mended, up to twenty in all.
+    /// What would be reported if the fault were mended, up to twenty in all.
     pub further: Vec<Diagnostic>,
-    /// What is warned of in a program.
+    /// The warnings of a program.
     pub warnings: Vec<Diagnostic>,
 }
 
 impl Explanation {
-    // Nothing but these words.
+    // Only these words.
     fn words(alloc: Global, words: Option<&'static str>) -> Explanation {
         Explanation {
             words,
@@ -104,8 +104,8 @@ pub fn explanation_of_program(alloc: Global, text: &[u8]) -> Explanation {
     explanation
 }
 
-/// The explanation of a run of a text that goes wrong for a cause, if a task answered so: the place, the function, the values, and which calls are
-/// open. The run is done once more for that. Nothing if memory for it runs out.
+/// The explanation of a run of a text that goes wrong for a cause, if a task gave that answer: the place, the function, the
+/// values, and which calls are open. The run is repeated for that. Nothing if memory for it runs out.
 pub fn explanation_of_wrong(alloc: Global, task: &Task, text: &[u8], cause: Cause) -> Explanation {
     match task {
         Task::Interpret(steps, words) | Task::InterpretCounted(steps, words) => {
@@ -122,10 +122,11 @@ pub fn explanation_of_wrong(alloc: Global, task: &Task, text: &[u8], cause: Caus
     }
 }
 
-/// How many steps the program is interpreted at most to find where its image has stopped.
+/// At most this many steps of the program are interpreted to find where its image has stopped.
 const MOST_EXPLAINED: u64 = 100_000_000;
 
-// Why a program goes wrong on the input words within the steps; nothing if it does not, or for too many open calls, by which no image stops.
+// Why a program goes wrong on the input words within the steps. Nothing if it does not, or if it has too many open calls: no
+// image stops for that.
 fn stopping_cause(alloc: Global, text: &[u8], words: &[u32], steps: u64) -> Option<Cause> {
     let Ok(unit) = typed_unit(alloc, text) else {
         return None;
@@ -139,8 +140,9 @@ fn stopping_cause(alloc: Global, text: &[u8], words: &[u32], steps: u64) -> Opti
     }
 }
 
-/// The explanation of a run of an image that goes on. For a checked one it is the place at which it has stopped, if the program goes wrong within
-/// as many steps, 100,000,000 at most; else it is the warnings of the text. The program is interpreted for that.
+/// The explanation of a run of an image that goes on. For a checked image it is the place at which it has stopped, if the program
+/// goes wrong within the same number of steps, 100,000,000 at most; otherwise it is the warnings of the text. The program is
+/// interpreted for that.
 pub fn explanation_of_going(alloc: Global, task: &Task, text: &[u8]) -> Explanation {
     let (steps, words) = match task {
         Task::Run(Kind::Checked, steps, words) | Task::RunCounted(Kind::Checked, steps, words) => {
@@ -171,7 +173,7 @@ pub(crate) fn explanation_of_matter(
     }
 }
 
-// Writes each of some diagnostics.
+// Writes each of these diagnostics.
 fn write_each<W: Write>(
     alloc: Global,
     text: &[u8],
@@ -185,7 +187,7 @@ fn write_each<W: Write>(
     Ok(())
 }
 
-/// Writes the explanation of a text that comes from there.
+/// Writes the explanation of a text that comes from `origin`.
 pub fn write_explanation<W: Write>(
     alloc: Global,
     text: &[u8],

@@ -29,7 +29,7 @@ pub enum Fault {
     /// 25, 40: the pieces make no image.
     #[error(transparent)]
     Link(LinkFault),
-    /// 59: the program defines no function of the name that is asked for.
+    /// 59: the program defines no function with the name that is asked for.
     #[error("UnknownFunction")]
     UnknownFunction,
     /// 40: memory was refused as the text was read, or as an image ran.
@@ -70,7 +70,7 @@ impl Fault {
         }
     }
 
-    /// Where in the text the fault stands, where it stands in the text.
+    /// The fault's place in the text, if it has one.
     pub fn place(&self) -> Option<Place>
         ensures { result ≡ fault_place self.now }
     {
@@ -86,7 +86,7 @@ impl Fault {
         }
     }
 
-    /// Where in the text the fault stands, for what is told of it there.
+    /// The fault's place in the text, for what is written about it there.
     pub(crate) fn stands(&self) -> Stands<'_>
         ensures { (text : List ℕ) → position_text text result ≡ where_text text self.now }
     {

@@ -23,7 +23,7 @@ use thiserror::Error;
 /// Why there is no part of a unit.
 #[derive(Clone, Copy, Debug, Drop, Error)]
 pub enum PartFault {
-    /// 33: what should be a name is none.
+    /// 33: what should be a name is not one.
     #[error("BadName")]
     BadName,
     /// 32: no unit has the name.
@@ -63,7 +63,7 @@ pub fn part_of(alloc: Global, unit: &StoredUnit, part: Part) -> Result<Vec<u8>, 
 
 /// A part of the unit that has this name in a map: its image as Intel HEX, or its source's bytes.
 ///
-/// Refusals, in this order: 33 where the bytes are no name, 32 where no unit has it, 40 where memory ran out.
+/// Refusals, in this order: 33 if the bytes are no name, 32 if no unit has it, 40 if memory ran out.
 pub fn part_in(
     alloc: Global,
     units: &UnitMap,
@@ -85,7 +85,7 @@ pub fn part_in(
     }
 }
 
-/// Writes which names of the map are near. Nothing where memory for that runs out.
+/// Writes which names of the map are near. It writes nothing if memory for that runs out.
 pub fn explain_absent<W: Write>(
     alloc: Global,
     units: &UnitMap,
@@ -110,8 +110,9 @@ fn slices_of(alloc: Global, names: &[Name]) -> Result<Vec<&[u8]>, AllocError> {
     Ok(slices)
 }
 
-/// A part of the unit that the library on a disk keeps under this name, as `part_in` has it; the disk is handed back. Nothing is written to
-/// it. Of a name that no unit has it is written to `explanations` which one is near; where that can't be written, it is not told.
+/// A part of the unit that the library on a disk keeps under this name, as `part_in` has it; the disk is handed back. Nothing is
+/// written to the disk. If no unit has the name, a near one is written to `explanations`; if that can't be written, it is left
+/// out.
 ///
 /// Refusals: first those of `Library::open`, 35, 38, 37 and 40; then those of `part_in`.
 pub fn take_out<D: Disk + Drop, E: Write>(
@@ -121,7 +122,7 @@ pub fn take_out<D: Disk + Drop, E: Write>(
     part: Part,
     explanations: &mut E,
 ) -> (Result<Vec<u8>, PartFault>, D)
-    // Of an honest disk it is the part of the unit to which the disk recovers under that name.
+    // On an honest disk, the result is the part of the unit that has the name in the map to which the disk recovers.
     ensures part { IfOk result.0 (λ bytes. IsTrue D.honest → IsPartOn (D.seen disk) name.now part bytes.items) }
     // When each refusal comes.
     ensures refused { IfErr result.0 (λ fault. IsNoPartOn D.honest (D.seen disk) (D.failures disk) (D.failures result.1) name.now fault) }
@@ -150,7 +151,7 @@ fn write_found<W: Write>(found: &Result<Vec<u8>, PartFault>, writer: &mut W) -> 
     }
 }
 
-/// Writes what was taken out, or the line of why there is nothing, and flushes the writer. 54 if it could not be written.
+/// Writes what was taken out, or the line that says why there is nothing, and flushes the writer. 54 if it could not be written.
 #[tactic(auto, using(crate::proofs::Working::written))]
 pub fn write_part<W: Write>(found: &Result<Vec<u8>, PartFault>, writer: &mut W) -> Result<(), Fault>
     ensures { Writes (W.contents writer.old) (W.contents writer.new) (found_text found.now) result }

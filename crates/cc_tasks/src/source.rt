@@ -11,7 +11,7 @@ use std::io::Read;
 
 /// The bytes of a reader up to its end, or the first `MOST_READ` of them.
 ///
-/// `Read` where a read fails, `OutOfMemory` where there is no room for the bytes.
+/// `Read` if a read fails, `OutOfMemory` if there is no room for the bytes.
 pub fn read_source<R: Read>(alloc: Global, reader: &mut R) -> Result<Vec<u8>, Fault>
     ensures few { IfOk result (λ text. vec_len text ≤ MOST_READ) }
     ensures text { IfOk result (λ text. IsTextOf (R.remaining reader.old) text.items) }

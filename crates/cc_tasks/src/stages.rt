@@ -1,4 +1,4 @@
-// Showing what the compiler makes of a text's functions, over any reader and writer.
+// Shows what the compiler makes of a text's functions, over any reader and writer.
 
 ghost use Rattle.std.specs.Prelude.{◌≡◌, ◌≤◌, IsErrOf, IfErr, MatchOption};
 ghost use Rattle.cc_tasks.specs.internal.Shown.{IsUnknown, IsTextRefused};
@@ -18,7 +18,7 @@ use cc_types::TypedUnit;
 use std::alloc::{AllocError, Global};
 use std::io::{self, Read, Write};
 
-// The program's fault for one of the stages.
+// The program's fault for a fault of the stages.
 fn fault_of(fault: StagesFault) -> Fault
     ensures { result ≡ fault_of_stages fault }
 {
@@ -31,7 +31,8 @@ fn fault_of(fault: StagesFault) -> Fault
     }
 }
 
-// Writes the stages of the functions of a text, or of the one of that name. What was written stays written where a fault comes behind it.
+// Writes the stages of the functions of a text, or of the one function with that name. If a fault comes later, what was written
+// stays written.
 fn show<W: Write>(
     alloc: Global,
     kind: Kind,
@@ -52,7 +53,7 @@ fn show<W: Write>(
     }
 }
 
-// Writes the stages, or the fault's line behind what was written of them.
+// Writes the stages. If there is a fault, its line comes after what was written of them.
 fn tell<W: Write>(
     alloc: Global,
     kind: Kind,
@@ -70,7 +71,7 @@ fn tell<W: Write>(
     }
 }
 
-/// Shows the text of a reader.
+/// Shows what the compiler makes of the functions of a reader's text.
 pub(crate) fn try_stages<R: Read, W: Write>(
     alloc: Global,
     kind: Kind,
@@ -102,7 +103,7 @@ fn names_of(alloc: Global, unit: &TypedUnit) -> Result<Vec<&[u8]>, AllocError> {
     Ok(names)
 }
 
-// Writes what is told of the name of a function that a text does not define. Nothing where memory for that runs out.
+// Writes that a text defines no function of this name, and which one is near. It writes nothing if memory for that runs out.
 fn explain_name<W: Write>(
     alloc: Global,
     text: &[u8],
@@ -118,7 +119,7 @@ fn explain_name<W: Write>(
     }
 }
 
-/// Explains what was told of a text that comes from there.
+/// Explains what was written for a text that comes from `origin`.
 pub(crate) fn explain_stages<W: Write>(
     alloc: Global,
     function: Option<&[u8]>,
@@ -140,12 +141,12 @@ pub(crate) fn explain_stages<W: Write>(
     let _ = writer.flush();
 }
 
-/// Shows what the compiler makes of the functions of the text that `reader` has, or of the one of that name: writes the stages to `writer`,
-/// and where there is a fault its line behind them.
+/// Shows what the compiler makes of the functions of the text that `reader` has, or of the one with that name: writes the stages
+/// to `writer`, and the fault's line after them if there is a fault.
 ///
-/// The status is 0 where all is shown, and 1 for a fault. Faults are those of `asm`, and 59 where the text is a program that defines
-/// no function of that name; a function that is refused (22, 24) has the stages up to the one that says so. Of a write that fails (54)
-/// no line is written.
+/// The status is 0 if all is shown, and 1 for a fault. Faults are those of `asm`, and 59 if the text is a program that defines no
+/// function with that name; a function that is refused (22, 24) has the stages up to the one that says so. If a write fails (54),
+/// no line is written for that.
 pub fn perform_stages<H: AllocGlobal, R: Read, W: Write>(
     rt: &H,
     kind: Kind,
@@ -159,8 +160,8 @@ pub fn perform_stages<H: AllocGlobal, R: Read, W: Write>(
     status(performed)
 }
 
-/// Shows the functions as `perform_stages` does, and writes to `explanations` what helps a person with a fault, as `perform_and_explain`
-/// does; of a name that no function has, which one is near.
+/// Shows the functions as `perform_stages` does, and writes to `explanations` what helps a person with a fault, as
+/// `perform_and_explain` does; for a name that no function has, which one is near.
 pub fn perform_and_explain_stages<H: AllocGlobal, R: Read, W: Write, E: Write>(
     rt: &H,
     kind: Kind,

@@ -1,9 +1,9 @@
-// What is told of a name that nothing has.
+// What a person reads about a name that nothing has.
 
 use cc_diagnostic::near_name;
 use std::io::{self, Write};
 
-/// How many names are told where none is near.
+/// How many names are written if none is near.
 const MOST_NAMES: usize = 8;
 
 // Writes a word; what would steer a terminal is shown as `?`.
@@ -15,7 +15,7 @@ fn write_shown<W: Write>(word: &[u8], writer: &mut W) -> io::Result<()> {
     Ok(())
 }
 
-// Writes the first of these names.
+// Writes the first few of these names.
 fn write_names<W: Write>(names: &[&[u8]], writer: &mut W) -> io::Result<()> {
     for (i, name) in names.iter().take(MOST_NAMES).enumerate() {
         writer.write_all(if i == 0 { b": there is '" } else { b", '" })?;
@@ -28,8 +28,8 @@ fn write_names<W: Write>(names: &[&[u8]], writer: &mut W) -> io::Result<()> {
     Ok(())
 }
 
-/// Writes that nothing of this kind, for example no function, has the name, and which of the names that there are is near; where none is,
-/// the first of them.
+/// Writes that nothing of this kind, for example no function, has the name, and which of the existing names is near; if no name
+/// is near, the first few of them.
 pub fn explain_unknown<W: Write>(
     kind: &str,
     name: &[u8],

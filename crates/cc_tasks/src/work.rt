@@ -1,4 +1,4 @@
-// Doing a task over any reader and writer.
+// Does a task over any reader and writer.
 
 ghost use Rattle.std.specs.Prelude.{◌≡◌, ◌≤◌, Bool, IfOk, IfErr, OnOk};
 ghost use Rattle.std.specs.Io.KnownBytes.{Appends};
@@ -42,7 +42,7 @@ fn write_outcome<W: Write>(outcome: &Outcome, writer: &mut W) -> io::Result<()>
     write_stop(outcome.stop, writer)
 }
 
-// Writes the line of a number of steps.
+// Writes the line for a number of steps.
 fn write_steps<W: Write>(steps: u64, writer: &mut W) -> io::Result<()>
     ensures { OnOk result (Appends (W.contents writer.old) (W.contents writer.new) (steps_text steps)) }
 {
@@ -57,7 +57,7 @@ fn write_counted_outcome<W: Write>(done: &CountedOutcome, writer: &mut W) -> io:
     write_steps(done.steps, writer)
 }
 
-/// Writes an answer: the lines that `perform` writes of it.
+/// Writes an answer: the lines that `perform` writes for it.
 pub fn write_answer<W: Write>(answer: &Answer, writer: &mut W) -> io::Result<()>
     ensures { OnOk result (Appends (W.contents writer.old) (W.contents writer.new) (answer_text answer.now)) }
 {
@@ -125,7 +125,8 @@ fn matter_of(answer: &Answer) -> Matter
     }
 }
 
-/// Writes the line of a fault of a text, and flushes the writer: the fault, or 54 if its line could not be written.
+/// Writes the line for a fault of a text, and flushes the writer. The result is the fault, or 54 if its line could not be
+/// written.
 #[tactic(auto, using(crate::proofs::Working::refused_by))]
 pub(crate) fn refused<W: Write>(fault: Fault, text: &[u8], writer: &mut W) -> Fault
     ensures { RefusesBy fault text.now (W.contents writer.old) (W.contents writer.new) result }
@@ -153,7 +154,7 @@ fn tell_answer<W: Write>(answer: &Answer, writer: &mut W) -> Result<Matter, Faul
     }
 }
 
-// Does a task for a text: writes the answer, or the fault's line, and answers what is left to be explained.
+// Does a task for a text: writes the answer, or the fault's line. The result is what is left to be explained.
 #[tactic(auto, using(crate::proofs::Working::told_answer, crate::proofs::Working::told_fault))]
 fn tell<W: Write>(alloc: Global, task: &Task, text: &[u8], writer: &mut W) -> Result<Matter, Fault>
     ensures { TellsOf task.now text.now (W.contents writer.old) (W.contents writer.new) result }
@@ -164,14 +165,14 @@ fn tell<W: Write>(alloc: Global, task: &Task, text: &[u8], writer: &mut W) -> Re
     }
 }
 
-/// A text as far as it was read, and what a task told of it: the fault, or what is left to be explained.
+/// The part of a text that was read, and how a task ended for it: the fault, or what is left to be explained.
 #[derive(Drop)]
 pub(crate) struct Performed {
     pub(crate) text: Vec<u8>,
     pub(crate) told: Result<Matter, Fault>,
 }
 
-/// The text of a reader; where it can't be read, the fault's line is written.
+/// The text of a reader; if it can't be read, the fault's line is written.
 pub(crate) fn read_text<R: Read, W: Write>(
     alloc: Global,
     reader: &mut R,
@@ -209,7 +210,7 @@ pub(crate) fn try_perform<R: Read, W: Write>(
     }
 }
 
-/// Explains what a task told of a text that comes from there.
+/// Explains how a task ended for a text that comes from `origin`.
 pub(crate) fn explain<W: Write>(
     alloc: Global,
     task: &Task,
@@ -226,7 +227,7 @@ pub(crate) fn explain<W: Write>(
     let _ = writer.flush();
 }
 
-/// What is told of an answer to a task for a text, as `perform_and_explain` tells it.
+/// The explanation of an answer to a task for a text, as `perform_and_explain` writes it.
 pub fn explanation_of_answer(
     alloc: Global,
     task: &Task,
@@ -247,7 +248,7 @@ fn status_of_matter(matter: Matter) -> u8
     }
 }
 
-/// The status with which a task ends that has this answer.
+/// The status with which a task with this answer ends.
 pub fn status_of_answer(answer: &Answer) -> u8
     ensures answer { result ≡ answer_status answer.now }
     ensures bound { result ≤ 1 }
@@ -271,11 +272,11 @@ pub(crate) fn status(performed: Performed) -> u8
 pub struct Done {
     /// The status: that of the answer, and 1 for a fault.
     pub status: u8,
-    /// Whether all that was to be written is. If it is not, that is 54, and the status is 1.
+    /// Whether all that was to be written is written. If not, the fault is 54, and the status is 1.
     pub is_written: bool,
 }
 
-// Whether a fault is told by its line.
+// Whether a fault is reported by its line.
 fn is_told(fault: &Fault) -> bool
     ensures { result ≡ is_told fault.now }
 {
@@ -291,7 +292,7 @@ fn is_told(fault: &Fault) -> bool
     }
 }
 
-/// How a task ended that was done.
+/// How a task that was done ended.
 pub(crate) fn ended(performed: Performed) -> Done
     ensures status { result.status ≡ status_of performed.told }
     ensures written { result.is_written ≡ written_of performed.told }
@@ -310,8 +311,8 @@ pub(crate) fn ended(performed: Performed) -> Done
 
 /// Does a task: reads the text from `reader`, and writes the answer or the fault's line to `writer`.
 ///
-/// The status is 0 for an answer, but 1 for one of `safe` that the program may go wrong, and 1 for a fault. A read that fails is fault 53; a
-/// write that fails is fault 54, of which no line is written.
+/// The status is 0 for an answer, but 1 for an answer of `safe` that the program may go wrong, and 1 for a fault. A read that
+/// fails is fault 53; a write that fails is fault 54, for which no line is written.
 pub fn carry_out<H: AllocGlobal, R: Read, W: Write>(
     rt: &H,
     task: Task,
@@ -324,25 +325,24 @@ pub fn carry_out<H: AllocGlobal, R: Read, W: Write>(
     ended(performed)
 }
 
-/// Does a task as `carry_out` does; the status.
+/// Does a task as `carry_out` does. The result is the status.
 pub fn perform<H: AllocGlobal, R: Read, W: Write>(
     rt: &H,
     task: Task,
     reader: &mut R,
     writer: &mut W,
 ) -> u8
-    // Of a status alone it is not known whether all is written.
+    // The status alone does not say whether all is written.
     ensures { (written : Bool) × IsPerformed task (R.remaining reader.old) (W.contents writer.old) (W.contents writer.new) result written }
 {
     let done = carry_out(rt, task, reader, writer);
     done.status
 }
 
-/// Does a task as `carry_out` does, and writes to `explanations` what helps a person with a fault or with a run that went wrong: the
-/// place, as editors read it, what was found there and what was expected, and the line of the text; so of a checked image that has stopped
-/// in place; of another program what is warned of.
-/// Of a write to `writer` that fails it says so. Where memory for an explanation runs out, or it can not be written, there is none; the
-/// status is the same.
+/// Does a task as `carry_out` does, and writes to `explanations` what helps a person with a fault or with a run that went wrong:
+/// the place, as editors read it, what was found there and what was expected, and the line of the text. It does the same for a
+/// checked image that has stopped in place; for another program it writes the warnings. If a write to `writer` fails, it says so.
+/// If memory for an explanation runs out, or it cannot be written, there is none; the status is the same.
 pub fn perform_and_explain<H: AllocGlobal, R: Read, W: Write, E: Write>(
     rt: &H,
     task: Task,

@@ -1,5 +1,5 @@
 -- The constant that the scanner finds in a number is the one that the number spells, and it finds none if the number spells none.
--- One direction is by the three bases, the other by the three prefixes and the two suffixes.
+-- One direction goes through the three bases, the other through the three prefixes and the two suffixes.
 use Rattle.std.proofs.Common.{◌≡◌, ℕ, suc, zero, ◌+◌, ◌≤◌, ◌⊎◌, Bool, true, false, not, ◌&&◌, ◌||◌, ◌==◌, List, [], ◌∷◌, ◌++◌, length, get_or, take, drop, refl, sym, ap, ◌∙◌, arith, subst, ⊎_elim, inl, inr, Option, Some, None}
 use Rattle.std.specs.Prelude.{IsTrue}
 use Rattle.std.specs.List.{prefix_len, AllByRecursion}
@@ -27,7 +27,7 @@ head_digits p (b ∷ bs) =
     let e = one-add (prefix_len p bs) in
     cond_both (p b) (1 + prefix_len p bs) 0 (λ n. AllByRecursion (λ x. IsTrue (p x)) (take n (b ∷ bs))) (λ yes. subst (λ n. AllByRecursion (λ x. IsTrue (p x)) (take n (b ∷ bs))) (sym e) (yes, ih)) (λ no. tt)
 
--- and all digits are counted, if what follows begins with none
+-- all digits are counted, if what follows begins with none
 prefix_len_cut : (p : ℕ → Bool) (digits rest : List ℕ) → AllByRecursion (λ b. IsTrue (p b)) digits → prefix_len p rest ≡ 0 → prefix_len p (digits ++ rest) ≡ length digits
 prefix_len_cut p [] rest all stops = stops
 prefix_len_cut p (d ∷ digits) rest all stops =

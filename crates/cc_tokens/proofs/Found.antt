@@ -67,7 +67,7 @@ pub head_at : (text : List ℕ) (at : ℕ) (f : Head) → at < length text → f
 head_at text at f below e =
     subst (IsHead (drop at text)) (sym (e ∙ ap head_of (take_rest text at))) (head_sound (drop at text) (omega (arith, length-drop at text)))
 
--- at the end of the text
+-- at the end of the text, the tokens that were found are all its tokens
 pub found_all : (text : List ℕ) (ts : List Token) (at : ℕ) → FoundBefore text ts at → length text ≤ at → IsTokens text (lexemes text ts)
 found_all text ts at found past = record {
   pieces = found.pieces;
@@ -78,7 +78,7 @@ found_all text ts at found past = record {
 pub order_all : (text : List ℕ) (ts : List Token) (at : ℕ) → FoundBefore text ts at → AreInOrder 0 ts (length text)
 order_all text ts at found = order_grows 0 ts at (length text) found.ordered found.within
 
--- at an error
+-- an error at the offset is the text's first
 pub found_error : (text : List ℕ) (ts : List Token) (at k : ℕ) (error : LexicalError) → FoundBefore text ts at → IsLexicalError error (drop at text) k → FirstLexicalError text error (at + k)
 found_error text ts at k error found erroneous = record {
   pieces = found.pieces;

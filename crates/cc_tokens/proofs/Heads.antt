@@ -181,7 +181,7 @@ mark_sound b bs (Some p) no_blank no_comment no_word no_number e =
       },
     )
 
--- a comment at the beginning of the bytes, by the line splices in it
+-- a comment at the beginning of the bytes, depending on the line splices in it
 splices_sound : (c after bytes : List ℕ) → IsComment c after → 0 < length c → bytes ≡ c ++ after → IsHead bytes (comment_of (length c) bytes)
 splices_sound c after bytes commented some whole =
     let n = length c in

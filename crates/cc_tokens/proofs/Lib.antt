@@ -11,7 +11,7 @@ pub mod Tables
 pub mod Runs
 -- the constant that is found is the one that is spelled
 pub mod ConstantForms
--- the longest token is found, by the first byte
+-- the longest token is found, given the first byte
 pub mod Words
 -- the punctuator that is found is the longest
 pub mod Punctuators

@@ -15,7 +15,7 @@ use Rattle.cc_tokens.proofs.Heads.{IsHead, head_sound}
 use Rattle.cc_tokens.specs.Reading.{FoundBefore}
 use Rattle.cc_tokens.proofs.Found.{found_none, found_blank, found_comment, found_token, found_all}
 
--- one step on a text, by what comes next
+-- one step on a text, depending on what comes next
 module _ (text : List ℕ) (ts : List Token) (at : ℕ) (found : FoundBefore text ts at) (some : 0 < length (drop at text)) where
   at_blank : head_of (drop at text) ≡ head.Blank → FoundBefore text ts (at + 1)
   at_blank e = let stands = subst (IsHead (drop at text)) e (head_sound (drop at text) some) in found_blank text ts at 1 found stands.0 stands.1

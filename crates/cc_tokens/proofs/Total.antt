@@ -24,7 +24,7 @@ goes text ps rest n most p cut size stands on =
     let some = stands.some in
     on (ps ++ p ∷ []) stands.after (cut_more ps p text rest stands.after cut whole stands.stands) (omega arith)
 
--- by what the rest begins with
+-- the text is cut further, depending on what the rest begins with
 by_head : (text : List ℕ) (ps : List TextPiece) (rest : List ℕ) (most : ℕ) (f : Head) → IsCut ps text rest → length rest ≤ suc most → IsHead rest f
     → ((qs : List TextPiece) (left : List ℕ) → IsCut qs text left → length left ≤ most → Ends text) → Ends text
 unfolding Ends

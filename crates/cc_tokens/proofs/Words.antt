@@ -67,7 +67,7 @@ some_bytes (b ∷ bs) e = omega arith
 pub punctuator_some : (p : Punctuator) → 0 < length (punctuator_bytes p)
 punctuator_some p = some_bytes (punctuator_bytes p) (punctuator_begins p)
 
--- a prefix that can be a token is a run, by the first byte
+-- a prefix that can be a token is a run of the kind that its first byte decides
 record IsRunFrom (may : ℕ → ℕ → Bool) (b : ℕ) (bs other rest : List ℕ) : Type 0 where
   pub behind : List ℕ
   pub whole : other ≡ b ∷ behind

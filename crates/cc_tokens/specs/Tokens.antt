@@ -207,11 +207,11 @@ abbrev pub AreInOrder : (low : ℕ) → List Token → (high : ℕ) → Type 0
 AreInOrder low [] high = low ≤ high
 AreInOrder low (t ∷ ts) high = (low ≤ t.from) × (t.from < t.to) × AreInOrder t.to ts high
 
--- the most bytes that a text may have
+-- the largest number of bytes that a text may have
 abbrev pub most_bytes : ℕ
 most_bytes = 65536
 
--- the text fits within that, and the fault is that of its first error, at that error's place
+-- the text has at most that many bytes, and the fault is that of its first error, at that error's place
 pub record IsLexicalFault (text : List ℕ) (fault : SyntaxFault) : Type 0 where
   pub fits : length text ≤ most_bytes
   pub error : LexicalError

@@ -14,7 +14,7 @@ use super::scan::{Head, head_of};
 use super::token::Token;
 use std::alloc::Global;
 
-/// The most bytes that a text may have.
+/// The largest number of bytes that a text may have.
 pub const MOST_BYTES: usize = 65536;
 
 // The fault for an error at an offset.

@@ -171,7 +171,7 @@ fn keywords_with(first: u8) -> &'static [Keyword]
     }
 }
 
-// The first of some keywords that is spelled by these bytes.
+// The first of these keywords that the bytes spell.
 fn keyword_in(few: &[Keyword], word: &[u8]) -> Option<Keyword>
     ensures { result ≡ find (λ k. bytes_eq (keyword_bytes k) word.now) few.now }
 {
@@ -239,7 +239,7 @@ fn punctuators_with(first: u8) -> &'static [Punctuator]
     }
 }
 
-// The first of some punctuators that the bytes begin with.
+// The first of these punctuators that the bytes begin with.
 fn punctuator_in(few: &[Punctuator], bytes: &[u8]) -> Option<Punctuator>
     ensures { result ≡ find (λ p. starts_with (λ a b. a == b) bytes.now (punctuator_bytes p)) few.now }
 {

@@ -3,7 +3,7 @@
 use cc_syntax::Identifier;
 use std::alloc::{AllocError, Global};
 
-/// The most arguments of a call: no function has more parameters.
+/// A call has at most this many arguments: no function has more parameters.
 const MOST_ARGUMENTS: usize = 8;
 
 /// The arguments of a call.
@@ -14,7 +14,7 @@ pub struct Arguments {
 }
 
 impl Arguments {
-    /// The first of these words.
+    /// Keeps these words, at most the first eight of them.
     pub fn of(given: &[u32]) -> Arguments {
         let mut words = [0u32; 8];
         for (place, word) in words.iter_mut().zip(given) {
@@ -56,7 +56,7 @@ pub struct Counts {
 }
 
 impl Counts {
-    /// For so many instructions and functions, before any run.
+    /// The counts of this many instructions and functions, before any run.
     pub fn new(alloc: Global, instructions: usize, functions: usize) -> Result<Counts, AllocError> {
         Ok(Counts {
             instructions: zeros(alloc, instructions)?,
@@ -64,7 +64,7 @@ impl Counts {
         })
     }
 
-    /// Of nothing.
+    /// The counts of no instruction and no function.
     pub fn nothing(alloc: Global) -> Counts {
         Counts {
             instructions: Vec::new(alloc),
@@ -91,7 +91,7 @@ pub struct Watch<'a> {
 }
 
 impl<'a> Watch<'a> {
-    /// Keeps nothing.
+    /// A watch that keeps nothing.
     pub fn nothing(alloc: Global) -> Watch<'a> {
         Watch {
             events: Vec::new(alloc),
@@ -101,7 +101,7 @@ impl<'a> Watch<'a> {
         }
     }
 
-    /// Keeps the newest events, up to this many.
+    /// A watch that keeps the newest events, up to this many.
     pub fn newest(alloc: Global, most: usize) -> Result<Watch<'a>, AllocError> {
         Ok(Watch {
             events: Vec::with_capacity(alloc, most)?,
@@ -111,7 +111,7 @@ impl<'a> Watch<'a> {
         })
     }
 
-    /// Counts on.
+    /// A watch that goes on with these counts, and keeps no events.
     pub fn counting(alloc: Global, counts: Counts) -> Watch<'a> {
         Watch {
             events: Vec::new(alloc),
@@ -149,7 +149,7 @@ impl<'a> Watch<'a> {
         }
     }
 
-    /// How many events were before the ones that are kept.
+    /// How many events came before the ones that are kept.
     pub fn forgotten(&self) -> u64 {
         self.seen.saturating_sub(self.events.len() as u64)
     }
@@ -159,7 +159,7 @@ impl<'a> Watch<'a> {
         self.events.len()
     }
 
-    /// The event with a number, from 0 for the oldest that is kept.
+    /// The event with this number, from 0 for the oldest that is kept.
     pub fn event(&self, number: usize) -> Option<Event<'a>> {
         if self.most == 0 {
             return None;

@@ -1,8 +1,8 @@
-// From which place in the text each instruction of a tree comes.
+// The place in the text from which each instruction of a tree comes.
 //
-// `cc_diagnostic` writes the instructions of a tree in the order of its text, and keeps no places. This walk goes over the
-// tree in the same order and writes a mark whenever that one writes an instruction, so that the marks are as many, in the same order. Whoever uses
-// them compares how many there are.
+// `cc_diagnostic` writes the instructions of a tree in the order of its text, and keeps no places. This walk goes over the tree
+// in the same order and writes a mark whenever that one writes an instruction, so there are as many marks, in the same order.
+// Whoever uses them compares how many there are.
 
 use cc_resolve::unary_operation;
 use cc_syntax::{
@@ -13,7 +13,7 @@ use cc_tokens::{Keyword, Token, TokenKind, tokens};
 use cc_types::{applied_operator, step_operator};
 use std::alloc::{AllocError, Global};
 
-/// What an instruction that comes from no place of the text has as its place.
+/// The place of an instruction that comes from no place of the text.
 pub const NOWHERE: usize = usize::MAX;
 
 /// The origin of an instruction: an offset in the text; and which name it gives a value, if the text says so there.
@@ -44,7 +44,7 @@ fn begins(token: Token) -> bool {
     }
 }
 
-// The offsets of such tokens.
+// The offsets of the tokens that begin such statements.
 fn words_of(alloc: Global, text: &[u8]) -> Result<Vec<usize>, AllocError> {
     match tokens(alloc, text) {
         Ok(tokens) => {
@@ -68,7 +68,7 @@ impl<'a> Marker<'a> {
         self.has_failed |= self.marks.push(Mark { at, name }).is_err();
     }
 
-    // One instruction at the newest place.
+    // Marks one instruction with the newest place.
     fn one(&mut self) {
         self.mark(self.here, None);
     }
@@ -153,7 +153,7 @@ impl<'a> Marker<'a> {
         self.store(target, applied_operator(step_operator(operator)).is_some());
     }
 
-    // What is written: the index of an element is pushed.
+    // The target of an assignment: the index of an element is pushed.
     fn goal(&mut self, target: &'a Target) {
         match target {
             Target::Variable(name) => self.here = name.at,
@@ -164,7 +164,7 @@ impl<'a> Marker<'a> {
         }
     }
 
-    // Takes a word into what is written, with an operator or without.
+    // Stores a word in the target, with an operator or without.
     fn store(&mut self, target: &'a Target, is_applied: bool) {
         let name = match target {
             Target::Variable(name) => {
@@ -327,7 +327,7 @@ fn is_logical(operator: BinaryOperator) -> bool {
     )
 }
 
-/// The marks of the instructions that `code_of` of `cc_diagnostic` writes of a unit.
+/// The marks of the instructions that `code_of` of `cc_diagnostic` writes for a unit.
 ///
 /// `AllocError` if memory for them runs out.
 pub fn marks_of(alloc: Global, unit: &Unit) -> Result<Vec<Mark<'_>>, AllocError> {

@@ -30,7 +30,8 @@ impl<'a> Traced<'a> {
     }
 }
 
-/// The instructions of a unit with their places. Nothing if the unit has no instructions, or if the two do not fit one another.
+/// The instructions of a unit with their places. Nothing if the unit has no instructions, or if there are not as many places as
+/// instructions.
 ///
 /// `AllocError` if memory for it runs out.
 pub fn traced_unit(alloc: Global, unit: &Unit) -> Result<Option<Traced<'_>>, AllocError> {

@@ -24,7 +24,7 @@ passed-append most n at (x ∷ xs) ys = by (nat_lt n most) (passed-append most (
 pub count_count : (c : Count) (xs ys : List Name) → count_after (count_after c xs) ys ≡ count_after c (xs ++ ys)
 count_count c xs ys i = record { most = c.most; names = counted-append c.most c.names xs ys i; past = passed-append c.most c.names c.past xs ys i }
 
--- one part of a list of names, and then the rest
+-- counting the first part of a list of names, and then the rest, counts the whole list
 pub count-next : (c d whole : Count) (xs ys os : List Name) → count_after c os ≡ whole → os ≡ xs ++ ys → d ≡ count_after c xs → count_after d ys ≡ whole
 count-next c d whole xs ys os before eo ed = ap (λ k. count_after k ys) ed ∙ count_count c xs ys ∙ sym (ap (count_after c) eo) ∙ before
 
@@ -33,7 +33,7 @@ count-two c d e xs ys os ed ee eo = ee ∙ ap (λ k. count_after k ys) ed ∙ co
 
 -- ---- if no name is past the number allowed
 
--- an offset that is kept does not change
+-- an offset that was found does not change
 passed-some : (most n at : ℕ) (xs : List Name) → is_some (passed most n (Some at) xs) ≡ true
 passed-some most n at [] = refl
 passed-some most n at (x ∷ xs) = by (nat_lt n most) (passed-some most (n + 1) at xs) (passed-some most n at xs)

@@ -57,7 +57,7 @@ module _ (old new : List (List ℕ × ℕ)) (x : List ℕ) (n : ℕ) (numbers : 
       by true h = let same : n ≡ m = cc in let within = inside in omega (arith, same, within)
       by false h = let few : m < length old = numbers.below y m h in let more = longer in omega (arith, few, more)
 
-  -- a name that had a number other than this one
+  -- no other name had the number `n`
   apart : (z : List ℕ) → same_name x z ≡ false → number_of_name old z ≡ Some n → true ≡ false
   apart z h e = by (number_of_name old x) refl
     where
@@ -115,7 +115,7 @@ IsNumbered-again names x n numbers own = record {
 
 -- ---- tables indexed by the numbers of names
 
--- the name's own number
+-- after this the name has number `n`
 pub number-own : (old new : List (List ℕ × ℕ)) (x : List ℕ) (n : ℕ) → IsNumbered old new x n → number_of_name new x ≡ Some n
 number-own old new x n is = is.found x ∙ ap (λ c. cond c (Some n) (number_of_name old x)) (nat_list_eq_equiv.refl x)
 
@@ -139,10 +139,10 @@ module _ {A : Type 0} where
       → (m : ℕ) → length new ≤ m → table m ≡ None
   rest-numbered old new x n table rest is m h = rest m (let l = is.longer in omega (arith, h, l))
 
-  -- a table that is changed at the number of one name
+  -- a table that was changed at the number of one name:
   module _ (names : List (List ℕ × ℕ)) (x : List ℕ) (n : ℕ) (own : number_of_name names x ≡ Some n) (numbers : AreNumbers names)
       (old new : ℕ → Option A) (w : Option A) (updates : (m : ℕ) → new m ≡ cond (nat_eq n m) w (old m)) where
-    -- has for every other name what it had
+    -- it has the new value for that name, and what it had for every other
     pub at-changed : (y : List ℕ) → at_number new (number_of_name names y) ≡ cond (same_name x y) w (at_number old (number_of_name names y))
     at-changed y = by (number_of_name names y) (same_name x y) refl refl
       where

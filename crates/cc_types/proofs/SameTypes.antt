@@ -1,4 +1,4 @@
--- Two functions' parameters, one by one.
+-- The types of two functions' parameters are compared one by one.
 use Rattle.std.proofs.Common.{◌≡◌, ◌≢◌, ℕ, suc, ◌+◌, ◌<◌, Bool, true, false, ◌&&◌, List, [], ◌∷◌, length, drop, get_or, drop-cons, refl, sym, ap, ◌∙◌, arith}
 use Rattle.cc_ast.specs.Erase.{parameter_trees}
 use Rattle.cc_ast.specs.scalar.Scalar.{Scalar}
@@ -24,7 +24,7 @@ types-of-other-lengths (p ∷ ps) (q ∷ qs) h =
     by true e = e
     by false e = refl
 
--- the types from a place on
+-- two lists of types from an index on are the same if the first types and the rest are
 pub types-at : (ps qs : List Parameter) (i : ℕ) (p q : Parameter) → drop i ps ≡ p ∷ drop (i + 1) ps → drop i qs ≡ q ∷ drop (i + 1) qs
     → same_scalars (types_of (drop i ps)) (types_of (drop i qs)) ≡ (same_scalar p.scalar q.scalar && same_scalars (types_of (drop (i + 1) ps)) (types_of (drop (i + 1) qs)))
 types-at ps qs i p q ep eq = ap (λ l. same_scalars (types_of l) (types_of (drop i qs))) ep ∙ ap (λ l. same_scalars (types_of (p ∷ drop (i + 1) ps)) (types_of l)) eq

@@ -68,7 +68,7 @@ not-found (b ∷ bs) x e = by (same_name b.name x) (not-found bs x) e
     by true f k = absurd cc
     by false f k = f k
 
--- what a look-up of a name finds, by the number of its newest binding
+-- what a look-up of a name finds, given the number of its newest binding
 pub entity_found-is : (bs : List Binding) (x : List ℕ) (r : Option Newest) → number_of r ≡ number_in (bindings_of bs) x → IfSome r (λ n. (d : Binding) → n.entity ≡ (get_or bs n.number d).entity)
     → entity_found r ≡ scope.found (bindings_of bs) x
 entity_found-is bs x None e h = sym (not-found (bindings_of bs) x (sym e))
@@ -138,7 +138,7 @@ module _ (bs : List Binding) (b : Binding) (names : List (List ℕ × ℕ)) (old
   found_is : (y : List ℕ) → at_number old (number_of_name names y) ≡ number_in (map binding_of (b ∷ reverse bs)) y
   found_is y = before.found y ∙ ap (λ l. number_in (map binding_of l) y) (reverse-push bs b)
 
-  -- the table without its newest binding: what that binding hid comes back
+  -- the table after the newest binding is removed: what it hid comes back
   pub IsTable-popped : (w : Option ℕ) → b.hidden ≡ w → ((m : ℕ) → new m ≡ cond (nat_eq b.number m) w (old m)) → IsTable bs names new
   IsTable-popped w ew updates = record {
     numbers = before.numbers;

@@ -21,8 +21,8 @@ abbrev pub number_in : List scope.Binding → List ℕ → Option ℕ
 number_in [] x = None
 number_in (b ∷ behind) x = if same_name b.name x then Some (length behind) else number_in behind x
 
--- each binding has the number of its name, and what was the newest binding of its name before it; the bindings are given newest
--- first
+-- each binding has the number of its name, and keeps what was the newest binding of its name before it; the bindings are given
+-- newest first
 abbrev pub AreHidden : List (List ℕ × ℕ) → List Binding → Type 0
 AreHidden names [] = Unit {0}
 AreHidden names (b ∷ rest) = (number_of_name names b.name.now ≡ Some b.number) × (b.hidden ≡ number_in (map binding_of rest) b.name.now) × AreHidden names rest
@@ -34,7 +34,7 @@ pub record IsTable (bs : List Binding) (names : List (List ℕ × ℕ)) (table :
   pub hidden : AreHidden names (reverse bs)
   pub rest : (n : ℕ) → length names ≤ n → table n ≡ None
 
--- what a look-up of a name finds
+-- the number that a look-up of a name finds
 abbrev pub number_of : Option Newest → Option ℕ
 number_of None = None
 number_of (Some n) = Some n.number
@@ -43,11 +43,11 @@ abbrev pub entity_found : Option Newest → Option scope.Entity
 entity_found None = None
 entity_found (Some n) = Some (entity_of n.entity)
 
--- the scope made of some bindings, if the innermost scope has declared this many of them
+-- the scope made of some bindings, if the innermost scope has declared `inner` of them
 abbrev pub scope_of : List scope.Binding → ℕ → Visible
 scope_of all inner = record { inner = take inner all; outer = drop inner all }
 
--- the scope after an inner one is closed, if it has declared this many names
+-- the scope after the inner one is closed, if the scope around it has declared `around` names
 abbrev pub closed : ℕ → Visible → Visible
 closed around v = record { inner = take around v.outer; outer = drop around v.outer }
 

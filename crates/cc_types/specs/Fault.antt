@@ -6,7 +6,7 @@ use Rattle.cc_types.specs.declared.rule.Rule.TheVariants as rule
 use Rattle.cc_types.specs.declared.fault.TypeFault.{TypeFault}
 use Rattle.cc_types.specs.declared.fault.TypeFault.TheVariants.{Unknown, Redeclared, WrongKind, WrongCount, VoidValue, BadReturn, BadAssign, BadBreak, NoMain, Undefined, TooMany, OutOfMemory}
 
--- the number by which a fault is known
+-- the number of a fault
 abbrev pub fault_number : TypeFault → ℕ
 fault_number (Unknown p) = 11
 fault_number (Redeclared p) = 12

@@ -1,12 +1,12 @@
--- The limits that a unit may pass, each reported at the name that passes it.
+-- The limits that a unit may exceed, each reported at the name that exceeds it.
 use Rattle.std.specs.Prelude.{ℕ, ◌+◌, List, [], ◌∷◌, ◌++◌, length, take, drop, map, if◌then◌else◌, nat_lt}
 use Rattle.cc_ast.specs.Tree.{Name, Declarator, Beginning, Declares, Performs, Stmt, Stmts, end, next, Block, Local, Perform, Return, Break, Continue, If, IfElse, While, DoWhile, For, Signature, Object, Single, Array, Bytes, External, Declaration, Definition, Objects}
 use Rattle.cc_types.specs.Types.{object_words}
 use Rattle.cc_types.specs.declared.rule.RuleError.{RuleError}
 use Rattle.cc_types.specs.declared.rule.Rule.TheVariants.{TooMany}
 
--- the most parameters of a function; locals of a function, in all its blocks together and without its parameters; defined
--- functions; words of all objects at file scope together
+-- the largest allowed numbers: of parameters of a function; of locals of a function, in all its blocks together and without its
+-- parameters; of defined functions; of words of all objects at file scope together
 abbrev pub most_parameters : ℕ
 most_parameters = 8
 
@@ -19,11 +19,11 @@ most_functions = 64
 abbrev pub most_words : ℕ
 most_words = 65536
 
--- a limit is passed at this name
+-- a limit is exceeded at this name
 abbrev pub too_many : Name → RuleError
 too_many x = record { rule = TooMany; at = x.at }
 
--- the limit is passed at the first name past this many, if there is one
+-- the limit is exceeded at the first name after `most` names, if there is one
 abbrev pub past : ℕ → List Name → List RuleError
 past most names = map too_many (take 1 (drop most names))
 
@@ -81,7 +81,7 @@ object_name (Single x initial) = x
 object_name (Array x n values) = x
 object_name (Bytes x n values) = x
 
--- the object that passes the limit on words, if this many words are taken before
+-- the object that exceeds the limit on words, if `taken` words come before it
 abbrev pub word_excesses : ℕ → List Object → List RuleError
 word_excesses taken [] = []
 word_excesses taken (o ∷ rest) = if nat_lt most_words (taken + object_words o) then too_many (object_name o) ∷ [] else word_excesses (taken + object_words o) rest
@@ -97,6 +97,6 @@ abbrev pub externals_excesses : List External → List RuleError
 externals_excesses [] = []
 externals_excesses (e ∷ rest) = external_excesses e ++ externals_excesses rest
 
--- every limit that a unit passes
+-- every limit that a unit exceeds
 abbrev pub excesses : List External → List RuleError
 excesses externals = externals_excesses externals ++ (past most_functions (function_names externals) ++ word_excesses 0 (objects externals))

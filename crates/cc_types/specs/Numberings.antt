@@ -4,7 +4,7 @@ use Rattle.std.specs.Borrow.{Bor}
 use Rattle.std.specs.Map.{lookup}
 use Rattle.cc_types.specs.Names.{same_name}
 
--- some names with their numbers, from the map's entries
+-- the names with their numbers, from the map's entries
 abbrev pub numbered_in : List (Bor (List ℕ) × ℕ) → List (List ℕ × ℕ)
 numbered_in entries = map (λ (e : Bor (List ℕ) × ℕ). (e.0.now, e.1)) entries
 
@@ -17,11 +17,11 @@ pub record AreNumbers (names : List (List ℕ × ℕ)) : Type 0 where
   pub one : (x y : List ℕ) (n : ℕ) → number_of_name names x ≡ Some n → number_of_name names y ≡ Some n → same_name x y ≡ true
   pub below : (x : List ℕ) (n : ℕ) → number_of_name names x ≡ Some n → n < length names
 
--- the number that a name gets: its own if it has one, else the next
+-- the number that a name gets: its own if it has one, otherwise the next
 abbrev pub number_or_next : List (List ℕ × ℕ) → List ℕ → ℕ
 number_or_next names x = elim (number_of_name names x) [ None ↦ length names | Some n ↦ n ]
 
--- the name has its own number or gets the next, and every other name keeps what it had
+-- the name has its own number or gets the next, and every other name keeps its number
 pub record IsNumbered (old new : List (List ℕ × ℕ)) (x : List ℕ) (n : ℕ) : Type 0 where
   pub number : n ≡ number_or_next old x
   pub found : (y : List ℕ) → number_of_name new y ≡ (if same_name x y then Some n else number_of_name old y)

@@ -1,6 +1,6 @@
 -- The rules of scope and type, given by the places where a unit breaks them. Each part of the tree lists the rules that it
--- breaks, in its scope. The order in which a checker goes is not part of this. After an error, the part is judged as if its type
--- were int. The numbers in parentheses are clauses of ISO/IEC 9899:1999.
+-- breaks, in its scope. The order in which a checker looks for errors is not part of this. After an error, the part is judged as
+-- if its type were int. The numbers in parentheses are clauses of ISO/IEC 9899:1999.
 use Rattle.std.specs.Prelude.{ℕ, ◌+◌, Bool, true, false, ◌==◌, ◌||◌, ◌&&◌, not, List, [], ◌∷◌, ◌++◌, length, Option, Some, None, if◌then◌else◌, is_some, nat_lt, codes}
 use Rattle.cc_ast.specs.scalar.Scalar.{Scalar}
 use Rattle.cc_ast.specs.scalar.Scalar.TheVariants.{Int}
@@ -115,7 +115,7 @@ abbrev pub beginning_errors : Beginning → Visible → List RuleError
 beginning_errors (Declares t ds) v = declared_errors t ds v
 beginning_errors (Performs a) v = optional_action_errors (in_scope v) a
 
--- a return: with a value in a function of type int or unsigned, without one in a void function (6.8.6.4)
+-- a return statement: with a value in a function of type int or unsigned, without one in a void function (6.8.6.4)
 abbrev pub return_errors : Option Scalar → List Binding → ℕ → Option Expr → List RuleError
 return_errors None bs at None = []
 return_errors None bs at (Some e) = broken BadReturn at ++ value_errors bs e
@@ -335,7 +335,7 @@ abbrev pub called : List External → List Name
 called [] = []
 called (e ∷ rest) = called_in_external e ++ called rest
 
--- those of these calls whose function is not defined
+-- one error for each of these calls whose function is not defined
 abbrev pub undefined_among : List (List ℕ) → List Name → List RuleError
 undefined_among defined [] = []
 undefined_among defined (f ∷ rest) = broken_if (not (has_name defined f.text)) Undefined f.at ++ undefined_among defined rest

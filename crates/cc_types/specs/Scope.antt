@@ -5,8 +5,8 @@ use Rattle.cc_ast.specs.scalar.Scalar.TheVariants.{Int, Unsigned}
 use Rattle.cc_ast.specs.Tree.{Name, Declarator, Beginning, Declares, Performs, Stmt, Local, Parameter, Signature, Object, Single, Array, Bytes, External, Declaration, Definition, Objects}
 use Rattle.cc_types.specs.Names.{same_name}
 
--- what a name denotes: an object with one value (a variable, a parameter, a local), an array with the type of its elements, or a
--- function with the type of its result (None for void) and those of its parameters
+-- what a name denotes: an object with one value (a variable, a parameter, a local); an array, with the type of its elements; or a
+-- function, with the type of its result (None for void) and those of its parameters
 pub data Entity : Type 0 where
   Variable : Scalar → Entity
   Elements : Scalar → Entity
@@ -26,7 +26,7 @@ found (b ∷ behind) x = if same_name b.name x then Some b.entity else found beh
 abbrev pub is_declared : List Binding → List ℕ → Bool
 is_declared bs x = is_some (found bs x)
 
--- what is in scope: what the innermost scope has declared so far, and what surrounds it, newest first
+-- what is in scope, newest first: what the innermost scope has declared so far, and what surrounds it
 pub record Visible : Type 0 where
   pub inner : List Binding
   pub outer : List Binding
@@ -58,7 +58,7 @@ abbrev pub scope_behind_beginning : Beginning → Visible → Visible
 scope_behind_beginning (Declares t ds) v = all_declared t ds v
 scope_behind_beginning (Performs a) v = v
 
--- the scope after a parameter, which may have no name
+-- the scope after a parameter, which possibly has no name
 abbrev pub parameter_declared : Scalar → Option Name → Visible → Visible
 parameter_declared t None v = v
 parameter_declared t (Some x) v = declared x.text (Variable t) v

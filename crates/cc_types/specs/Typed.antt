@@ -2,7 +2,7 @@
 use Rattle.std.specs.Prelude.{ℕ, ◌≡◌, ◌⊎◌, ◌<◌, ◌≤◌, true, false, List, [], ◌∷◌, ◌++◌, length, map, Contains, Option, Some, None}
 use Rattle.std.specs.List.{AllByRecursion}
 use Rattle.cc_ast.specs.Tree.{Name, External, Declaration, Definition, Objects, Source}
-use Rattle.cc_ast.specs.Place.{place_of}
+use Rattle.cc_tokens.specs.Place.{place_of}
 use Rattle.cc_types.specs.Rules.{errors, defines_main, undefined_calls}
 use Rattle.cc_types.specs.Limits.{excesses, function_names}
 use Rattle.cc_types.specs.Fault.{fault_of, rule_number}
@@ -14,11 +14,11 @@ use Rattle.cc_types.specs.declared.fault.TypeFault.TheVariants.{NoMain}
 abbrev pub IsTyped : List External → Type 0
 IsTyped externals = (errors externals ≡ []) × (defines_main externals ≡ true) × (undefined_calls externals ≡ [])
 
--- a unit keeps the limits if it passes none
+-- a unit keeps the limits if it exceeds none
 abbrev pub IsWithinLimits : List External → Type 0
 IsWithinLimits externals = excesses externals ≡ []
 
--- one error is not after another: its token is earlier, or it is at the same token and its number is not greater
+-- the error `o` does not come after `p`: its token is earlier, or it is at the same token and its number is not greater
 abbrev pub NotAfter : RuleError → RuleError → Type 0
 NotAfter o p = (o.at < p.at) ⊎ ((o.at ≡ p.at) × (rule_number o.rule ≤ rule_number p.rule))
 
@@ -30,19 +30,19 @@ IsFirst o all = Contains all o × AllByRecursion (NotAfter o) all
 abbrev pub IsFaultOfFirst : List ℕ → List RuleError → TypeFault → Type 0
 IsFaultOfFirst text all fault = (o : RuleError) × IsFirst o all × (fault ≡ fault_of o.rule (place_of text o.at))
 
--- every rule that a unit breaks, and every limit that it passes
+-- every rule that a unit breaks, and every limit that it exceeds
 abbrev pub all_errors : List External → List RuleError
 all_errors externals = errors externals ++ excesses externals
 
--- a unit is refused for the first of its errors; without errors, for a missing main, at the end of the text; and with a main, for
--- the first call of a function that is not defined
+-- a unit is refused for the first of its errors; if it has none, for a missing main, at the end of the text; and if it has a
+-- main, for the first call of a function that is not defined
 abbrev pub IsTypeRefusal : Source → TypeFault → Type 0
 IsTypeRefusal s fault =
     IsFaultOfFirst s.text (all_errors s.externals) fault
     ⊎ (((all_errors s.externals ≡ []) × (defines_main s.externals ≡ false) × (fault ≡ NoMain (place_of s.text (length s.text))))
     ⊎ ((all_errors s.externals ≡ []) × (defines_main s.externals ≡ true) × IsFaultOfFirst s.text (undefined_calls s.externals) fault))
 
--- what `check` may return for a unit if memory suffices: no fault if it is typed within the limits, else why it is refused
+-- what `check` may return for a unit if memory suffices: no fault if it is typed within the limits, otherwise why it is refused
 abbrev pub IsTypeAnswer : Source → Option TypeFault → Type 0
 IsTypeAnswer s None = IsTyped s.externals × IsWithinLimits s.externals
 IsTypeAnswer s (Some fault) = IsTypeRefusal s fault

@@ -62,7 +62,7 @@ is_constant (Cast t e) = is_constant e
 is_constant (Binary op a b) = is_constant a && is_constant b
 is_constant (Conditional c a b) = is_constant c && (is_constant a && is_constant b)
 
--- the word if it is decided, else the rest's value
+-- the word if it is decided, otherwise the value of the rest
 abbrev pub decided_or : Option ℕ → Option ℕ → Option ℕ
 decided_or None rest = rest
 decided_or (Some w) rest = Some w
@@ -95,7 +95,7 @@ abbrev pub elements_of_word : Scalar → ℕ → ℕ
 elements_of_word Int w = if is_true (lt_s w 0) then 0 else w
 elements_of_word Unsigned w = w
 
--- how many elements an array has, if that is known: as many as its length says, or as its list has if there is no length
+-- how many elements an array has, if that is known: as many as its length says, or, without a length, as many as its list has
 abbrev pub array_length : Option ConstantExpr → List ConstantExpr → Option ℕ
 array_length None values = Some (length values)
 array_length (Some c) values = option_map (elements_of_word (value_type [] c.expr)) (constant_word c)
@@ -116,13 +116,13 @@ object_width (Single x initial) = Word
 object_width (Array x n values) = Word
 object_width (Bytes x n values) = Byte
 
--- how many words an object takes: four bytes are one word, a partly filled last word included
+-- how many words an object takes: four bytes are one word, and a partly filled last word counts
 abbrev pub object_words : Object → ℕ
 object_words o = words_of (object_width o) (object_elements o)
 
 -- ---- objects before the run
 
--- the word of an initialiser, and 0 without one (6.7.8)
+-- the word of an initialiser, or 0 without one (6.7.8)
 abbrev pub initial_word : Option ConstantExpr → ℕ
 initial_word None = 0
 initial_word (Some c) = unwrap_or (constant_word c) 0

@@ -6,7 +6,7 @@ use Rattle.cc_ast.specs.Parse.{IsParseAnswer}
 use Rattle.cc_types.specs.declared.fault.TypeFault.{TypeFault}
 use Rattle.cc_types.specs.Typed.{IsTypeAnswer}
 
--- the text has no tree, its tree is refused, or it is the text of a program
+-- a verdict on a text: it has no tree, its tree is refused, or it is the text of a program
 pub data Verdict : Type 0 where
   NoTree : SyntaxFault → Verdict
   NotTyped : TypeFault → Verdict

@@ -7,7 +7,7 @@ use cc_ast::Place;
 use std::alloc::AllocError;
 use thiserror::Error;
 
-/// Why a unit is refused: the rule of scope or type that it breaks or the limit that it passes, and the place.
+/// Why a unit is refused: the rule of scope or type that it breaks or the limit that it exceeds, and the place.
 #[derive(Debug, Drop, Error)]
 pub enum TypeFault {
     /// 11: a name that is not in scope (C99 6.2.1, 6.5.1), at the name.
@@ -27,7 +27,7 @@ pub enum TypeFault {
     /// which has fewer elements than its list has values (6.7.8), or which has neither a length nor a list, at the array's name.
     #[error("WrongCount")]
     WrongCount(Place),
-    /// 15: use of the value of a `void` call (C99 6.3.2.2), at the function's name.
+    /// 15: the value of a `void` call is used (C99 6.3.2.2), at the function's name.
     #[error("VoidValue")]
     VoidValue(Place),
     /// 16: a `return` with a value in a `void` function, or without one in any other (C99 6.8.6.4), at the keyword `return`.
@@ -46,8 +46,8 @@ pub enum TypeFault {
     #[error("Undefined")]
     Undefined(Place),
     /// 21: more than 8 parameters, at the function's name; or more than 256 locals in one function, more than 64 defined
-    /// functions, or more than 65,536 words of all objects together, at the name that passes the limit (C99 5.2.4.1 leaves limits
-    /// open).
+    /// functions, or more than 65,536 words of all objects together, at the name that exceeds the limit (C99 5.2.4.1 leaves
+    /// limits open).
     #[error("TooMany")]
     TooMany(Place),
     /// 40: memory ran out.
@@ -76,7 +76,7 @@ impl TypeFault {
         }
     }
 
-    /// The place of the fault: `None` for `OutOfMemory` alone.
+    /// The place of the fault; `None` only for `OutOfMemory`.
     pub fn place(&self) -> Option<Place>
         ensures { result ≡ fault_place self.now }
     {

@@ -2,7 +2,7 @@
 //! words of constants and objects, and how many locals a body declares. The check that decides whether a unit is typed is in
 //! `cc_typing`, which is above this crate. So a crate that only takes typed units does not wait for the check's proof.
 //!
-//! - `typed`: the type, which guarantees that no rule is broken and no limit passed.
+//! - `typed`: the type, which guarantees that no rule is broken and no limit exceeded.
 //! - `rule`: the names of the rules.
 //! - `fault`: why a unit is refused.
 //! - `scope`, on `bindings`, `numbering` and `entity`: the names in scope.

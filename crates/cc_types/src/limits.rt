@@ -11,16 +11,16 @@ use cc_ast::{Beginning, ConstantExpression, Declarator, Identifier, Object, Stat
 use cc_words::Width;
 use std::alloc::AllocError;
 
-/// The most parameters of a function.
+/// A function has at most this many parameters.
 pub const MOST_PARAMETERS: usize = 8;
 
-/// The most locals of a function, not counting its parameters.
+/// A function has at most this many locals, not counting its parameters.
 pub const MOST_LOCALS: usize = 256;
 
-/// The most functions that a unit may define.
+/// A unit defines at most this many functions.
 pub const MOST_FUNCTIONS: usize = 64;
 
-/// The most words that all objects at file scope may have.
+/// All objects at file scope together have at most this many words.
 pub const MOST_WORDS: usize = 65536;
 
 /// How many names are allowed (`most`), how many have been counted, up to that number, and the offset of the first name past it.
@@ -109,7 +109,7 @@ pub fn count_locals(count: &mut Count, all: &[Statement])
     }
 }
 
-/// How many locals a function's body declares, in all its blocks together. `AllocError` if the number does not fit a `usize`;
+/// How many locals a function's body declares, in all its blocks together. `AllocError` if the number does not fit in a `usize`;
 /// such a body would not fit in memory.
 pub fn local_count(body: &[Statement]) -> Result<usize, AllocError>
     ensures { IfOk result (λ n. n ≡ length (locals (statements_of body.now))) }

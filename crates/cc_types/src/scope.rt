@@ -80,7 +80,7 @@ impl<'a> Scope<'a> {
         around
     }
 
-    /// Closes the innermost scope and removes its names. The scope around it has declared `around` names.
+    /// Closes the innermost scope and removes its names. `around` is how many names the scope around it has declared.
     pub fn close(&mut self, around: usize)
         requires { around ≤ length self.old.outer }
         ensures { self.new ≡ closed around self.old }
@@ -93,7 +93,7 @@ impl<'a> Scope<'a> {
     }
 
     /// Declares a name in the innermost scope, and returns whether this scope had declared it already. `AllocError` if memory
-    /// runs out; nothing is known of the scope then.
+    /// runs out; nothing is known about the scope then.
     pub fn declare(&mut self, name: &'a [u8], entity: Entity<'a>) -> Result<bool, AllocError>
         ensures scope { OnOk result (self.new ≡ declared name.now (entity_of entity.entry) self.old) }
         ensures again { IfOk result (λ b. b ≡ is_declared self.old.inner name.now) }
@@ -115,7 +115,7 @@ impl<'a> Scope<'a> {
     }
 
     /// Declares a name in file scope if it is new; an earlier declaration stays as it is. Returns whether the name was declared
-    /// already. `AllocError` if memory runs out; nothing is known of the scope then.
+    /// already. `AllocError` if memory runs out; nothing is known about the scope then.
     pub fn declare_in_file(
         &mut self,
         name: &'a [u8],

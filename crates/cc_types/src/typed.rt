@@ -4,7 +4,7 @@ ghost use Rattle.std.specs.Prelude.{◌≡◌, ◌<◌, ◌≤◌, [], ◌∷◌
 ghost use Rattle.cc_ast.specs.Source.{source};
 ghost use Rattle.cc_ast.specs.Erase.{external_tree, external_trees};
 ghost use Rattle.cc_ast.specs.Parse.{SpellsText};
-ghost use Rattle.cc_ast.specs.Tokens.{most_bytes};
+ghost use Rattle.cc_tokens.specs.Tokens.{most_bytes};
 ghost use Rattle.cc_types.specs.internal.Externals.{defines};
 ghost use Rattle.cc_types.specs.Typed.{IsTyped, IsWithinLimits, defined_names, definitions};
 ghost use Rattle.cc_types.specs.Checked.{IsChecked};
@@ -13,7 +13,7 @@ ghost use Rattle.cc_types.specs.Defined.{definition_tree};
 use cc_ast::{External, Signature, Statement, Unit};
 use std::marker::Model;
 
-/// A unit that breaks no rule of scope or type and passes no limit. Contracts see it as the unit that it was made from.
+/// A unit that breaks no rule of scope or type and exceeds no limit. Contracts see it as the unit that it was made from.
 pub struct TypedUnit {
     unit: Unit,
 }
@@ -70,7 +70,7 @@ fn definition_in(external: &External) -> Option<Definition<'_>>
 }
 
 impl TypedUnit {
-    /// Makes a typed unit of a parsed one. The caller shows that it breaks no rule and passes no limit. Takes no memory.
+    /// Makes a typed unit of a parsed one. The caller shows that it breaks no rule and exceeds no limit. Takes no memory.
     pub fn new(unit: Unit) -> TypedUnit
         requires { IsChecked (source unit) }
         ensures { result ≡ unit }

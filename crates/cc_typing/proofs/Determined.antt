@@ -1,10 +1,11 @@
--- A unit has exactly one answer, because the first of some errors is unique. So has a text, because it has one tree or one fault.
+-- A unit has exactly one answer, because the first of its errors is unique. A text has exactly one answer too, because it has
+-- one tree or one fault.
 use Rattle.std.proofs.Common.{◌≡◌, ◌<◌, ◌≤◌, ◌⊎◌, inl, inr, ℕ, zero, suc, Bool, true, false, ◌==◌, if◌then◌else◌, List, [], ◌∷◌, ◌++◌, length, get_or, Option, Some, None, Result, Ok, Err, refl, sym, ap, subst, ◌∙◌, arith}
 use Rattle.std.specs.List.{AllByRecursion}
 use Rattle.std.proofs.lemmas.Bool.{false≢true}
 use Rattle.cc_ast.specs.Tree.{External, Source}
 use Rattle.cc_ast.specs.fault.SyntaxFault.{SyntaxFault}
-use Rattle.cc_ast.specs.Place.{place_of}
+use Rattle.cc_tokens.specs.Place.{place_of}
 use Rattle.cc_ast.specs.Parse.{IsParseAnswer, ParseAnswersAreOne, TextsHaveAnswers}
 use Rattle.cc_types.specs.Fault.{fault_of, rule_number}
 use Rattle.cc_types.specs.Limits.{excesses}
@@ -22,7 +23,7 @@ use Rattle.cc_typing.proofs.Verdict.{both_empty}
 
 -- ---- the first error
 
--- the rule with a number
+-- the rule with this number
 abbrev rule_with : ℕ → Rule
 rule_with n =
     if n == 11 then Unknown else (if n == 12 then Redeclared else (if n == 13 then WrongKind else (if n == 14 then WrongCount else (if n == 15 then VoidValue
@@ -43,7 +44,7 @@ rule_back TooMany = refl
 same_rule : (r q : Rule) → rule_number r ≡ rule_number q → r ≡ q
 same_rule r q e = sym (rule_back r) ∙ ap (λ n. rule_with n) e ∙ rule_back q
 
--- two errors have the same token and the same number if neither is after the other
+-- if neither of two errors comes after the other, they have the same token and the same number
 neither_at : (a b m n : ℕ) → (a < b) ⊎ ((a ≡ b) × (m ≤ n)) → (b < a) ⊎ ((b ≡ a) × (n ≤ m)) → (a ≡ b) × (m ≡ n)
 neither_at a b m n (inl h) (inl k) = absurd (omega arith)
 neither_at a b m n (inl h) (inr k) = let same = k.0 in absurd (omega arith)
@@ -134,9 +135,9 @@ ok_or_err tree f e = cc
 none_or_some : (f : TypeFault) → let o : Option TypeFault = None in o ≡ Some f → ⊥
 none_or_some f e = cc
 
--- if `parse` has at most one answer for a text
+-- ---- if `parse` has at most one answer for each text
 module _ (answers_are_one : ParseAnswersAreOne) where
-  -- two trees of a text are the same, and so are the answers for their unit
+  -- two trees of a text are the same, so the answers for their units are the same
   same_unit : (text : List ℕ) (t u : List External) (a b : Option TypeFault) → IsParseAnswer text (Ok t) → IsTypeAnswer (source_with text t) a → IsParseAnswer text (Ok u) → IsTypeAnswer (source_with text u) b → (t ≡ u) × (a ≡ b)
   same_unit text t u a b h k i j =
       let e = answers_are_one text (Ok t) (Ok u) h i in
@@ -168,7 +169,7 @@ unfolding Verdicts
 by_tree text (Err f, h) = (NoTree f, h)
 by_tree text (Ok tree, h) = by_types text tree h (units_have_type_answers (source_with text tree))
 
--- if every text has an answer
+-- if `parse` has an answer for every text, every text has an answer here
 pub texts_have_verdicts : TextsHaveAnswers → TextsHaveVerdicts
 unfolding Verdicts
 texts_have_verdicts texts_have_answers text = by_tree text (texts_have_answers text)

@@ -1,4 +1,4 @@
--- The offset that is kept is the one at which the limit is passed.
+-- The offset that is kept is the one at which the limit is exceeded.
 use Rattle.std.proofs.Common.{◌≡◌, ℕ, zero, suc, ◌+◌, Bool, true, false, if◌then◌else◌, nat_lt, List, [], ◌∷◌, ◌++◌, map, take, drop, Option, Some, None, refl, sym, ap, subst, ◌∙◌, arith}
 use Rattle.std.proofs.lemmas.Bool.Decides.{nat_tests}
 use Rattle.cc_ast.specs.Tree.{Name, Object}
@@ -8,14 +8,14 @@ use Rattle.cc_types.specs.Counts.{passed}
 use Rattle.cc_typing.specs.internal.Counts.{excess_of, WordCount, with_words, words_after}
 use Rattle.cc_types.specs.declared.rule.Rule.TheVariants.{TooMany}
 
--- the offset at which the limit was passed does not change
+-- once the limit is exceeded, the offset does not change
 passed-once : (most at : ℕ) (xs : List Name) → passed most most (Some at) xs ≡ Some at
 passed-once most at [] = refl
 passed-once most at (x ∷ xs) =
     let full : nat_lt most most ≡ false = grind (arith, nat_tests) in
     ap (λ b. if b then passed most (most + 1) (Some at) xs else passed most most (Some at) xs) full ∙ passed-once most at xs
 
--- the limit on the rest, once some are counted
+-- if some were counted already, the limit is exceeded at the first of the rest for which there is no room left
 passed-left : (most left n : ℕ) (xs : List Name) → left + n ≡ most → excess_of (passed most n None xs) ≡ map too_many (take 1 (drop left xs))
 passed-left most zero n [] e = refl
 passed-left most zero n (x ∷ xs) e =

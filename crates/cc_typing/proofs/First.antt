@@ -8,7 +8,7 @@ use Rattle.cc_types.specs.Typed.{NotAfter, IsFirst}
 use Rattle.cc_typing.specs.internal.Findings.{is_before, earlier, noted}
 use Rattle.cc_types.specs.declared.rule.RuleError.{RuleError}
 
--- the order of errors, on numbers
+-- the order of errors, in numbers
 order-true : (a b m n : ℕ) → (nat_lt a b || (a == b && nat_lt m n)) ≡ true → (a < b) ⊎ ((a ≡ b) × (m ≤ n))
 order-true a b m n h = grind (arith, nat_tests)
 
@@ -27,7 +27,7 @@ not_after-trans o p q = order-trans o.at p.at q.at (rule_number o.rule) (rule_nu
 not_after-itself : (o : RuleError) → NotAfter o o
 not_after-itself o = inr (refl, omega arith)
 
--- the earlier of two errors is after neither
+-- the earlier of two errors comes after neither of them
 earlier-first : (p x : RuleError) → NotAfter (earlier (Some p) x) p × NotAfter (earlier (Some p) x) x
 earlier-first p x = by (is_before x p) refl
   where
@@ -45,7 +45,7 @@ earlier-either p x = by (is_before x p)
 contains-first : (x : RuleError) (xs : List RuleError) (o : RuleError) → o ≡ x → Contains (x ∷ xs) o
 contains-first x xs o e = (0, omega arith, sym e)
 
--- what is kept of an error and some more is the first of them
+-- if an error and then some more are noted, the first of them all is kept
 noted-first : (p : RuleError) (xs : List RuleError) (o : RuleError) → noted (Some p) xs ≡ Some o → ((o ≡ p) ⊎ Contains xs o) × NotAfter o p × AllByRecursion (NotAfter o) xs
 noted-first p [] o e = let same : o ≡ p = cc in (inl same, subst (λ q. NotAfter q p) (sym same) (not_after-itself p), tt)
 noted-first p (x ∷ xs) o e =

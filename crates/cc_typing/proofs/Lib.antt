@@ -9,7 +9,7 @@ pub mod Parts
 pub mod Walks
 -- the walk over file scope
 pub mod FileScopes
--- the offset at which a limit is passed
+-- the offset at which a limit is exceeded
 pub mod Excesses
 -- the kept error is the first of all
 pub mod First

@@ -10,7 +10,7 @@ use Rattle.cc_typing.specs.declared.functions.State.{State}
 use Rattle.cc_typing.specs.internal.Functions.{AreStates, newest_first, is_defined, stands_before}
 use Rattle.cc_types.proofs.NameNumbers.{at-numbered, rest-numbered, at-changed, rest-changed}
 
--- the table stays right when one more name gets a number
+-- the table stays right if one more name gets a number
 pub AreStates-numbered : (old new : List (List ℕ × ℕ)) (x : List ℕ) (n : ℕ) (table : ℕ → Option State) (defined before : List (List ℕ)) → AreStates old table defined before → IsNumbered old new x n
     → AreStates new table defined before
 AreStates-numbered old new x n table defined before are is = record {
@@ -25,7 +25,7 @@ module _ (names : List (List ℕ × ℕ)) (x : List ℕ) (n : ℕ) (own : number
   changed : (y : List ℕ) → at_number new (number_of_name names y) ≡ cond (same_name x y) (Some s) (at_number old (number_of_name names y))
   changed = at-changed names x n own are.numbers old new (Some s) updates
 
-  -- a mark that the name gets
+  -- if the name gets the mark, the mark is right for every name
   marked : (mark : Option State → Bool) (marks : List (List ℕ)) → ((y : List ℕ) → mark (at_number old (number_of_name names y)) ≡ has_name marks y) → mark (Some s) ≡ true
       → (y : List ℕ) → mark (at_number new (number_of_name names y)) ≡ has_name (x ∷ marks) y
   marked mark marks h e y = ap mark (changed y) ∙ by (same_name x y)
@@ -34,7 +34,7 @@ module _ (names : List (List ℕ × ℕ)) (x : List ℕ) (n : ℕ) (own : number
       by true = e
       by false = h y
 
-  -- a mark that the name keeps
+  -- if the mark does not change for the name, it is still right for every name
   kept : (mark : Option State → Bool) (marks : List (List ℕ)) → ((y : List ℕ) → mark (at_number old (number_of_name names y)) ≡ has_name marks y) → mark (Some s) ≡ mark (old n)
       → (y : List ℕ) → mark (at_number new (number_of_name names y)) ≡ has_name marks y
   kept mark marks h e y = ap mark (changed y) ∙ by (same_name x y) refl

@@ -1,7 +1,7 @@
 -- What is found in a whole unit decides whether it is typed.
 use Rattle.std.proofs.Common.{◌≡◌, inl, inr, true, false, List, [], ◌∷◌, ◌++◌, length, Option, Some, None, refl, sym, ap, ◌∙◌}
 use Rattle.cc_ast.specs.Tree.{Source, External}
-use Rattle.cc_ast.specs.Place.{place_of}
+use Rattle.cc_tokens.specs.Place.{place_of}
 use Rattle.cc_types.specs.Checked.{IsChecked}
 use Rattle.cc_typing.specs.internal.Counts.{all_defined}
 use Rattle.cc_types.specs.Fault.{fault_of}
@@ -19,7 +19,7 @@ use Rattle.cc_typing.proofs.First.{IsFirst-noted, noted-none}
 use Rattle.cc_typing.proofs.FileScopes.{defined-behind}
 use Rattle.cc_typing.proofs.Parts.{noted-append}
 
--- two parts without errors
+-- if two parts together have no errors, neither part has one
 pub both_empty : {A : Type 0} (xs ys : List A) → xs ++ ys ≡ [] → (xs ≡ []) × (ys ≡ [])
 both_empty [] ys e = (refl, e)
 both_empty (x ∷ xs) ys e = absurd (let c : ⊥ = cc in c)

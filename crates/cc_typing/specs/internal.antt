@@ -3,5 +3,5 @@
 pub mod Functions
 -- what the code has found so far
 pub mod Findings
--- how the code counts what is limited
+-- how the code counts what has a limit
 pub mod Counts

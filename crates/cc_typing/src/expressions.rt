@@ -1,7 +1,7 @@
 // The rules of expressions and actions (C99 6.5, 6.8.3).
 //
-// The walk continues after an error, because the first error in the text need not be the first that the walk meets. The recursion
-// is as deep as the tree, which has at most 512 tokens in a full expression.
+// The walk continues after an error, because the first error in the text need not be the first that the walk meets. The
+// recursion is as deep as the tree, and a full expression has at most 512 tokens.
 
 ghost use Rattle.std.specs.Prelude.{◌≡◌, ◌==◌, [], not};
 ghost use Rattle.cc_ast.specs.Erase.{expression_tree, optional_tree, target_tree, action_tree, optional_action};
@@ -16,7 +16,7 @@ use super::findings::Findings;
 use cc_ast::{Action, Expression, Identifier, Scalar, Target};
 use cc_types::{Entity, Rule, Scope};
 
-// Checks a name that must be a variable. An array or a function breaks the given rule.
+// Checks a name that must be a variable. An array or a function breaks the rule `misuse`.
 fn variable(scope: &Scope, findings: &mut Findings, name: &Identifier, misuse: Rule)
     ensures { findings.new ≡ after findings.old (variable_errors misuse (found (in_scope scope.now) name.now.bytes.items) name.now.at) [] }
 {
@@ -38,14 +38,14 @@ fn array(scope: &Scope, findings: &mut Findings, name: &Identifier)
     }
 }
 
-// Checks a call with `count` arguments of a function with this many parameters.
+// Checks a call that has `count` arguments, of a function that has `parameters` parameters.
 fn argument_count(findings: &mut Findings, name: &Identifier, count: usize, parameters: usize)
     ensures { findings.new ≡ after findings.old (broken_if (not (count == parameters)) WrongCount name.now.at) [] }
 {
     findings.note_if(count != parameters, Rule::WrongCount, name.at);
 }
 
-// Checks a name that must be a function of this many parameters.
+// Checks a name that must be a function with `count` parameters.
 fn function(scope: &Scope, findings: &mut Findings, name: &Identifier, count: usize)
     ensures { findings.new ≡ after findings.old (function_errors (found (in_scope scope.now) name.now.bytes.items) count name.now.at) [] }
 {
@@ -62,7 +62,7 @@ fn function(scope: &Scope, findings: &mut Findings, name: &Identifier, count: us
     }
 }
 
-// The type of a function's result, `None` for `void`. A name that is not a function is judged as if it returned `int`.
+// The type of a function's result, `None` for `void`. A name that is not a function is treated as if it returned `int`.
 fn result_type(scope: &Scope, name: &[u8]) -> Option<Scalar>
     ensures { result ≡ result_type (found (in_scope scope.now) name.now) }
 {
@@ -75,7 +75,7 @@ fn result_type(scope: &Scope, name: &[u8]) -> Option<Scalar>
     }
 }
 
-// Checks for a void call, also in parentheses, in a place that uses the value.
+// Checks that an expression whose value is used is not a void call, in parentheses or not.
 fn void_call(scope: &Scope, findings: &mut Findings, tree: &Expression)
     ensures { findings.new ≡ after findings.old (void_errors (in_scope scope.now) (expression_tree tree.now)) [] }
 {

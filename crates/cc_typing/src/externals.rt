@@ -1,4 +1,4 @@
-// The rules of file scope (C99 6.2.1, 6.6, 6.7, 6.9).
+// The rules at file scope (C99 6.2.1, 6.6, 6.7, 6.9).
 
 ghost use Rattle.std.specs.Prelude.{◌≡◌, ◌++◌, [], length, OnOk};
 ghost use Rattle.cc_ast.specs.Erase.{name_tree, constant_tree, optional_constant, constant_trees, object_tree, object_trees, parameter_tree, parameter_trees, signature_tree, external_tree, external_trees};
@@ -175,7 +175,7 @@ fn signature<'a>(
     parameters(scope, findings, tree.parameters.as_slice())
 }
 
-// Checks an external declaration. `findings` has the functions that are defined before it.
+// Checks an external declaration. `findings` has the functions that are defined before this one.
 fn external<'a>(
     scope: &mut Scope<'a>,
     findings: &mut Findings<'a>,

@@ -36,7 +36,7 @@ fn comes_before(error: RuleError, other: RuleError) -> bool
     error.at < other.at || (error.at == other.at && number(error.rule) < number(other.rule))
 }
 
-/// The earlier of an error, if there is one, and another.
+/// The earlier of two errors: `first`, if there is one, and `error`.
 pub fn earlier(first: Option<RuleError>, error: RuleError) -> RuleError
     ensures { result ≡ earlier first error }
 {
@@ -63,7 +63,7 @@ impl<'a> Model for Findings<'a> {
 }
 
 impl<'a> Findings<'a> {
-    /// Nothing found yet, in a unit that defines these functions.
+    /// Nothing has been found yet, in a unit that defines these functions.
     pub fn new(functions: Functions<'a>) -> Findings<'a>
         ensures { result ≡ nothing_found functions.entry }
     {

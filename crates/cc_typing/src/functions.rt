@@ -1,6 +1,6 @@
 // Which functions a unit defines, and which of them are defined before a given place.
 //
-// A function's name gets a number when it first appears, and a table has what is known of the function at that number.
+// A function's name gets a number when it first appears, and a table has, at that number, what is known about the function.
 
 ghost use Rattle.std.specs.Prelude.{◌≡◌, [], ◌∷◌, OnOk};
 ghost use Rattle.cc_types.specs.Scope.{has_name};
@@ -11,7 +11,7 @@ use indexmap::IndexMap;
 use std::alloc::{AllocError, Global};
 use std::marker::Model;
 
-// What is known of a function: whether the unit defines it, and whether it has been defined already.
+// What is known about a function: whether the unit defines it, and whether it has been defined already.
 #[derive(Clone, Copy)]
 pub struct State {
     defined: bool,
@@ -41,7 +41,7 @@ fn stands_before(state: Option<State>) -> bool
 pub struct Functions<'a> {
     names: Numbering<'a>,
     states: IndexMap<usize, State>,
-    // The names by themselves, newest last.
+    // Only the names, newest last.
     defined: Vec<&'a [u8]>,
     before: Vec<&'a [u8]>,
 }
@@ -60,7 +60,7 @@ impl<'a> Model for Functions<'a> {
 }
 
 impl<'a> Functions<'a> {
-    /// Returns an empty table: nothing is known of any function.
+    /// Returns an empty table: nothing is known about any function.
     pub fn new(alloc: Global) -> Functions<'a>
         ensures { result ≡ record { defined = []; before = [] } }
     {

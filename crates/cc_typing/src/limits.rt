@@ -1,4 +1,5 @@
-// The limits that a unit passes: parameters of a function, locals of a function, functions, and words of all objects.
+// The limits that a unit exceeds: those on the parameters of a function, on its locals, on functions, and on the words of all
+// objects.
 
 ghost use Rattle.std.specs.Prelude.{◌≡◌, None};
 ghost use Rattle.cc_ast.specs.Erase.{object_tree, object_trees, signature_tree, external_tree, external_trees};
@@ -15,7 +16,7 @@ use cc_types::{
     object_words,
 };
 
-// The earlier of an error, if there is one, and of a limit passed at this offset, if there is one.
+// The earlier of two errors: `first`, if there is one, and that of a limit exceeded at the offset `past`, if there is one.
 fn with_excess(first: Option<RuleError>, past: Option<usize>) -> Option<RuleError>
     ensures { result ≡ noted first (excess_of past) }
 {
@@ -33,7 +34,7 @@ fn with_excess(first: Option<RuleError>, past: Option<usize>) -> Option<RuleErro
 
 // ---- words
 
-// The words of the objects so far, and the offset of the object that passed the limit on them.
+// The words of the objects so far, and the offset of the object that exceeded the limit on them.
 #[derive(Drop)]
 struct Words {
     taken: usize,
@@ -148,7 +149,7 @@ fn past_words(externals: &[External]) -> Option<usize>
     words.past
 }
 
-/// The earliest of an error, if there is one, and of the limits that a unit passes.
+/// The earliest of these errors: `first`, if there is one, and those of the limits that a unit exceeds.
 pub fn with_excesses(first: Option<RuleError>, externals: &[External]) -> Option<RuleError>
     ensures { result ≡ noted first (excesses (external_trees externals.now)) }
 {

@@ -5,7 +5,7 @@ ghost use Rattle.std.specs.Prelude.{◌≡◌, ◌≤◌, ◌↔◌, length, IsO
 use cc_rv32::image::Image;
 use std::marker::Model;
 
-/// The most bytes of a source.
+/// A source has at most this many bytes.
 pub const MOST_SOURCE: usize = 65_536;
 
 /// The source of a unit: any bytes, at most 65,536. A clause sees their list.
@@ -13,7 +13,7 @@ pub struct Source {
     bytes: Vec<u8>,
 }
 
-// Written by hand, so that the crates above use this proof and need not show again how each part is dropped.
+// This is written by hand, so that the crates above use this proof and need not show again how each part is dropped.
 impl Drop for Source {
     fn drop(self) {
         let Source { bytes } = self;
@@ -66,7 +66,7 @@ pub struct Certificate {
     bytes: Vec<u8>,
 }
 
-// Written by hand, so that the crates above use this proof and need not show again how each part is dropped.
+// This is written by hand, so that the crates above use this proof and need not show again how each part is dropped.
 impl Drop for Certificate {
     fn drop(self) {
         let Certificate { bytes } = self;
@@ -105,7 +105,7 @@ impl Certificate {
     }
 }
 
-/// A unit as the library keeps it: its source, the image that was made of it, and its certificate if it has one.
+/// A unit as the library keeps it: its source, the image that was made from it, and its certificate if it has one.
 #[derive(Drop)]
 pub struct StoredUnit {
     pub source: Source,

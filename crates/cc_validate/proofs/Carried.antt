@@ -1,4 +1,4 @@
--- What becomes of a set of equations: step by step, and by the bits of its table.
+-- What becomes of a set of equations: step by step, and in terms of the bits of its table.
 use Rattle.std.proofs.Common.{◌≡◌, ℕ, suc, ◌+◌, ◌^◌, ◌<◌, List, [], ◌∷◌, ◌++◌, length, refl, sym, ap, ◌∙◌, subst, Bool, true, false, ◌==◌, ◌&&◌, ◌||◌, not, if◌then◌else◌, ◌⊎◌, inl, inr, arith, Contains}
 use Rattle.std.specs.Prelude.{Option, Some, None}
 use Rattle.std.proofs.lemmas.Bool.{or_cases, or_left, or_right, and_parts, and_from, cases_eq, eq-eqb, ne_eqb, eqb-true, not-true}

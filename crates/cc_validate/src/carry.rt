@@ -16,7 +16,7 @@ use cc_ltl::Block;
 use cc_rtl_language::Node;
 use std::alloc::{AllocError, Global};
 
-/// What has to hold before a block, from what has to hold after it. Rows are made with room for this many words of locations. Err: memory
+/// What has to hold before a block, given what has to hold after it. Rows are made with room for this many words of locations. Err: memory
 /// ran out.
 pub fn carry(
     alloc: Global,
@@ -35,7 +35,7 @@ pub fn carry(
     }
 }
 
-/// Does the same for a set without a contradiction.
+/// What has to hold before a block, given a set without a contradiction that has to hold after it.
 fn carry_all(
     alloc: Global,
     node: &Node,

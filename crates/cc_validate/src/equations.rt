@@ -107,7 +107,7 @@ impl Equations {
         Ok(Equations { bits })
     }
 
-    /// Replaces one pseudo-register by another in all equations. Err: memory ran out.
+    /// Replaces one pseudo-register with another in all equations. Err: memory ran out.
     pub fn rename(self, to: u32, from: u32) -> Result<Equations, AllocError>
         ensures { IfOk result (λ made. AreCarried (λ e. equation (if to == e.register then from else e.register) e.location) self made) }
     {
@@ -138,7 +138,7 @@ impl Equations {
         !self.bits.is_row_empty(register as usize)
     }
 
-    /// Whether there is an equation on the register of this number.
+    /// Whether there is an equation on the register with this number.
     pub fn has_place(&self, number: u8) -> bool
         requires { number < 32 }
         ensures some { IsTrue result → (e : Equation) × Contains self.now e × (e.location ≡ in_register number) }
@@ -156,7 +156,7 @@ impl Equations {
     }
 }
 
-/// Does this on the bits, from the last move back: an equation on a move's target becomes one on its source.
+/// Carries the bits back through the moves, from the last one on: an equation on a move's target becomes one on its source.
 fn carry_bits(bits: &mut BitRows, moves: &[Move]) -> Result<(), AllocError>
     requires { AreEquations bits.old }
     ensures bits { IfOk result (λ _. AreEquations bits.new) }
@@ -171,7 +171,8 @@ fn carry_bits(bits: &mut BitRows, moves: &[Move]) -> Result<(), AllocError>
     Ok(())
 }
 
-/// Does this on the bits at once: a table says where each location's word comes from, and a new set is made by it.
+/// Carries the bits back through all moves at once: a table says where each location's word comes from, and a new set is made
+/// with it.
 fn carry_at_once(alloc: Global, bits: &BitRows, moves: &[Move]) -> Result<BitRows, AllocError>
     requires { AreEquations bits.now }
     ensures bits { IfOk result (λ made. AreEquations made) }
@@ -220,7 +221,7 @@ fn are_entry_bits(bits: &BitRows, parameters: u32) -> bool
     true
 }
 
-/// The same for one row.
+/// Whether each bit of row r is that of a parameter and its location.
 fn is_entry_row(bits: &BitRows, parameters: u32, r: usize) -> bool
     requires { r < most_rows }
     ensures all { IsTrue result → (c : ℕ) → IsTrue (has bits.now r c) → IsEntryBit parameters r c }

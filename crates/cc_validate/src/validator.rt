@@ -66,9 +66,15 @@ fn decide(alloc: Global, rtl: &Rtl, ltl: &Ltl) -> Result<(), ValidateFault>
     if let Some(label) = apart(rtl, blocks) {
         return Err(ValidateFault::Unvalidated { label });
     }
-    let graph = rtl.graph(alloc)?;
+    let graph = match rtl.graph(alloc) {
+        Ok(graph) => graph,
+        Err(_) => return Err(ValidateFault::OutOfMemory),
+    };
     let code = Code::new(rtl, blocks, words_for(ltl.slots()));
-    let least = solve_backward(alloc, &graph, &code)?;
+    let least = match solve_backward(alloc, &graph, &code) {
+        Ok(least) => least,
+        Err(_) => return Err(ValidateFault::OutOfMemory),
+    };
     if let Some(label) = contradicted(rtl, least.as_slice()) {
         return Err(ValidateFault::Unvalidated { label });
     }

@@ -1,6 +1,7 @@
-//! Writers of answers: one that knows whether a line of them is a fault, and one that says on a terminal how many lines there are.
+//! Writers of answers: one that knows whether a line of them is a fault, and one that says on a terminal how many lines there
+//! are.
 //!
-//! It stands on nothing. `watch` has the one, `progress` the other.
+//! It needs no other crate. `watch` has the first, `progress` the second.
 #![tactic(auto)]
 
 mod progress;

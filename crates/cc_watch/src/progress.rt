@@ -5,21 +5,21 @@ ghost use Rattle.std.specs.Prelude.{◌≡◌};
 use std::io::{self, Write};
 use std::rt::Clock;
 
-/// For how many seconds nothing is shown.
+/// Nothing is shown for this many seconds.
 const QUIET: u64 = 2;
 
-/// A writer that says how many lines were written: from the third second on, at most once a second, on one line of a terminal, which is
-/// overwritten.
+/// A writer that says how many lines were written. From the third second on it says so at most once a second, on one line of a
+/// terminal, which is overwritten.
 #[derive(Drop)]
 pub struct AnswerProgress<W: Drop, C: Drop, E: Drop> {
     writer: W,
     clock: C,
-    // The terminal that shows it, if one does.
+    // The terminal that shows the count, if one does.
     screen: Option<E>,
     // The second from which on something is shown.
     next: u64,
     lines: u64,
-    // What a line is, in words for many.
+    // What the lines are, as a plural.
     things: &'static str,
     is_shown: bool,
 }
@@ -36,7 +36,8 @@ fn second<C: Clock>(clock: &C) -> Option<u64> {
 }
 
 impl<W: Write + Drop, C: Clock + Drop, E: Write + Drop> AnswerProgress<W, C, E> {
-    /// Before this writer. The screen, if there is one, shows how many of these things, one a line, there are: `lines of answers`.
+    /// Puts itself before this writer. The screen, if there is one, shows how many of these `things` there are, one on each
+    /// line, for example `lines of answers`.
     pub fn new(
         writer: W,
         clock: C,
@@ -93,7 +94,7 @@ impl<W: Write + Drop, C: Clock + Drop, E: Write + Drop> AnswerProgress<W, C, E> 
         }
     }
 
-    // Counts the lines that the first of these bytes end.
+    // Counts the lines that end within the first `count` of these bytes.
     fn count(&mut self, bytes: &[u8], count: usize)
         ensures { self.new.writer ≡ self.old.writer }
     {

@@ -1,24 +1,25 @@
-// A writer that knows whether a line of a fault passed.
+// A writer that knows whether a fault line was written to it.
 
 ghost use Rattle.std.specs.Prelude.{◌≡◌, ◌≤◌, false};
 
 use std::io::{self, Write};
 
-/// How the line of a fault begins.
+/// How a fault line begins.
 const BEGIN: &[u8] = b"fault ";
 
 /// A writer that knows whether a line that begins with `fault ` was written to it.
 #[derive(Drop)]
 pub struct FaultWatch<W: Drop> {
     writer: W,
-    // How many bytes of the line so far are those with which the line of a fault begins; more than these have where another byte came.
+    // How many bytes of the line so far match the beginning of a fault line; 7, which is more than that beginning has, if
+    // another byte came.
     matched: usize,
     has_fault: bool,
     ghost few: { matched ≤ 7 },
 }
 
 impl<W: Write + Drop> FaultWatch<W> {
-    /// Before this writer.
+    /// Puts itself before this writer.
     pub fn new(writer: W) -> FaultWatch<W>
         ensures writer { result.writer ≡ writer }
         ensures none { result.has_fault ≡ false }
@@ -30,7 +31,7 @@ impl<W: Write + Drop> FaultWatch<W> {
         }
     }
 
-    /// Whether the line of a fault was written.
+    /// Whether a fault line was written.
     pub fn has_fault(&self) -> bool {
         self.has_fault
     }
@@ -52,7 +53,7 @@ impl<W: Write + Drop> FaultWatch<W> {
         }
     }
 
-    // Looks at the first of these bytes.
+    // Looks at the first `count` of these bytes.
     fn look_at(&mut self, bytes: &[u8], count: usize)
         ensures { self.new.writer ≡ self.old.writer }
     {

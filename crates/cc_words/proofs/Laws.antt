@@ -17,7 +17,7 @@ pub IsWord-word_of : (z : ℤ) → IsWord (word_of z)
 IsWord-word_of (pos n) = omega arith
 IsWord-word_of (negsuc n) = omega arith
 
--- the signed value is that of a machine's cast
+-- the signed value is the one that a machine's cast gives
 pub signed_value-cast : (w : ℕ) → IsWord w → signed_value w ≡ cast_signed w32 w
 signed_value-cast w h = grind (arith, ints)
 
@@ -33,7 +33,7 @@ signed_value-word_of z h = grind (arith, ints)
 pub signed_value_injective : (a b : ℕ) → IsWord a → IsWord b → signed_value a ≡ signed_value b → a ≡ b
 signed_value_injective a b p q e = sym (word_of-signed_value a p) ∙ ap word_of e ∙ word_of-signed_value b q
 
--- a difference of words, by natural numbers alone
+-- a difference of words, using only natural numbers
 pub sub_is : (a b : ℕ) → IsWord a → IsWord b → sub a b ≡ (a + (2 ^ 32 - b)) % 2 ^ 32
 sub_is a b p q = grind (arith, ints)
 

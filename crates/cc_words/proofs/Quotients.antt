@@ -1,7 +1,7 @@
 -- Quotient and remainder as in C99 6.5.5: if the division has a value, the quotient times the divisor plus the remainder is the
 -- dividend, and the remainder is closer to 0 than the divisor and has the dividend's sign. The proof first shows that such a
--- quotient fits an int, so that its word determines it; laws of whole numbers give the rest. The signed value of a right shift is
--- here too.
+-- quotient fits in an int, so that its word determines it; laws of whole numbers give the rest. The signed value of a right shift
+-- is here too.
 use Rattle.std.proofs.Common.{◌≡◌, ℕ, ◌*◌, ◌/◌, ◌%◌, ◌^◌, ◌<◌, ◌≤◌, Bool, true, false, cond, ltb, ◌≢◌, Some, None, ℤ, pos, negsuc, ◌+ℤ◌, ◌*ℤ◌, ◌≤ℤ◌, unsigned_abs, int_div, int_rem, refl, sym, ap, ◌∙◌, arith, div-le_self, zero, suc, neg_ℤ, mul-le-mul_left, le_trans, div-mul-le_self, lt_of_le_of_lt, div-one, w32, FitsSigned}
 use Rattle.std.specs.Int.{int_shr}
 use Rattle.std.specs.Int.Signed.{mag, mag_rem, mag_shr, le_z_yes}
@@ -24,7 +24,7 @@ half_quotient a b =
     let below : n * 2 ≤ n * suc (suc b) = mul-le-mul_left n (omega arith) in
     le_trans below (div-mul-le_self (suc a) (suc (suc b)))
 
--- only the quotient of -2147483648 by -1 does not fit an int
+-- only the quotient of -2147483648 by -1 does not fit in an int
 quotient_fits : (x y : ℤ) → FitsSigned w32 x → y ≢ pos 0 → (x ≡ negsuc 2147483647 → y ≢ negsuc 0) → FitsSigned w32 (int_div x y)
 quotient_fits (pos a) (pos b) h _ _ = record { sfits = omega (arith, div-le_self a b, h.sfits) }
 quotient_fits (pos a) (negsuc b) h _ _ =

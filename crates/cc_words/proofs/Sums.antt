@@ -41,7 +41,7 @@ below_zero : (z : ℤ) (w : ℕ) → z +ℤ pos (2 ^ 32) ≡ pos w → IsWord w 
 below_zero (pos n) w e h = absurd (omega (arith, ints))
 below_zero (negsuc m) w e h = (m, refl, omega (arith, ints))
 
--- a word's signed value, by its sign
+-- a word's signed value, depending on its sign
 signed_value_form : (w : ℕ) → IsWord w → (signed_value w ≡ pos w) ⊎ ((m : ℕ) × (signed_value w ≡ negsuc m) × (w + suc m ≡ 2 ^ 32))
 signed_value_form w h =
     elim (word_cases w h) [ inl e ↦ inl e | inr e ↦ inr (below_zero (signed_value w) w e h) ]

@@ -6,7 +6,7 @@
 //!
 //! `operators` has the operators of the intermediate languages as values, and the width of an object's elements.
 //!
-//! The crate exports the calls, the operators, their definitions (`specs/`) and the laws that hold of them (`proofs/`).
+//! The crate exports the calls, the operators, their definitions (`specs/`) and the laws that hold for them (`proofs/`).
 #![tactic(auto)]
 
 mod operators;

@@ -1,4 +1,4 @@
-// A work whose answers and explanations are printed as JSON.
+// Work whose answers and explanations are printed as JSON.
 
 ghost use Rattle.cc_command_line.specs.Work.{IsAllowed};
 
@@ -24,7 +24,7 @@ fn named(alloc: Global, names: Vec<String>) -> Result<Vec<String>, AllocError> {
     Ok(names)
 }
 
-// Does a task; the error is lack of memory before it began.
+// Performs a task; the only error is that memory ran out before it began.
 fn start<R: AllocGlobal + Input + Print>(
     rt: &R,
     files: &HostRuntime,
@@ -43,45 +43,7 @@ fn start<R: AllocGlobal + Input + Print>(
     Ok(perform_files_in_json(rt, files, task, names, is_quiet, &mut writer))
 }
 
-// Does another work, with writers of objects in place of standard output and standard error.
-fn do_other<R>(
-    rt: &R,
-    files: &HostRuntime,
-    persons: Persons,
-    work: Work,
-    names: &[String],
-) -> Result<u8, AllocError>
-where
-    R: AllocGlobal
-        + Files<File = File>
-        + Clock
-        + Input
-        + Print
-        + Eprint
-        + Threads
-        + Wait
-        + Copy
-        + Clone
-        + Send
-        + Sync
-        + Drop
-        + 'static,
-    requires { IsAllowed work }
-{
-    let alloc = rt.alloc();
-    let (Ok(writer), Ok(errors)) = (
-        BufWriter::new(alloc, io::writer(rt)),
-        BufWriter::new(alloc, io::writer(rt)),
-    ) else {
-        drop(work);
-        return Err(AllocError);
-    };
-    let answers = InJson::new(alloc, writer, LineKind::Answers);
-    let told = InJson::new(alloc, errors, LineKind::Told);
-    do_work(rt, files, answers, told, false, persons, work, names)
-}
-
-/// Does a work that can be printed as JSON; the status. Nobody reads about what waits or goes on.
+/// Does a work that can be printed as JSON, with writers of objects in place of standard output and standard error; the status. Nobody reads about what waits or goes on.
 pub fn do_work_in_json<R>(
     rt: &R,
     files: &HostRuntime,
@@ -114,9 +76,19 @@ where
     match work {
         Work::One(task) => start(rt, files, task, names, is_quiet),
         other => {
-            let done = do_other(rt, files, persons, other, names.as_slice());
-            drop(names);
-            done
+            let alloc = rt.alloc();
+            let (Ok(writer), Ok(errors)) = (
+                BufWriter::new(alloc, io::writer(rt)),
+                BufWriter::new(alloc, io::writer(rt)),
+            ) else {
+                drop(other);
+                drop(names);
+                return Err(AllocError);
+            };
+            let answers = InJson::new(alloc, writer, LineKind::Answers);
+            let told = InJson::new(alloc, errors, LineKind::Told);
+            let names = names.as_slice();
+            do_work(rt, files, answers, told, false, persons, other, names)
         }
     }
 }

@@ -14,7 +14,8 @@ use std::io::{Input, Print, Write};
 use std::process;
 use std::rt::Clock;
 
-/// Takes a part of a unit out of a library, as it is or as a command stored it; the status. The error is lack of memory before it began.
+/// Takes a part of a unit out of a library, as it is now or as a command stored it. The result is the status. The only error is that
+/// memory ran out before this began.
 pub fn take_out<R: AllocGlobal + Print, E: Write + Drop>(
     rt: &R,
     files: &HostRuntime,
@@ -28,7 +29,8 @@ pub fn take_out<R: AllocGlobal + Print, E: Write + Drop>(
     }
 }
 
-/// Looks into libraries; the status. Some works write to `answers`, others to standard output. The error is lack of memory before it began.
+/// Looks into libraries. The result is the status. Some kinds of work write to `answers`, others to standard output. The only
+/// error is that memory ran out before this began.
 pub fn look_into<
     R: AllocGlobal + Clock + Input + Print + Copy + Drop,
     A: Write + Drop,

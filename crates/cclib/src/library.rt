@@ -2,26 +2,26 @@
 
 ghost use Rattle.std.specs.Prelude.{◌≤◌};
 
-use cc_answers::{Persons, Telling, greet};
+use cc_answers::{Persons, greet};
 use cc_command_line::Session;
-use cc_filing::{disk_of, no_disk, tell_wide_disk};
+use cc_filing::{buffers, disk_of, no_disk, tell_wide_disk};
 use cc_session::{Gate, SessionEnd, session_and_explain_in};
 use cc_tasks::mode_of;
 use cc_watch::{AnswerProgress, FaultWatch};
 use std::alloc::AllocError;
-use std::io::{BufWriter, Input, IsTerminal, Write};
+use std::io::{Input, IsTerminal, Write};
 use std::rt::Clock;
 use std::sync::Wait;
 use std::thread::Threads;
 
-// Tells a person how far a long `add` is: the workers pass it before each function.
+// Shows a person how far a long `add` has come: the workers pass this gate before each function.
 #[derive(Drop)]
 struct Progress<R> {
     rt: R,
     is_shown: bool,
 }
 
-/// How many functions are compiled between two words about them.
+/// How many functions are compiled between two notes about them.
 const STEP: u32 = 16;
 
 impl<R: Eprint> Gate for Progress<R> {
@@ -39,12 +39,13 @@ fn status(end: SessionEnd) -> u8 {
     }
 }
 
-// Whether answers go where nobody sees how far they are.
+// Whether nobody sees how far the answers have come.
 fn is_out_of_sight(files: &HostRuntime) -> bool {
     !files.stdout().is_terminal()
 }
 
-/// Does the script on standard input over the library in a file; the status. The error is lack of memory before it began.
+/// Runs the script on standard input over the library in a file. The result is the status. The only error is that memory ran out
+/// before this began.
 pub fn library_session<R, A: Write + Drop, E: Write + Drop>(
     rt: &R,
     files: &HostRuntime,
@@ -58,12 +59,7 @@ where
     requires some { 1 ≤ asked.now.workers }
     requires few { asked.now.workers ≤ 8 }
 {
-    let (Ok(buffered), Ok(errors)) = (
-        BufWriter::new(rt.alloc(), answers),
-        BufWriter::new(rt.alloc(), errors),
-    ) else {
-        return Err(AllocError);
-    };
+    let (buffered, mut told) = buffers(rt.alloc(), answers, errors, persons.is_quiet)?;
     let is_shown = persons.is_watched && !persons.is_quiet;
     let screen = if is_shown && is_out_of_sight(files) {
         Some(files.stderr())
@@ -76,10 +72,6 @@ where
         screen,
         "lines of answers",
     );
-    let mut told = Telling {
-        errors,
-        is_quiet: persons.is_quiet,
-    };
     let disk = match disk_of(files, asked.disk.as_str(), asked.area) {
         Ok(disk) => disk,
         Err(reason) => return Ok(no_disk(reason, asked.disk.as_str(), &mut writer, &mut told)),

@@ -1,9 +1,9 @@
-//! The program `cclib`: reads a C program from standard input or from files, and checks, interprets, runs or lists it, or does a script over a library.
-//! How a command line is read is the matter of `cc_command_line`, how a task is done that of `cc_tasks`, a script that of `cc_session`, the
-//! file of a library and what is taken out of one that of `cc_filing`, what looks into libraries that of `cc_keeping`, a server's client that of
-//! `cc_submit`, what is printed as JSON that of `cc_json`, a run that is watched that of `cc_cover`. `keeping` looks into libraries, `library`
-//! has a session over a file, `serving` a server, `stack` what the stack needs, `texts` a program that comes in files, `in_json` does a work in
-//! JSON, `watching` runs that are watched, `version` names the sources of the program.
+//! The program `cclib`: reads a C program from standard input or from files, and checks, interprets, runs or lists it, or runs a
+//! script over a library. `cc_command_line` reads the command line, `cc_tasks` performs a task, `cc_session` runs a script.
+//! `cc_filing` has the file of a library and what is taken out of one, `cc_keeping` what looks into libraries, `cc_submit` a
+//! server's client, `cc_json` what is printed as JSON, `cc_cover` a run that is watched. `keeping` looks into libraries,
+//! `library` has a session over a file, `serving` a server, `stack` what the stack needs, `texts` a program that comes in files,
+//! `in_json` does work in JSON, `watching` runs that are watched, `version` names the sources of the program.
 #![tactic(auto)]
 
 mod in_json;
@@ -15,11 +15,13 @@ mod texts;
 mod version;
 mod watching;
 
+ghost use Rattle.std.specs.Prelude.{IfOk};
 ghost use Rattle.cc_command_line.specs.Work.{IsAllowed};
 
 use cc_answers::Persons;
 use cc_command_line::{Invocation, NoRequest, Work, read_or_tell, tell_bytes};
 use cc_descriptors::{System, take_free};
+use cc_filing::buffers;
 use cc_submit::submit_script;
 use cc_task::{Kind, Task};
 use cc_tasks::{Fault, carry_out, perform_and_explain, perform_and_explain_stages, perform_stages};
@@ -30,7 +32,7 @@ use serving::serve_folder;
 use stack::reserve_stack;
 use std::alloc::AllocError;
 use std::fs::File;
-use std::io::{self, BufWriter, IsTerminal, Write};
+use std::io::{self, IsTerminal, Write};
 use std::process::{self, ExitCode};
 use std::rt::{Clock, Env, Files};
 use std::sync::Wait;
@@ -41,18 +43,33 @@ use watching::{start_cover, start_trace};
 
 /// Does what the command line asks; the status is 0 for an answer, 1 for a fault, 2 for a refused command line.
 ///
-/// Standard input, output and error that are closed are taken before any file is opened, until the end: else the file of a library would get
-/// the descriptor of one, and what is printed would go into it. If they can't be taken nothing is done, and the status is 1.
+/// If standard input, output or error is closed, its descriptor is taken before any file is opened, and kept until the end.
+/// Otherwise the file of a library would get that descriptor, and what is printed would go into the file. If a descriptor can't
+/// be taken, nothing is done, and the status is 1.
 fn main(rt: HostRuntime) -> ExitCode {
     let Ok(stand_ins) = take_free(&mut System { rt }) else {
         return ExitCode::from(1);
     };
-    let persons = Persons {
-        is_typed: rt.stdin().is_terminal(),
-        is_watched: rt.stderr().is_terminal(),
-        is_quiet: false,
+    let done = match read_request(&rt, &rt) {
+        Ok(
+            Invocation {
+                work,
+                is_quiet,
+                is_json,
+                files,
+            },
+        ) => if is_json {
+            do_work_in_json(&rt, &rt, is_quiet, work, files)
+        } else {
+            let persons = persons_at(&rt, is_quiet);
+            let is_seen = rt.stdout().is_terminal();
+            let (answers, errors) = (io::writer(&rt), rt.stderr());
+            let names = files.as_slice();
+            do_work(&rt, &rt, answers, errors, is_seen, persons, work, names)
+        },
+        Err(done) => done,
     };
-    let status = match run(&rt, &rt, rt.stderr(), persons) {
+    let status = match done {
         Ok(status) => status,
         Err(_) => {
             let _ = Fault::OutOfMemory.write_line(b"", &mut io::writer(&rt));
@@ -63,7 +80,46 @@ fn main(rt: HostRuntime) -> ExitCode {
     ExitCode::from(status)
 }
 
-// Does a task; the error is lack of memory before it began.
+// Who types the input, and who sees what is printed.
+fn persons_at(rt: &HostRuntime, is_quiet: bool) -> Persons {
+    Persons {
+        is_typed: rt.stdin().is_terminal(),
+        is_watched: rt.stderr().is_terminal(),
+        is_quiet,
+    }
+}
+
+// What the command line asks for, with the stack that it may need; else the status, or lack of memory.
+fn read_request<R: AllocGlobal + Env + Eprint + Print>(
+    rt: &R,
+    files: &HostRuntime,
+) -> Result<Invocation, Result<u8, AllocError>>
+    ensures { IfOk result (λ request. IsAllowed request.work) }
+{
+    let words = match std::env::args(rt) {
+        Ok(words) => words,
+        Err(error) if error.kind() == io::ErrorKind::InvalidData => {
+            return Err(status_of(rt, files, tell_bytes(rt, rt.alloc())));
+        }
+        Err(_) => return Err(Err(AllocError)),
+    };
+    let words: Vec<String> = match words.collect(rt.alloc()) {
+        Ok(words) => words,
+        Err(_) => return Err(Err(AllocError)),
+    };
+    match read_or_tell(rt, rt.alloc(), words.as_slice()) {
+        Ok(request) => {
+            if goes_deep(&request.work) && reserve_stack(rt.alloc()).is_err() {
+                drop(request);
+                return Err(Err(AllocError));
+            }
+            Ok(request)
+        }
+        Err(nothing) => Err(status_of(rt, files, nothing)),
+    }
+}
+
+// Performs a task; the only error is that memory ran out before it began.
 fn start<R: AllocGlobal + Input + Print, E: Write + Drop>(
     rt: &R,
     files: &HostRuntime,
@@ -75,10 +131,7 @@ fn start<R: AllocGlobal + Input + Print, E: Write + Drop>(
     if !names.is_empty() {
         return start_texts(rt, files, task, names, is_quiet, errors);
     }
-    let (Ok(mut writer), Ok(mut errors)) = (
-        BufWriter::new(rt.alloc(), io::writer(rt)),
-        BufWriter::new(rt.alloc(), errors),
-    ) else {
+    let Ok((mut writer, mut told)) = buffers(rt.alloc(), io::writer(rt), errors, is_quiet) else {
         drop(task);
         return Err(AllocError);
     };
@@ -87,11 +140,11 @@ fn start<R: AllocGlobal + Input + Print, E: Write + Drop>(
         return Ok(done.status);
     }
     let mut reader = rt.reader();
-    let done = perform_and_explain(rt, task, &mut reader, &mut writer, &mut errors);
+    let done = perform_and_explain(rt, task, &mut reader, &mut writer, &mut told);
     Ok(done.status)
 }
 
-// Shows what the compiler makes of a text; the error is lack of memory before it began.
+// Shows what the compiler makes of a text; the only error is that memory ran out before this began.
 fn start_stages<R: AllocGlobal + Input + Print, E: Write + Drop>(
     rt: &R,
     files: &HostRuntime,
@@ -114,7 +167,7 @@ fn start_stages<R: AllocGlobal + Input + Print, E: Write + Drop>(
     status
 }
 
-// The same of the text on standard input.
+// Does the same for the text on standard input.
 fn start_stages_of_input<R: AllocGlobal + Input + Print, E: Write + Drop>(
     rt: &R,
     kind: Kind,
@@ -122,21 +175,16 @@ fn start_stages_of_input<R: AllocGlobal + Input + Print, E: Write + Drop>(
     is_quiet: bool,
     errors: E,
 ) -> Result<u8, AllocError> {
-    let (Ok(mut writer), Ok(mut errors)) = (
-        BufWriter::new(rt.alloc(), io::writer(rt)),
-        BufWriter::new(rt.alloc(), errors),
-    ) else {
-        return Err(AllocError);
-    };
+    let (mut writer, mut told) = buffers(rt.alloc(), io::writer(rt), errors, is_quiet)?;
     let mut reader = rt.reader();
     Ok(if is_quiet {
         perform_stages(rt, kind, name, &mut reader, &mut writer)
     } else {
-        perform_and_explain_stages(rt, kind, name, &mut reader, &mut writer, &mut errors)
+        perform_and_explain_stages(rt, kind, name, &mut reader, &mut writer, &mut told)
     })
 }
 
-// The status where there is no work; the error is lack of memory.
+// The status if there is no work; the only error is that memory ran out.
 fn status_of<R: Print>(rt: &R, files: &HostRuntime, nothing: NoRequest) -> Result<u8, AllocError> {
     match nothing {
         NoRequest::Told(status) => Ok(status),
@@ -145,79 +193,14 @@ fn status_of<R: Print>(rt: &R, files: &HostRuntime, nothing: NoRequest) -> Resul
     }
 }
 
-// Does what the command line asks; the status. The error is lack of memory before the work began. Files are opened by a handle of their own.
-fn run<R, E: Write + Drop>(
-    rt: &R,
-    files: &HostRuntime,
-    errors: E,
-    mut persons: Persons,
-) -> Result<u8, AllocError>
-where
-    R: AllocGlobal
-        + Env
-        + Files<File = File>
-        + Clock
-        + Input
-        + Print
-        + Eprint
-        + Threads
-        + Wait
-        + Copy
-        + Clone
-        + Send
-        + Sync
-        + Drop
-        + 'static,
-{
-    let words = match std::env::args(rt) {
-        Ok(words) => words,
-        Err(error) if error.kind() == io::ErrorKind::InvalidData => {
-            return status_of(rt, files, tell_bytes(rt, rt.alloc()));
-        }
-        Err(_) => return Err(AllocError),
-    };
-    let words: Vec<String> = words.collect(rt.alloc())?;
-    let asked = read_or_tell(rt, rt.alloc(), words.as_slice());
-    drop(words);
-    let Invocation {
-        work,
-        is_quiet,
-        is_json,
-        files: names,
-    } = match asked {
-        Ok(request) => request,
-        Err(nothing) => return status_of(rt, files, nothing),
-    };
-    persons.is_quiet = is_quiet;
-    if goes_deep(&work) && reserve_stack(rt.alloc()).is_err() {
-        drop(work);
-        drop(names);
-        return Err(AllocError);
-    }
-    if is_json {
-        return do_work_in_json(rt, files, is_quiet, work, names);
-    }
-    let is_seen = files.stdout().is_terminal();
-    let answers = io::writer(rt);
-    do_work(
-        rt,
-        files,
-        answers,
-        errors,
-        is_seen,
-        persons,
-        work,
-        names.as_slice(),
-    )
-}
-
-// Whether a work may need more of the stack than a process begins with: each but a client's, which sends texts as they are.
+// Whether work may need more of the stack than a process begins with: all work may, except a client's, which sends texts as they
+// are.
 fn goes_deep(work: &Work) -> bool {
     !matches!(work, Work::Submit(_))
 }
 
-/// Does a work; if its program is in files, these are named. What can be printed as JSON but a task is written to `answers`, which a person may
-/// see, the rest to standard output.
+/// Does work; if its program is in files, they are named. The answers of work that can be printed as JSON, except a task's, go to
+/// `answers`, which a person may see. The rest goes to standard output.
 pub(crate) fn do_work<R, A: Write + Drop, E: Write + Drop>(
     rt: &R,
     files: &HostRuntime,

@@ -1,25 +1,25 @@
-// The command `serve`: the scripts that others leave in a folder, by many clients at a time, over a library in a file.
+// The command `serve`: the scripts that others leave in a folder, from many clients at a time, over a library in a file.
 
 ghost use Rattle.std.specs.Fmt.{decimal};
 ghost use Rattle.std.specs.Io.KnownBytes.{Appends};
 ghost use Rattle.std.specs.Prelude.{◌≡◌, ◌≢◌, ◌≤◌, ◌++◌, ◌∷◌, [], true, false, IfOk, OnOk, codes};
 ghost use Rattle.cc_session.specs.declared.end.SessionEnd.TheVariants.{Finished};
 
-use cc_answers::Telling;
 use cc_command_line::Server;
 use cc_filing::{
-    AnswerCounts, Keeper, NoFolder, Taken, count_all, no_folder, spools_of, take_to_serve,
+    AnswerCounts, Keeper, NoFolder, Taken, buffers, count_all, no_folder, spools_of, take_to_serve,
     tell_generation, tell_kept,
 };
 use cc_session::{BOUNDS, Generation, GenerationEnd, Served, SessionEnd, Steward, serve_on_in};
+use cc_spool::{FolderLayout, FolderSpool};
 use cc_tasks::mode_of;
-use std::alloc::AllocError;
-use std::io::{self, BufWriter, Print, Write};
+use std::alloc::{AllocError, Global};
+use std::io::{self, Print, Write};
 use std::rt::Clock;
 use std::sync::Wait;
 use std::thread::Threads;
 
-// Keeps the folder from one generation to the next, and tells a person of them.
+// Keeps the folder from one generation to the next, and reports on them to a person.
 #[derive(Drop)]
 struct Serving {
     keeper: Keeper,
@@ -54,7 +54,7 @@ fn print_served<W: Write>(answered: u64, writer: &mut W) -> io::Result<()>
     writer.flush()
 }
 
-// The same; whether it was printed.
+// Prints the same. The result is whether it was printed.
 fn is_served_printed<W: Write, E: Write>(answered: u64, writer: &mut W, told: &mut E) -> bool
     ensures { result ≡ true → Appends (W.contents writer.old) (W.contents writer.new) (codes "served " ++ decimal answered ++ 10 ∷ []) }
 {
@@ -68,7 +68,7 @@ fn is_served_printed<W: Write, E: Write>(answered: u64, writer: &mut W, told: &m
     }
 }
 
-// Writes how serving ended, where no line of a fault was written; whether all that had to be printed was.
+// Writes how serving ended, if no line for a fault was written. The result is whether all that had to be printed was printed.
 fn write_end<W: Write, E: Write>(
     end: SessionEnd,
     counts: AnswerCounts,
@@ -90,7 +90,7 @@ fn write_end<W: Write, E: Write>(
     }
 }
 
-// The status of a server that ended so.
+// The status of a server that ended this way.
 fn status_of(end: SessionEnd, counts: AnswerCounts, is_printed: bool) -> u8
     ensures well { end ≡ Finished → counts.kept ≡ 0 → counts.has_failed ≡ false → is_printed ≡ true → result ≡ 0 }
     ensures fault { end ≢ Finished → result ≡ 1 }
@@ -104,63 +104,41 @@ fn status_of(end: SessionEnd, counts: AnswerCounts, is_printed: bool) -> u8
     }
 }
 
-// Serves a folder that was taken, over a library's disk; the status. The folder is let go when all is done.
-fn serve_taken<R, W: Write, E: Write>(
-    rt: &R,
-    taken: Taken,
+// What serving a folder begins with: its spools, and who keeps it.
+fn begin(
+    alloc: Global,
+    layout: &FolderLayout,
+    kept: Vec<String>,
+    asked: &Server,
+) -> Result<(Vec<FolderSpool>, Serving), AllocError> {
+    let spools = spools_of(alloc, layout, asked.clients, kept)?;
+    let keeper = Keeper::new(alloc, layout, asked)?;
+    Ok((spools, Serving { keeper }))
+}
+
+// Counts the answers and reports how serving ended; the status.
+fn finish<W: Write, E: Write>(
+    layout: &FolderLayout,
+    spools: Vec<FolderSpool>,
+    end: SessionEnd,
     asked: &Server,
     writer: &mut W,
     told: &mut E,
-) -> Result<u8, AllocError>
-where
-    R: AllocGlobal + Threads + Wait + Clock + Copy + Send + Sync + 'static,
-    requires some { 1 ≤ asked.now.workers }
-    requires few { asked.now.workers ≤ 8 }
-    ensures { IfOk result (λ status. status ≤ 1) }
+) -> u8
+    ensures { result ≤ 1 }
 {
-    let Taken {
-        layout,
-        disk,
-        kept,
-        held,
-    } = taken;
-    let alloc = rt.alloc();
-    let spools = spools_of(alloc, &layout, asked.clients, kept);
-    let keeper = Keeper::new(alloc, &layout, asked);
-    let (Ok(spools), Ok(keeper)) = (spools, keeper) else {
-        drop(disk);
-        drop(held);
-        return Err(AllocError);
-    };
-    let mut serving = Serving { keeper };
-    let workers = asked.workers;
-    let Served { disk, spools, end } = serve_on_in(
-        rt,
-        alloc,
-        mode_of(asked.kind),
-        spools,
-        writer,
-        told,
-        disk,
-        workers,
-        BOUNDS,
-        &mut serving,
-    );
-    drop(disk);
-    drop(serving);
     let counts = count_all(spools.as_slice());
     drop(spools);
     if !counts.has_failed {
-        // The next start takes it away where it can't be now.
+        // If `stop` can't be removed now, the next start removes it.
         let _ = layout.unstop();
     }
     let is_printed = write_end(end, counts, asked.folder.as_str(), writer, told);
-    drop(held);
-    Ok(status_of(end, counts, is_printed))
+    status_of(end, counts, is_printed)
 }
 
-/// Serves a folder until it has `stop`; the status: 0 if the service ended well, each answer was handed over, and `served N` was printed, else
-/// 1. The error is lack of memory before it began.
+/// Serves a folder over a library's disk until it has `stop`; the status: 0 if the service ended well, each answer was handed over, and
+/// `served N` was printed, else 1. The folder is let go when all is done. The error is lack of memory before it began.
 pub fn serve_folder<R, E: Write + Drop>(
     rt: &R,
     files: &HostRuntime,
@@ -175,15 +153,37 @@ where
     ensures { IfOk result (λ status. status ≤ 1) }
 {
     let alloc = rt.alloc();
-    let (Ok(mut writer), Ok(errors)) = (
-        BufWriter::new(alloc, io::writer(rt)),
-        BufWriter::new(alloc, errors),
-    ) else {
+    let (mut writer, mut told) = buffers(alloc, io::writer(rt), errors, is_quiet)?;
+    let taken = match take_to_serve(files, alloc, asked, is_quiet, &mut writer, &mut told)? {
+        Ok(taken) => taken,
+        Err(status) => return Ok(status),
+    };
+    let Taken {
+        layout,
+        disk,
+        kept,
+        held,
+    } = taken;
+    let Ok((spools, mut serving)) = begin(alloc, &layout, kept, asked) else {
+        drop(disk);
+        drop(held);
         return Err(AllocError);
     };
-    let mut told = Telling { errors, is_quiet };
-    match take_to_serve(files, alloc, asked, is_quiet, &mut writer, &mut told)? {
-        Ok(taken) => serve_taken(rt, taken, asked, &mut writer, &mut told),
-        Err(status) => Ok(status),
-    }
+    let Served { disk, spools, end } = serve_on_in(
+        rt,
+        alloc,
+        mode_of(asked.kind),
+        spools,
+        &mut writer,
+        &mut told,
+        disk,
+        asked.workers,
+        BOUNDS,
+        &mut serving,
+    );
+    drop(disk);
+    drop(serving);
+    let status = finish(&layout, spools, end, asked, &mut writer, &mut told);
+    drop(held);
+    Ok(status)
 }

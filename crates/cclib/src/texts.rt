@@ -1,15 +1,16 @@
 // A program that comes in files.
 
-use cc_answers::Telling;
+use cc_filing::buffers;
 use cc_task::{Kind, Task};
 use cc_tasks::{
     carry_out_texts, perform_and_explain_stages_of_texts, perform_stages_of_texts,
     perform_texts_and_explain, read_or_refuse,
 };
 use std::alloc::AllocError;
-use std::io::{self, BufWriter, Input, Print, Write};
+use std::io::{self, Input, Print, Write};
 
-/// Does a task for the program in these files; the status. The error is lack of memory before it began.
+/// Performs a task for the program in these files. The result is the status. The only error is that memory ran out before it
+/// began.
 pub fn start_texts<R: AllocGlobal + Input + Print, E: Write + Drop>(
     rt: &R,
     files: &HostRuntime,
@@ -18,14 +19,10 @@ pub fn start_texts<R: AllocGlobal + Input + Print, E: Write + Drop>(
     is_quiet: bool,
     errors: E,
 ) -> Result<u8, AllocError> {
-    let (Ok(mut writer), Ok(errors)) = (
-        BufWriter::new(rt.alloc(), io::writer(rt)),
-        BufWriter::new(rt.alloc(), errors),
-    ) else {
+    let Ok((mut writer, mut told)) = buffers(rt.alloc(), io::writer(rt), errors, is_quiet) else {
         drop(task);
         return Err(AllocError);
     };
-    let mut told = Telling { errors, is_quiet };
     let texts = match read_or_refuse(rt, files, names, &mut writer, &mut told) {
         Ok(Some(texts)) => texts,
         Ok(None) => {
@@ -46,7 +43,8 @@ pub fn start_texts<R: AllocGlobal + Input + Print, E: Write + Drop>(
     Ok(done.status)
 }
 
-/// Shows what the compiler makes of the program in these files; the status. The error is lack of memory before it began.
+/// Shows what the compiler makes of the program in these files. The result is the status. The only error is that memory ran out
+/// before this began.
 pub fn start_stages_of_texts<R: AllocGlobal + Input + Print, E: Write + Drop>(
     rt: &R,
     files: &HostRuntime,
@@ -56,13 +54,7 @@ pub fn start_stages_of_texts<R: AllocGlobal + Input + Print, E: Write + Drop>(
     is_quiet: bool,
     errors: E,
 ) -> Result<u8, AllocError> {
-    let (Ok(mut writer), Ok(errors)) = (
-        BufWriter::new(rt.alloc(), io::writer(rt)),
-        BufWriter::new(rt.alloc(), errors),
-    ) else {
-        return Err(AllocError);
-    };
-    let mut told = Telling { errors, is_quiet };
+    let (mut writer, mut told) = buffers(rt.alloc(), io::writer(rt), errors, is_quiet)?;
     let Some(texts) = read_or_refuse(rt, files, names, &mut writer, &mut told)? else {
         return Ok(1);
     };

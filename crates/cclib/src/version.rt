@@ -1,11 +1,12 @@
-// The sources of an installed program: its install wrote them beside it. They come after the line of the version.
+// The sources of an installed program: the installation wrote their names into a file beside the program. They are printed after
+// the line with the version.
 
 use cc_sources::{NoText, read_text};
 use std::env;
 use std::fs::File;
 use std::io::{self, Print, Write};
 
-// The text that an install put beside the program; an error if the program is not installed.
+// The text that the installation put beside the program; an error if the program is not installed.
 fn sources(files: &HostRuntime) -> io::Result<Vec<u8>> {
     let program = env::current_exe(files)?;
     let Some(folder) = program.parent() else {
@@ -20,7 +21,8 @@ fn sources(files: &HostRuntime) -> io::Result<Vec<u8>> {
     }
 }
 
-// Whether a line names the sources of the program, or the toolchain that made it. A line that would steer a terminal does not.
+// Whether a line names the sources of the program, or the toolchain that made it. A line that could control a terminal is not
+// wanted.
 fn is_wanted(line: &[u8]) -> bool {
     (line.starts_with(b"commit ") || line.starts_with(b"toolchain "))
         && line
@@ -39,7 +41,7 @@ fn write_wanted<W: Write>(text: &[u8], writer: &mut W) -> io::Result<()> {
     writer.flush()
 }
 
-/// Prints the sources of the program, if it is installed; the status.
+/// Prints the names of the program's sources, if it is installed. The result is the status.
 pub fn print_sources<R: Print>(rt: &R, files: &HostRuntime) -> u8 {
     match sources(files) {
         Ok(text) => u8::from(write_wanted(text.as_slice(), &mut io::writer(rt)).is_err()),

@@ -3,12 +3,14 @@
 use cc_answers::{Persons, Telling};
 use cc_command_line::{Covered, Traced};
 use cc_cover::{cover_files, cover_lines, trace_files};
+use cc_filing::buffers;
 use cc_watch::AnswerProgress;
 use std::alloc::AllocError;
-use std::io::{self, BufWriter, Input, Write};
+use std::io::{self, Input, Write};
 use std::rt::Clock;
 
-/// Does `trace` for the program in these files, or on standard input if no file is named; the status. The error is lack of memory before it began.
+/// Runs `trace` for the program in these files, or on standard input if no file is named. The result is the status. The only
+/// error is that memory ran out before this began.
 pub fn start_trace<R: AllocGlobal + Input, A: Write + Drop, E: Write + Drop>(
     rt: &R,
     files: &HostRuntime,
@@ -18,20 +20,16 @@ pub fn start_trace<R: AllocGlobal + Input, A: Write + Drop, E: Write + Drop>(
     answers: A,
     errors: E,
 ) -> Result<u8, AllocError> {
-    let (Ok(mut writer), Ok(errors)) = (
-        BufWriter::new(rt.alloc(), answers),
-        BufWriter::new(rt.alloc(), errors),
-    ) else {
+    let Ok((mut writer, mut told)) = buffers(rt.alloc(), answers, errors, is_quiet) else {
         drop(asked);
         return Err(AllocError);
     };
-    let mut told = Telling { errors, is_quiet };
     let Traced { steps, words, last } = asked;
     let last = last as usize;
     trace_files(rt, files, names, steps, words, last, &mut writer, &mut told)
 }
 
-// Does `cover` for each line of a file. A person who sees standard error is shown how many runs there were.
+// Runs `cover` for each line of a file. A person who sees standard error is shown how many runs there were.
 fn cover_each<R: AllocGlobal + Clock + Input + Copy + Drop, W: Write, E: Write + Drop>(
     rt: &R,
     files: &HostRuntime,
@@ -54,7 +52,7 @@ fn cover_each<R: AllocGlobal + Clock + Input + Copy + Drop, W: Write, E: Write +
     status
 }
 
-/// Does `cover`, in the same way.
+/// Runs `cover`, in the same way.
 pub fn start_cover<R: AllocGlobal + Clock + Input + Copy + Drop, A: Write + Drop, E: Write + Drop>(
     rt: &R,
     files: &HostRuntime,
@@ -64,15 +62,11 @@ pub fn start_cover<R: AllocGlobal + Clock + Input + Copy + Drop, A: Write + Drop
     answers: A,
     errors: E,
 ) -> Result<u8, AllocError> {
-    let (Ok(mut writer), Ok(errors)) = (
-        BufWriter::new(rt.alloc(), answers),
-        BufWriter::new(rt.alloc(), errors),
-    ) else {
+    let is_quiet = persons.is_quiet;
+    let Ok((mut writer, mut told)) = buffers(rt.alloc(), answers, errors, is_quiet) else {
         drop(asked);
         return Err(AllocError);
     };
-    let is_quiet = persons.is_quiet;
-    let mut told = Telling { errors, is_quiet };
     let Covered {
         steps,
         words,

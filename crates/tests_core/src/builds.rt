@@ -64,7 +64,7 @@ impl Scripted for FewPieces {
     }
 }
 
-/// A build that makes nothing: each source is refused with 11. By it any unit is right, so it opens any library.
+/// A build that makes nothing: each source is refused with 11. With it any unit is right, so it opens any library.
 #[derive(Drop)]
 pub struct Nothing {}
 

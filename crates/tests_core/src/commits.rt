@@ -28,7 +28,7 @@ const TWO_CLIENTS: [Line; 6] = [
     Done(1, ONE, 0),
 ];
 
-// Its other lines, with the four device events before the reply.
+// The other lines of the worked table, with the four device events before the reply.
 const ONE_OF_TWO: [(Line, u32); 5] = [
     (Begin(1), 29),
     (Write, 0),
@@ -112,8 +112,8 @@ fn not_now(rt: HostRuntime) -> Result<(), Fail> {
     passes(begins(rt.alloc(), 200, &NOT_NOW, &(None, None, None, 0)))
 }
 
-// Two pieces come out of order: first one of them is refused; then both are, and the number of the first piece is the answer; then both are
-// made.
+// Two pieces come out of order. First one of them is refused; then both are, and the answer is the number that refuses the first
+// piece; then both are made.
 const TWO_PIECES: [(Line, u32); 20] = [
     (Add(1, b'a', LONG), 0),
     (Take(1, 1, 1), 0),
@@ -142,8 +142,9 @@ fn two_pieces(rt: HostRuntime) -> Result<(), Fail> {
     passes(begins(rt.alloc(), 200, &TWO_PIECES, &(Some(LONG), None, None, 1)))
 }
 
-// The record of a name of one byte and a source of three takes 28 bytes: the gate, the length, 4 bytes up to the name, 7 for the source, 8
-// for the one code word, 4 for no globals. An area of 64 bytes has room for two and their closed gate, and not for three.
+// The record of a name of one byte and a source of three takes 28 bytes: the gate, the length, 4 bytes up to the name, 7 for the
+// source, 8 for the one code word, 4 for no globals. An area of 64 bytes has room for two and their closed gate, but not for
+// three.
 const FULL: [(Line, u32); 5] = [
     (Put(3, 1, b'a', ONE), 1),
     (Put(3, 2, b'b', TWO), 1),
@@ -157,8 +158,8 @@ fn full_area(rt: HostRuntime) -> Result<(), Fail> {
     passes(begins(rt.alloc(), 64, &FULL, &(Some(ONE), Some(TWO), None, 2)))
 }
 
-// With a certificate a record takes that much more: 4 bytes for its length, and its bytes. An area of 64 bytes has room for one of 31
-// bytes, and not for one of 32. A rewrite and a crash keep a record with a certificate that has room.
+// With a certificate a record takes more: 4 bytes for the certificate's length, and its bytes. An area of 64 bytes has room for a
+// certificate of 31 bytes, but not for one of 32. A rewrite and a crash keep a record with a certificate that has room.
 const ROOM: &str = "c\x1fx";
 
 const NO_ROOM: &str = "c\x20x";
@@ -178,7 +179,7 @@ fn a_certificate_that_has_no_room(rt: HostRuntime) -> Result<(), Fail> {
     passes(begins(rt.alloc(), 64, &CERTIFIED, &(Some(ROOM), None, None, 1)))
 }
 
-// Lists give back what they were made of; the numbers are those of the faults.
+// Lists give back what they were made from; the numbers are those of the faults.
 #[test]
 fn lists_and_numbers(rt: HostRuntime) -> Result<(), Fail> {
     let numbers = [

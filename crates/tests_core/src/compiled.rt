@@ -24,7 +24,7 @@ impl Scripted for CcBuild {
     }
 }
 
-// Whether an image that reads these words writes that word alone, and exits with 0.
+// Whether an image that reads these words writes only that word, and exits with 0.
 fn writes(alloc: Global, image: &Image, input: &[u32], word: u32) -> Result<bool, Fail> {
     let mut machine = Machine::new(alloc, image, input)?;
     let outcome = machine.run(100_000);
@@ -49,7 +49,7 @@ fn has(alloc: Global, state: &State<CcBuild>, wanted: Held) -> Result<bool, Fail
     }
 }
 
-/// Whether these events, one after the other from that state on, give these answers, and the name then has that.
+/// Whether these events, one after the other from that state on, give these answers, and the name `a` then has what is wanted.
 pub fn leaves(
     alloc: Global,
     mut state: State<CcBuild>,

@@ -37,7 +37,7 @@ fn add_lines(lines: &mut Vec<Line>, done: usize, last: Line, byte: u8) -> Result
     Ok(())
 }
 
-// Whether that is recovered.
+// Whether what is recovered is what the row says.
 fn recovers(alloc: Global, row: Row) -> Result<bool, Fail> {
     let (done, last, byte, there, acknowledged) = row;
     let mut lines = Vec::new(alloc);
@@ -47,14 +47,14 @@ fn recovers(alloc: Global, row: Row) -> Result<bool, Fail> {
 }
 
 const CRASHES: [Row; 12] = [
-    // Whatever is left of the body alone counts for nothing.
+    // What is left of the body counts for nothing without the gate.
     (4, WriteBody, 0x00, false, 0),
     (4, WriteBody, 0xa5, false, 0),
     (4, WriteBody, 0xff, false, 0),
     // In the middle of writing the gate: the unit is there if the gate was left open.
     (6, WriteGate, 0x00, false, 0),
     (6, WriteGate, 0xa5, true, 0),
-    // After the reply it is there.
+    // After the reply the unit is there.
     (8, Ack(1), 0x00, true, 1),
     (8, Ack(1), 0xa5, true, 1),
     (8, Ack(1), 0xff, true, 1),
@@ -114,7 +114,7 @@ fn an_empty_recovery(rt: HostRuntime) -> Result<(), Fail> {
     passes(begins(rt.alloc(), 200, &[(Crash(0xa5), 0), (Recover, 0)], &wanted))
 }
 
-// The laws hold of this build too.
+// The laws hold for this build too.
 #[test]
 fn whatever_a_crash_leaves() {
     survival_law::<FewPieces>();

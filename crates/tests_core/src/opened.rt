@@ -76,7 +76,7 @@ const MADE: [(Line, u32); 5] = [
     (Make(1, 1, ONE), 0),
 ];
 
-// It is committed, and a crash comes after it.
+// The third unit is committed, and a crash comes after that.
 const ACKNOWLEDGED: [(Line, u32); 3] = [(Commit(1), 1), (Crash(0x00), 0), (Recover, 0)];
 
 // A crash in the middle of writing the gate leaves it open, and the recovery keeps the unit for good.
@@ -121,7 +121,7 @@ const RECORD: [u8; 41] = [
     0x00, 0x00, 0x00, 0x00, 0x00, 0x00, 0x00, 0x00, 0x00,
 ];
 
-// A disk of 150 bytes with these at the offsets 0 and 80, written and not synced.
+// A disk of 150 bytes with this header at offset 0 and this record at offset 80, written and not synced.
 fn raw(alloc: Global, header: &[u8; 16], record: &[u8; 41]) -> Result<MemoryDisk, Fail> {
     let mut disk = MemoryDisk::new(alloc, 150)?;
     disk.write_at(0, header)?;
@@ -149,7 +149,7 @@ fn withdraws(alloc: Global, state: &mut State<Nothing>) -> Result<bool, Fail> {
     Ok(right && state.library().get(&name).is_none() && state.acked().len() == 2)
 }
 
-// Whether all that is so on a disk with these bytes.
+// Whether `withdraws` holds for the state that is opened on a disk with these bytes.
 fn is_withdrawn(alloc: Global, header: &[u8; 16], record: &[u8; 41]) -> Result<bool, Fail> {
     match State::open(alloc, Nothing {}, raw(alloc, header, record)?) {
         Ok(mut state) => {

@@ -30,7 +30,7 @@ impl Model for Piece {
 }
 
 impl Piece {
-    /// Whether it is this part of that source.
+    /// Whether the piece is this part of that source.
     pub fn is_of(&self, source: &[u8], part: u32) -> bool
         ensures named { IsTrue result ↔ ((self.now.0.source ≡ source.now) × (self.now.1 ≡ part)) }
         ensures kept { keeps self.now }
@@ -38,7 +38,7 @@ impl Piece {
         self.part == part && self.unit.stored().source.bytes() == source
     }
 
-    /// Its unit.
+    /// The piece's unit.
     pub fn unit(&self) -> &Arc<StoredUnit>
         ensures { arc_value result.now ≡ self.now.0 }
     {

@@ -23,7 +23,7 @@ pub type Held = (
     usize,
 );
 
-// Whether the unit is that of this source.
+// Whether this is the unit of that source.
 fn is_of(unit: &StoredUnit, source: &[u8]) -> bool {
     let certificate = match (&unit.certificate, certified(source)) {
         (None, None) => true,
@@ -43,7 +43,7 @@ fn has(library: &UnitMap, letter: u8, wanted: Option<&str>) -> Result<bool, Fail
     })
 }
 
-// Whether the state has all that.
+// Whether the state has all that is wanted.
 fn holds(state: &State<FewPieces>, wanted: &Held) -> Result<bool, Fail> {
     let (a, b, c, acknowledged) = *wanted;
     let library = state.library();
@@ -55,7 +55,7 @@ fn holds(state: &State<FewPieces>, wanted: &Held) -> Result<bool, Fail> {
     )
 }
 
-/// Whether these events, one after the other from that state on, give these answers, and leave that.
+/// Whether these events, one after the other from that state on, give these answers, and leave what is wanted.
 pub fn leaves(
     alloc: Global,
     mut state: State<FewPieces>,
@@ -67,7 +67,7 @@ pub fn leaves(
     Ok(right)
 }
 
-/// Whether these events, from a new state with areas of that many bytes on, give these answers, and leave that.
+/// Whether these events, from a new state with areas of this many bytes on, give these answers, and leave what is wanted.
 pub fn begins(alloc: Global, area: u32, lines: &[(Line, u32)], wanted: &Held) -> Result<bool, Fail>
     requires least { 64 ≤ area }
     requires most { area ≤ 2 ^ 30 }
@@ -75,7 +75,8 @@ pub fn begins(alloc: Global, area: u32, lines: &[(Line, u32)], wanted: &Held) ->
     leaves(alloc, fresh(alloc, area)?, lines, wanted)
 }
 
-/// Whether the events of the first lines, whatever they answer, leave a state from which the others give these answers, and leave that.
+/// Whether the events of the first lines, whatever they answer, leave a state from which the others give these answers, and leave
+/// what is wanted.
 pub fn goes_on(
     alloc: Global,
     first: &[Line],
@@ -87,7 +88,7 @@ pub fn goes_on(
     leaves(alloc, state, lines, wanted)
 }
 
-// A new state on a disk with areas of that many bytes.
+// A new state on a disk with areas of this many bytes.
 fn fresh(alloc: Global, area: u32) -> Result<State<FewPieces>, Fail>
     requires least { 64 ≤ area }
     requires most { area ≤ 2 ^ 30 }

@@ -18,9 +18,9 @@ const TWICE: [Line; 4] = [
     Commit(1),
 ];
 
-// They fill an area of 64 bytes, so another name has no room; a rewrite leaves one of them, and then it has. During a rewrite jobs come and
-// workers answer, but no commit begins; each step of the rewrite is possible only in its turn. After it the other area is in use, and after
-// two more in a row that one again.
+// Two records of the same name fill an area of 64 bytes, so there is no room for another name; a rewrite leaves one of the two,
+// and then there is room. During a rewrite jobs come and workers answer, but no commit begins; each step of the rewrite is
+// possible only in its turn. After it the other area is in use, and after two more rewrites in a row the same one again.
 const MAKES_ROOM: [(Line, u32); 36] = [
     (Add(7, b'b', ONE), 0),
     (Make(3, 7, ONE), 0),

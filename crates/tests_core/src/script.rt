@@ -60,7 +60,7 @@ pub trait Scripted: Build {
     fn piece(alloc: Global, source: &str, part: u32) -> Result<Self::Piece, Fail>;
 }
 
-/// The name of one letter.
+/// The name that consists of this letter.
 pub fn name_of(letter: u8) -> Result<Name, Fail> {
     Ok(Name::new(&[letter])?)
 }
@@ -203,8 +203,8 @@ fn answers_line<B: Scripted>(
     Ok(true)
 }
 
-/// Whether these events, one after the other, give these answers: 0 for no reply, 1 for done, otherwise the number of the refusal or the
-/// fault. If a line means several events, that is the answer of the last one, and each before it gives no reply.
+/// Whether these events, one after the other, give these answers: 0 for no reply, 1 for done, otherwise the number of the refusal
+/// or the fault. If a line means several events, this is the answer of the last one, and each before it gives no reply.
 pub fn answers<B: Scripted>(
     alloc: Global,
     state: &mut State<B>,

@@ -12,10 +12,10 @@ use std::alloc::Global;
 use std::test::Fail;
 use tests_texts::verdict::passes;
 
-/// It writes its input times 7.
+/// A program that writes its input times 7.
 const SEVEN: &str = "int main(void){write_word(read_word()*7);return 0;}";
 
-/// It writes the factorial of its input, and has two functions.
+/// A program that writes the factorial of its input, and has two functions.
 const FACTORIAL: &str =
     "int f(int n){if(n<2)return 1;return n*f(n-1);}int main(void){write_word(f(read_word()));return 0;}";
 
@@ -95,7 +95,7 @@ const REPLACED: [Line; 8] = [
     WriteBody,
 ];
 
-// The state that these events leave of a new one.
+// The state to which these events lead from a new one.
 fn played(alloc: Global, lines: &[Line]) -> Result<State<CcBuild>, Fail> {
     let events = events::<CcBuild>(alloc, lines)?;
     let state = State::new(alloc, CcBuild {}, 4000)?;

@@ -109,7 +109,7 @@ static WRITTEN: [Written; 7] = [
         b"unsigned char c[1];int main(void){c[0]=65535/2;write_word(c[0]);c[0]*=2;write_word(c[0]);c[0]>>=1;write_word(c[0]);}",
         &[255, 254, 127],
     ),
-    // the elements next to it do not change, and neither do variables
+    // storing into an element changes neither the elements next to it nor any variables
     (
         b"int x=-1;unsigned char c[3]={1,2,3};int y=-1;int main(void){c[1]=511;write_word(x);write_word(c[0]);write_word(c[1]);write_word(c[2]);write_word(y);}",
         &[0xffff_ffff, 1, 255, 3, 0xffff_ffff],

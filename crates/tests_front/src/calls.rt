@@ -176,7 +176,7 @@ static MARKS: [(Punctuator, &[u8]); 3] = [
     (Punctuator::ShiftRightAssign, b">>="),
 ];
 
-// C99 6.4.1 and 6.4.6.
+// The spellings of keywords and punctuators (C99 6.4.1 and 6.4.6).
 #[test]
 fn spellings(rt: HostRuntime) {
     let words = SPELLINGS.iter().all(|(word, bytes)| word.bytes() == *bytes);

@@ -1,4 +1,4 @@
-// From names to numbers (of locals, objects and functions), and from operators to operations.
+// How names become numbers (of locals, objects and functions), and how operators become operations.
 
 use super::calls::typed_unit;
 use cc_resolve::{
@@ -34,7 +34,7 @@ fn are_numbered(names: &Environment<'_>) -> bool {
     locals && objects && functions && builtins && unsigned
 }
 
-/// The same over the definition of `f`, and whether no local remains after it.
+/// Whether the names have the right numbers within the definition of `f`, and no local remains after it.
 fn is_right_in<'a>(names: &mut Environment<'a>, f: Definition<'a>) -> Result<bool, AllocError> {
     declare_all(names, f.body)?;
     let inside = are_numbered(names);

@@ -149,7 +149,7 @@ pub static REFUSED: [Refused; 84] = [
     (b"int main(void){for(unsigned char a;;);}", 5, 1, 29),
     (b"int main(void){return (unsigned char)1;}", 5, 1, 33),
     (b"int main(void){return (char)1;}", 5, 1, 24),
-    // each name in such a declaration is that of an array
+    // each name in such a declaration has to be the name of an array
     (b"unsigned char x;int main(void){}", 5, 1, 16),
     (b"unsigned char x=1;", 5, 1, 16),
     (b"unsigned char f(void){}", 5, 1, 16),
@@ -160,8 +160,8 @@ pub static REFUSED: [Refused; 84] = [
     (b"unsigned char", 5, 1, 14),
 ];
 
-/// The text `before`, `middle` a number of times, and `behind`: the three parts, how often, and the number, line and column of
-/// the fault, or zeros for a unit.
+/// A text made of `before`, then `middle` repeated, then `behind`: the three parts, the number of repetitions, and the number,
+/// line and column of the fault, or zeros for a unit.
 pub type Repeated = (
     &'static str,
     &'static str,

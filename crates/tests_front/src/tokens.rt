@@ -6,7 +6,7 @@ use std::alloc::Global;
 use std::fmt::{self, Write};
 use std::process::Abort;
 
-/// The rest of the line that is expected. Writing a piece that is not next is an error.
+/// The rest of the line that is expected. Writing anything but its next bytes is an error.
 #[derive(Drop)]
 struct Wanted<'a> {
     left: &'a [u8],

@@ -1,6 +1,6 @@
-// Tests of `cc_words` on values from outside: what `gcc -fwrapv` gives on x86-64 for the same expression of C at `unsigned` and
-// at `int`. A negative number is written as its word in two's complement. Each public function is called here, and those that
-// return `None` also at the ends of their ranges.
+// Tests of `cc_words` against values from outside: what `gcc -fwrapv` gives on x86-64 for the same expression of C at
+// `unsigned` and at `int`. A negative number is written as its word in two's complement. Each public function is called here,
+// and those that return `None` also at the ends of their ranges.
 
 use cc_words::{
     Binary, Unary, add, div_s, div_u, eq, le_s, le_u, lt_s, lt_u, mul, ne, rem_s, rem_u, shl,
@@ -131,7 +131,7 @@ fn quotients_and_remainders(rt: HostRuntime) -> Result<(), Fail> {
     each_passes(rt.alloc(), QUOTIENTS.as_slice(), is_quotient)
 }
 
-// by zero, and the only quotient of two ints that is not an int
+// A division by zero has no answer; nor has the only quotient of two ints that is not an int (in the test below).
 fn has_none_by_0(_alloc: Global, dividend: &u32) -> Result<bool, Fail> {
     let quotients = [div_s(*dividend, 0), div_u(*dividend, 0)];
     let remainders = [rem_s(*dividend, 0), rem_u(*dividend, 0)];
@@ -185,7 +185,7 @@ fn shifts_without_an_answer(rt: HostRuntime) -> Result<(), Fail> {
     each_passes(rt.alloc(), &[32, 33, 64, LEAST, MINUS_ONE], has_no_shift)
 }
 
-// -7 and 2
+// An operator, and its result for -7 and 2.
 type TwoWords = (Binary, u32);
 
 static TWO_WORDS: [TwoWords; 19] = [

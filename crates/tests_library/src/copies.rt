@@ -12,7 +12,7 @@ use std::alloc::Global;
 use std::sync::Arc;
 use std::test::Fail;
 
-// A library of three units, none of which has a certificate that an audit confirms.
+// A library of three units that no audit confirms.
 fn three(alloc: Global) -> Result<UnitMap, Fail> {
     let mut commands = Vec::new(alloc);
     commands.push(add(b"b", unit(alloc, b"b", &SUM, Some(b"no certificate"))?)?)?;
@@ -37,7 +37,7 @@ fn area_of(disk: &mut MemoryDisk) -> Result<u32, Fail> {
     Ok(u32::from_le_bytes([a, b, c, d]))
 }
 
-// How many lines there are between a map and its copy in areas of so many bytes, or the number of the refusal.
+// How many differences there are between a map and its copy in areas of this many bytes, or the number of the refusal.
 fn copied(alloc: Global, units: &UnitMap, area: u32) -> Result<Result<usize, u32>, Fail> {
     if area < 64 || area > 1_073_741_824 {
         return Err(Fail::from("no area has so many bytes"));
@@ -115,7 +115,7 @@ fn nothing_is_confirmed(rt: HostRuntime) -> Result<(), Fail> {
     Ok(())
 }
 
-// The unit that is made of a text, with its last word of code changed by these bits.
+// The unit that is made from a text, with its last word of code changed by these bits.
 fn made(alloc: Global, text: &[u8], bits: u32) -> Result<Arc<StoredUnit>, Fail> {
     let Ok(made) = compile(alloc, text) else {
         return Err(Fail::from("not compiled"));
@@ -144,7 +144,7 @@ fn judged(alloc: Global) -> Result<MemoryDisk, Fail> {
     with_commands(alloc, commands)
 }
 
-// The names that are selected of a disk, and the lines of those that are left out; or the number of the refusal.
+// The names that are selected from a disk, and the lines of those that are left out; or the number of the refusal.
 fn selected(
     alloc: Global,
     disk: MemoryDisk,
@@ -213,7 +213,7 @@ fn what_is_selected(rt: HostRuntime) -> Result<(), Fail> {
     Ok(())
 }
 
-// First what the library is, then whether all names are names, then whether all have units.
+// First comes whether the library can be opened, then whether all names are names, then whether all have units.
 #[test]
 fn why_nothing_is_selected(rt: HostRuntime) -> Result<(), Fail> {
     let alloc = rt.alloc();

@@ -54,7 +54,7 @@ fn nothing_where_they_are_the_same(rt: HostRuntime) -> Result<(), Fail> {
     Ok(())
 }
 
-// Whether the fault is the left one's, and its number; else 0.
+// Whether the fault is that of the left library, and its number; else 0.
 fn refused(alloc: Global, left: MemoryDisk, right: MemoryDisk) -> (bool, u32) {
     let (lines, disks) = diff_disks(alloc, left, right);
     drop(disks);
@@ -66,7 +66,7 @@ fn refused(alloc: Global, left: MemoryDisk, right: MemoryDisk) -> (bool, u32) {
     found
 }
 
-// The left one's fault comes first.
+// The left library's fault comes first.
 #[test]
 fn libraries_that_are_none(rt: HostRuntime) -> Result<(), Fail> {
     let alloc = rt.alloc();

@@ -71,7 +71,7 @@ pub fn blank(alloc: Global, area: u16) -> Result<MemoryDisk, Fail> {
     Ok(MemoryDisk::new(alloc, 16 + 2 * usize::from(area))?)
 }
 
-/// A disk with the header of a library, and after it a record that does not fit its area.
+/// A disk with the header of a library, and after it a record that does not fit in its area.
 pub fn damaged(alloc: Global) -> Result<MemoryDisk, Fail> {
     let mut disk = blank(alloc, 64)?;
     format(&mut disk, 64)?;

@@ -84,7 +84,7 @@ fn what_a_command_stored(rt: HostRuntime) -> Result<(), Fail> {
     Ok(())
 }
 
-// The lines after the unit of a command was put back, and the number of the refusal or 0.
+// The lines after what a command stored was put back, and the number of the refusal or 0.
 fn put_back(alloc: Global, name: &[u8], number: usize) -> Result<(Vec<u8>, u32), Fail> {
     let (answer, disk) = restore(alloc, changed(alloc)?, name, number);
     match answer {

@@ -10,7 +10,7 @@ use std::alloc::Global;
 use std::sync::Arc;
 use std::test::Fail;
 
-// A library of an empty program, of one that may go wrong, both compiled, and of a unit without a certificate.
+// A library of two compiled programs, an empty one and one that may go wrong, and of a unit without a certificate.
 fn library(alloc: Global) -> Result<MemoryDisk, Fail> {
     let mut commands = Vec::new(alloc);
     for (name, text) in [

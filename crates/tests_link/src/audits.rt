@@ -1,4 +1,4 @@
-// What an audit says of units as they were made, and of units that were changed.
+// What an audit says about units as they were made, and about units that were changed.
 
 use super::orders::add_pieces;
 use cc_emit::Piece;
@@ -38,7 +38,7 @@ fn is_confirmed(alloc: Global, unit: &StoredUnit) -> Result<bool, Fail> {
     Ok(said(audit(alloc, unit.source.bytes(), Some(bytes), &unit.image)?) == "confirmed")
 }
 
-// What it says of the unit with another certificate.
+// What an audit says about the unit with another certificate.
 fn with_certificate(
     alloc: Global,
     unit: &StoredUnit,
@@ -47,7 +47,7 @@ fn with_certificate(
     Ok(said(audit(alloc, unit.source.bytes(), certificate, &unit.image)?))
 }
 
-// What it says of a text with a certificate and an image.
+// What an audit says about a text with a certificate and an image.
 fn with_source(
     alloc: Global,
     text: &[u8],
@@ -111,7 +111,7 @@ fn refuses_word(alloc: Global, unit: &StoredUnit, place: usize) -> Result<bool, 
     Ok(with_source(alloc, unit.source.bytes(), certificate, &image)? == "unconfirmed")
 }
 
-// The same of one word in sixteen.
+// Whether an audit refuses the unit with any one word in sixteen of its code changed.
 fn refuses_words(alloc: Global, unit: &StoredUnit) -> Result<bool, Fail> {
     for place in 0..unit.image.code.words().len() {
         if place % 16 == 0 && !refuses_word(alloc, unit, place)? {
@@ -129,7 +129,7 @@ fn a_word_of_code_changed(rt: HostRuntime) -> Result<(), Fail> {
     passes(right)
 }
 
-// The words of a unit's globals with one more, and with one other.
+// Whether an audit refuses the unit with one word more in its globals, and with one word of them changed.
 fn other_globals(alloc: Global, unit: &StoredUnit) -> Result<bool, Fail> {
     let certificate = certificate_of(unit)?;
     let mut more = Vec::from_slice(alloc, unit.image.globals.words())?;
@@ -150,7 +150,7 @@ fn globals_changed(rt: HostRuntime) -> Result<(), Fail> {
     passes(right)
 }
 
-// The certificate with the number of functions that it begins with replaced.
+// The certificate with another number of functions at its start.
 fn with_count(alloc: Global, bytes: &[u8], count: u8) -> Result<Vec<u8>, Fail> {
     let mut other = Vec::from_slice(alloc, bytes)?;
     if other.is_empty() {
@@ -160,15 +160,16 @@ fn with_count(alloc: Global, bytes: &[u8], count: u8) -> Result<Vec<u8>, Fail> {
     Ok(other)
 }
 
-// The certificate with a byte more.
+// The certificate with one more byte.
 fn with_byte(alloc: Global, bytes: &[u8], byte: u8) -> Result<Vec<u8>, Fail> {
     let mut other = Vec::from_slice(alloc, bytes)?;
     other.push(byte)?;
     Ok(other)
 }
 
-// Whether an audit refuses the unit with each of these certificates: one byte shorter, one longer, with another number of functions, without
-// a byte, with its number of functions alone, and with lengths that lie; and says so of one without a certificate.
+// Whether an audit refuses the unit with each of these certificates: one byte shorter, one longer, with another number of
+// functions, without a byte, with only its number of functions, and with wrong lengths; and whether it reports that a unit has
+// no certificate.
 fn refuses_all(alloc: Global, unit: &StoredUnit) -> Result<bool, Fail> {
     let own = certificate_of(unit)?;
     let mut refused = true;
@@ -210,7 +211,7 @@ fn refuses_byte(alloc: Global, unit: &StoredUnit, own: &[u8], place: usize) -> R
     Ok(with_certificate(alloc, unit, Some(other.as_slice()))? == "unconfirmed")
 }
 
-// The same of each byte.
+// Whether an audit refuses the unit with any one byte of its certificate changed.
 fn refuses_bytes(alloc: Global, unit: &StoredUnit) -> Result<bool, Fail> {
     let own = certificate_of(unit)?;
     for place in 0..own.len() {
@@ -229,7 +230,7 @@ fn a_byte_changed(rt: HostRuntime) -> Result<(), Fail> {
     passes(right)
 }
 
-// Texts that are no program's, and another program's.
+// Texts that are not programs, and the text of another program.
 static STRANGERS: [&str; 5] = [
     "",
     "int main(void){",
@@ -238,7 +239,8 @@ static STRANGERS: [&str; 5] = [
     "int main(void){return 1;}",
 ];
 
-// Whether an audit refuses each of these texts with a unit's certificate and image, and confirms one that has a space more.
+// Whether an audit refuses each of these texts with a unit's certificate and image, and confirms the unit's own text with one
+// more space.
 fn refuses_strangers(alloc: Global, unit: &StoredUnit) -> Result<bool, Fail> {
     let certificate = certificate_of(unit)?;
     for text in STRANGERS.iter() {
@@ -246,7 +248,7 @@ fn refuses_strangers(alloc: Global, unit: &StoredUnit) -> Result<bool, Fail> {
             return Ok(false);
         }
     }
-    // Comments are no part of the program, and the text is another.
+    // A space is not part of the program, but it makes another text.
     Ok(with_source(alloc, b"int main(void){} ", certificate, &unit.image)? == "confirmed")
 }
 
@@ -258,7 +260,7 @@ fn other_texts(rt: HostRuntime) -> Result<(), Fail> {
     passes(right)
 }
 
-// Which part of a unit fails, as a word: of the text with its fault's number, of a function with the place of its name.
+// Which part of a unit fails, as a word: for the text with its fault's number, for a function with the place of its name.
 fn part(failed: Option<FailedPart>) -> (&'static str, usize, usize) {
     match failed {
         None => ("none", 0, 0),
@@ -273,7 +275,7 @@ fn part(failed: Option<FailedPart>) -> (&'static str, usize, usize) {
     }
 }
 
-// The part that fails of a text with a unit's image and another certificate.
+// The part that fails for a text with a unit's image and another certificate.
 fn failed_with(
     alloc: Global,
     unit: &StoredUnit,
@@ -285,7 +287,7 @@ fn failed_with(
     Ok(part(failed))
 }
 
-// Whether the part that fails is named: none, the text, either function, the certificate and the image.
+// Whether the part that fails is named: no part, the text, either function, the certificate and the image.
 fn names_parts(alloc: Global, unit: &StoredUnit, other: &StoredUnit) -> Result<bool, Fail> {
     let own = certificate_of(unit)?;
     let shorter = &own[..own.len().saturating_sub(1)];
@@ -338,7 +340,7 @@ fn spilled_piece(alloc: Global, unit: &Arc<TypedUnit>, function: usize) -> Resul
     )?)
 }
 
-// A text linked from such pieces.
+// A unit linked from such pieces.
 fn spilled_unit(alloc: Global, text: &[u8]) -> Result<CompiledUnit, Fail> {
     let unit = typed_unit(alloc, text)?;
     let mut pieces = Vec::new(alloc);
@@ -357,14 +359,14 @@ fn is_confirmed_as_spilled(alloc: Global, text: &&'static str) -> Result<bool, F
     right
 }
 
-// Whether the compiler's own unit of that text is another, and not confirmed by the other one's certificate.
+// Whether the compiler's own unit of that text differs from the spilled one, and is not confirmed by the other's certificate.
 fn is_another(alloc: Global, spilled: &StoredUnit, own: &StoredUnit) -> Result<bool, Fail> {
     let certificate = certificate_of(spilled)?;
     let word = with_source(alloc, LONG.as_bytes(), certificate, &own.image)?;
     Ok(word == "unconfirmed" && !own.is_same(spilled))
 }
 
-// Another allocation than the compiler's own is confirmed too, and its code is another.
+// An allocation that is not the compiler's own is confirmed too, and its code is different.
 #[test]
 fn slots_for_all(rt: HostRuntime) -> Result<(), Fail> {
     each_passes(rt.alloc(), TEXTS.as_slice(), is_confirmed_as_spilled)?;
@@ -376,7 +378,7 @@ fn slots_for_all(rt: HostRuntime) -> Result<(), Fail> {
     passes(right)
 }
 
-// A certificate is the number of functions, and of each its length and the bytes of its LTL.
+// Whether a certificate is the number of functions, and for each function its length and the bytes of its LTL.
 fn is_spelled(alloc: Global, unit: &StoredUnit, functions: usize) -> Result<bool, Fail> {
     let Some((prefix, mut rest)) = certificate_of(unit)?.split_at_checked(4) else {
         return Ok(false);

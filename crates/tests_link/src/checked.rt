@@ -1,4 +1,4 @@
-// Checked images: each writes what its source writes until that goes wrong, and then goes on for ever in place.
+// Checked images: each writes what its source writes until that goes wrong, and then loops for ever in place.
 
 use super::helpers::{Run, ends_well, image_runs};
 use cc_link::{
@@ -9,7 +9,7 @@ use cc_rv32::outcome::MachineOutcome;
 use std::alloc::Global;
 use std::test::Fail;
 
-/// A text whose run goes wrong, its input, and the words that are written before.
+/// A text whose run goes wrong, its input, and the words that are written before that.
 static WRONG: [(&str, &[u32], &[i32]); 10] = [
     (
         "int a[3];int main(void){write_word(a[2]);write_word(a[3]);write_word(1);}",
@@ -66,7 +66,7 @@ static WRONG: [(&str, &[u32], &[i32]); 10] = [
     ),
 ];
 
-// Whether a text's checked image writes these words and goes on then, and an audit confirms it in its mode alone.
+// Whether a text's checked image writes these words and then goes on for ever, and an audit confirms it only in its own mode.
 fn stops(alloc: Global, text: &str, input: &[u32], words: &[i32]) -> Result<bool, Fail> {
     let unit = compile_in(alloc, Mode::Checked, text.as_bytes())?;
     let run = Run {
@@ -168,7 +168,7 @@ fn sources_without_guards(rt: HostRuntime) -> Result<(), Fail> {
     Ok(())
 }
 
-// The number with which pieces in one mode are refused in another; 0 if they link.
+// The number with which linking in mode `asked` refuses pieces of mode `of`; 0 if they link.
 fn linked_in_another(alloc: Global, of: Mode, asked: Mode) -> Result<u32, Fail> {
     let unit = typed_unit(alloc, b"int f(void){return 1;}int main(void){return f();}")?;
     let pieces = compile_functions_in(alloc, of, &unit)?;

@@ -11,22 +11,22 @@ use tests_texts::verdict::each_passes;
 /// The mask of the immediate, the function and the opcode of an instruction.
 const IMMEDIATE: u32 = 0xfff0_707f;
 
-/// That of the functions, the first register and the opcode.
+/// The mask of the functions, the first register and the opcode.
 const FIRST: u32 = 0xfe0f_f07f;
 
-/// That of a branch's function, its first register and the opcode.
+/// The mask of a branch's function, its first register and the opcode.
 const BRANCH_FIRST: u32 = 0x000f_f07f;
 
-/// The same with its second register.
+/// The mask of a branch's function, its second register and the opcode.
 const BRANCH_SECOND: u32 = 0x01f0_707f;
 
-/// A condition on `a`, how many instructions it takes, and the mask and bits of one of them, by the tables of the standard: slti has opcode
-/// 0010011 and funct3 010, sltiu 011, xori 100, addi 000; slt has opcode 0110011, funct3 010 and funct7 0, sltu 011, here both with x0
-/// first. Of a branch, which each condition has, the opcode is 1100011, and funct3 is 000 for beq, 001 for bne, 100 for blt, 101 for bge. A
-/// mask of 0 where the constant is in a register.
+/// A condition on `a`, how many instructions it takes, and the mask and bits of one of them, taken from the tables of the
+/// standard: slti has opcode 0010011 and funct3 010, sltiu 011, xori 100, addi 000; slt has opcode 0110011, funct3 010 and
+/// funct7 0, sltu 011, here both with x0 first. A branch, which each condition has, has opcode 1100011, and funct3 is 000 for
+/// beq, 001 for bne, 100 for blt, 101 for bge. The mask is 0 if the constant is in a register.
 type Form = (&'static str, usize, u32, u32);
 
-/// As a value.
+/// Conditions as values.
 static VALUES: [Form; 19] = [
     ("a<10", 1, IMMEDIATE, 0x00a0_2013),
     ("a<=10", 1, IMMEDIATE, 0x00b0_2013),
@@ -49,7 +49,8 @@ static VALUES: [Form; 19] = [
     ("a<=4294967295u", 3, 0, 0),
 ];
 
-/// In a branch, which goes the other way: on two registers, of which one has the constant where no instruction has room for it.
+/// Conditions in a branch, which tests the opposite: on two registers, one of which has the constant if no instruction has room
+/// for it.
 static BRANCHES: [Form; 17] = [
     ("a<10", 1, IMMEDIATE, 0x00a0_2013),
     ("a<=10", 1, IMMEDIATE, 0x00b0_2013),
@@ -83,7 +84,7 @@ fn instructions(alloc: Global, text: &[u8], mask: u32, bits: u32) -> Result<(usi
     Ok((count, has))
 }
 
-// The same of a program that has a condition between two texts.
+// The same as `instructions`, for a program that has a condition between two texts.
 fn asked(
     alloc: Global,
     before: &str,
@@ -98,7 +99,7 @@ fn asked(
     found
 }
 
-// Whether a condition between two texts takes as many instructions more than `a` as its form says.
+// Whether a condition between two texts takes as many more instructions than `a` as its form says.
 fn takes(alloc: Global, before: &str, form: &Form, behind: &str) -> Result<bool, Fail> {
     let (condition, more, mask, bits) = *form;
     let (least, _) = asked(alloc, before, "a", behind, 0, 0)?;
@@ -120,8 +121,9 @@ fn instructions_of_branches(rt: HostRuntime) -> Result<(), Fail> {
     })
 }
 
-/// A type, a constant, words of input, the first telling how many more there are, and how each of them compares: 1 for <, 2 for <=, 4
-/// for >, 8 for >=, 16 for ==, 32 for !=, so less 35, the same 26, more 44 (C99 6.5.8, 6.5.9).
+/// A type, a constant, the words of the input, the first of which is how many more there are, and how each of those compares
+/// with the constant: the sum of 1 for <, 2 for <=, 4 for >, 8 for >=, 16 for ==, and 32 for !=. So a smaller word gives 35, an
+/// equal one 26, and a greater one 44 (C99 6.5.8, 6.5.9).
 type Edge = (&'static str, &'static str, &'static [u32], &'static [i32]);
 
 static EDGES: [Edge; 19] = [
@@ -231,7 +233,7 @@ static EDGES: [Edge; 19] = [
     ),
 ];
 
-// Whether a program that compares each word with a constant writes these.
+// Whether a program that compares each word with a constant writes these results.
 fn compares(alloc: Global, edge: &Edge) -> Result<bool, Fail> {
     let (kind, constant, input, words) = *edge;
     let text = text_of(

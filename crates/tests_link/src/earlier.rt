@@ -1,4 +1,4 @@
-// What stays of texts from before there were arrays of `unsigned char`: the contracts are the laws, and the calls do nothing.
+// What remains of texts from before there were arrays of `unsigned char`: the contracts are the laws, and the calls do nothing.
 
 use cc_earlier::{earlier_images_agree, earlier_texts_stay};
 

@@ -6,7 +6,7 @@ use cc_rv32::outcome::MachineOutcome;
 use std::alloc::Global;
 use std::test::Fail;
 
-/// What a run comes to: its input, how many instructions it may take, the words that it writes, and its outcome.
+/// A run: its input, how many instructions it may take, the words that it writes, and its outcome.
 #[derive(Clone, Copy)]
 pub struct Run<'a> {
     pub input: &'a [u32],
@@ -15,7 +15,7 @@ pub struct Run<'a> {
     pub outcome: MachineOutcome,
 }
 
-/// A run that reads these words, takes so many instructions at most, writes those, and ends with 0.
+/// A run that reads `input`, takes at most `steps` instructions, writes `words`, and ends with 0.
 pub fn ends_well<'a>(input: &'a [u32], steps: u64, words: &'a [i32]) -> Run<'a> {
     Run {
         input,
@@ -25,7 +25,7 @@ pub fn ends_well<'a>(input: &'a [u32], steps: u64, words: &'a [i32]) -> Run<'a> 
     }
 }
 
-// Whether these are the words, as signed numbers.
+// Whether `found` has these words, as signed numbers.
 fn are_words(found: &[u32], words: &[i32]) -> bool {
     let mut same = found.len() == words.len();
     for (one, other) in found.iter().zip(words.iter()) {
@@ -34,7 +34,7 @@ fn are_words(found: &[u32], words: &[i32]) -> bool {
     same
 }
 
-/// Whether the image of a unit runs so.
+/// Whether the image of a unit has this run.
 pub fn image_runs(alloc: Global, unit: &CompiledUnit, run: Run<'_>) -> Result<bool, Fail> {
     let mut machine = Machine::new(alloc, &unit.stored().image, run.input)?;
     let outcome = machine.run(run.steps);
@@ -43,7 +43,7 @@ pub fn image_runs(alloc: Global, unit: &CompiledUnit, run: Run<'_>) -> Result<bo
     Ok(same && outcome? == run.outcome)
 }
 
-/// Whether a text has an image that runs so, and its unit has it as its source, and a certificate.
+/// Whether a text has an image with this run, and its unit has the text as its source, and a certificate.
 pub fn runs(alloc: Global, text: &[u8], run: Run<'_>) -> Result<bool, Fail> {
     let unit = compile(alloc, text)?;
     let stored = unit.stored();

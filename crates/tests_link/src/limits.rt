@@ -1,4 +1,4 @@
-// What is at a limit, and past it.
+// What is at a limit, and what exceeds it.
 
 use super::helpers::{Run, ends_well, image_runs, runs};
 use super::numbered::{deep, many};
@@ -14,7 +14,7 @@ use tests_texts::parts::{main_of, text_of};
 use tests_texts::verdict::{each_passes, passes};
 use tests_texts::worked::LONG;
 
-// Whether a text writes that word alone without input, within so many instructions, and ends with 0.
+// Whether a text writes only that word, without input and within this many instructions, and ends with 0.
 fn writes_one(alloc: Global, text: Vec<u8>, word: i32, steps: u64) -> Result<bool, Fail> {
     let words = [word];
     let run = ends_well(&[], steps, words.as_slice());
@@ -38,7 +38,7 @@ fn most_functions(rt: HostRuntime) -> Result<(), Fail> {
     passes(writes_one(rt.alloc(), text, 2_016, 100_000))
 }
 
-/// Loops that never end, and how many instructions they may take.
+/// Loops that never end, and how many instructions each may take.
 type Endless = (&'static str, u64);
 
 static ENDLESS: [Endless; 8] = [
@@ -69,7 +69,8 @@ fn endless_loops(rt: HostRuntime) -> Result<(), Fail> {
 
 static ZEROS: [i32; 1_364] = [0; 1_364];
 
-/// How often `write_word(0);` and then `read_word();` stand in `main`: a function that has 4,096 nodes, the most, is the last.
+/// How often `write_word(0);` and then `read_word();` occur in `main`. In the last row `main` has exactly 4,096 nodes, the most
+/// that a function may have.
 type Main = (usize, usize);
 
 static MAINS: [Main; 3] = [(1_000, 0), (1_364, 0), (1_364, 1)];
@@ -79,7 +80,7 @@ fn long_functions(rt: HostRuntime) -> Result<(), Fail> {
     each_passes(rt.alloc(), MAINS.as_slice(), writes_zeros)
 }
 
-// Whether it writes so many zeros.
+// Whether `main` writes this many zeros.
 fn writes_zeros(alloc: Global, row: &Main) -> Result<bool, Fail> {
     let text = text_of(alloc, &main_of(row.0, row.1))?;
     let run = ends_well(&[], 1_000_000, &ZEROS[..row.0.min(1_364)]);
@@ -88,7 +89,7 @@ fn writes_zeros(alloc: Global, row: &Main) -> Result<bool, Fail> {
     right
 }
 
-// How many words of code the image has that linking answers, and whether it runs so; none where it is too large.
+// How many words of code the linked image has, and whether it has this run; none if it is too large.
 fn words_of(
     alloc: Global,
     linked: Result<CompiledUnit, LinkFault>,
@@ -106,7 +107,8 @@ fn words_of(
     }
 }
 
-// The image's words with this many moves in front of the first three blocks of `main`.
+// The number of the image's words, and whether it runs right, with `third` moves before the third block of `main`, and 60,000
+// before each of the first two.
 fn long_main(
     alloc: Global,
     unit: &Arc<TypedUnit>,
@@ -117,7 +119,7 @@ fn long_main(
     words_of(alloc, linked, run)
 }
 
-// Exactly 131,072 words, and one more.
+// An image of exactly 131,072 words links and runs; with one word more it is too large.
 fn most_words(alloc: Global, unit: &Arc<TypedUnit>) -> Result<bool, Fail> {
     let Some((words, true)) = long_main(alloc, unit, 0)? else {
         return Ok(false);
@@ -139,11 +141,11 @@ fn most_words_of_code(rt: HostRuntime) -> Result<(), Fail> {
     passes(right)
 }
 
-// A loop that goes three times round, and once through its inner part, with a branch over each part and a jump back.
+// A loop with three turns, whose inner part runs once, with a branch over each part and a jump back.
 const LOOP: &str =
     "int x;int main(void){int i;for(i=0;i<3;i++)if(i==1){x=x+5;}else x=x+1000;write_word(x);}";
 
-// Whether the image runs right with this many moves in front of that block.
+// Whether the image runs right with this many moves before that block.
 fn runs_padded(
     alloc: Global,
     unit: &Arc<TypedUnit>,
@@ -155,7 +157,8 @@ fn runs_padded(
     Ok(matches!(words_of(alloc, linked, run)?, Some((_, true))))
 }
 
-// Whether it does with as many as about which the branches over the block begin to be too short: they reach 1,023 words on and 1,024 back.
+// Whether the image runs right with each number of moves near the one at which branches over the block begin to be too short:
+// they reach 1,023 words forward and 1,024 back.
 fn runs_near_and_far(alloc: Global, unit: &Arc<TypedUnit>, block: usize) -> Result<bool, Fail> {
     for moves in 980..1_028 {
         if !runs_padded(alloc, unit, block, moves)? {
@@ -165,7 +168,7 @@ fn runs_near_and_far(alloc: Global, unit: &Arc<TypedUnit>, block: usize) -> Resu
     Ok(true)
 }
 
-// The same of three blocks: within the inner part, and around it.
+// The same for three blocks, within the inner part and around it.
 fn all_run(alloc: Global, unit: &Arc<TypedUnit>) -> Result<bool, Fail> {
     let count = blocks(alloc, unit, 0)?;
     Ok(

@@ -1,4 +1,5 @@
-// Compilations of which a growth is refused. `bench/memory.sh compile` refuses each allocation of this test in turn, so one in all.
+// Compilations while an allocation is refused. `tests/outside/memory.sh compile` refuses each allocation of this test in turn,
+// so there is one test for all.
 
 use cc_link::{CompiledUnit, compile};
 use std::alloc::Global;

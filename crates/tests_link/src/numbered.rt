@@ -4,7 +4,7 @@ use std::alloc::{AllocError, Global};
 use std::ops::Range;
 use tests_texts::parts::append;
 
-/// Puts a part behind a text, with a number between its halves.
+/// Adds a part to a text, with a number between its halves.
 fn append_number(
     alloc: Global,
     text: &mut Vec<u8>,
@@ -18,7 +18,7 @@ fn append_number(
     done
 }
 
-// The same for each of these numbers.
+// Adds the part once for each of these numbers.
 fn append_numbers(
     alloc: Global,
     text: &mut Vec<u8>,
@@ -32,7 +32,7 @@ fn append_numbers(
     Ok(())
 }
 
-/// A function with 250 locals that are alive over a call of itself: `f(n)` is the sum of n to n + 249, and `f(n - 1)`.
+/// A function with 250 locals that are alive during a call of itself: `f(n)` is the sum of n to n + 249, plus `f(n - 1)`.
 pub fn deep(alloc: Global) -> Result<Vec<u8>, AllocError> {
     let mut text = Vec::new(alloc);
     append(&mut text, "int f(int n){if(n==0)return 7;", 1)?;
@@ -43,7 +43,8 @@ pub fn deep(alloc: Global) -> Result<Vec<u8>, AllocError> {
     Ok(text)
 }
 
-/// 63 functions, each of which adds 1 to an object and gives it, and `main`, the 64th, which writes the sum of what one call of each gives.
+/// 63 functions, each of which adds 1 to an object and returns it, and `main`, the 64th, which writes the sum of what one call
+/// of each returns.
 pub fn many(alloc: Global) -> Result<Vec<u8>, AllocError> {
     let mut text = Vec::new(alloc);
     append(&mut text, "int x;", 1)?;

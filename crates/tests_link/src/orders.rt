@@ -20,7 +20,7 @@ pub fn piece(alloc: Global, unit: &Arc<TypedUnit>, function: usize) -> Result<Pi
     Ok(compile_function(alloc, unit, function)?)
 }
 
-/// Puts the pieces of all functions of a unit behind others.
+/// Adds the pieces of all functions of a unit after others.
 pub fn add_pieces(
     alloc: Global,
     pieces: &mut Vec<Piece>,
@@ -33,7 +33,7 @@ pub fn add_pieces(
     Ok(())
 }
 
-// Those of the pieces with these places, in this order.
+// The pieces at these places, in this order.
 fn lent<'a>(
     alloc: Global,
     pieces: &'a [Piece],
@@ -48,20 +48,22 @@ fn lent<'a>(
     Ok(lent)
 }
 
-// Those of the pieces with these places, linked in this order.
+// The unit that the pieces at these places make, linked in this order.
 fn linked(
     alloc: Global,
     unit: &Arc<TypedUnit>,
     pieces: &[Piece],
     places: &[usize],
 ) -> Result<CompiledUnit, LinkFault> {
-    let lent = lent(alloc, pieces, places)?;
+    let Ok(lent) = lent(alloc, pieces, places) else {
+        return Err(LinkFault::OutOfMemory);
+    };
     let made = link_lent(alloc, unit, lent.as_slice());
     drop(lent);
     made
 }
 
-// Whether those pieces make the same unit as all in order.
+// Whether those pieces make the same unit as all pieces in their own order.
 fn is_same(
     alloc: Global,
     unit: &Arc<TypedUnit>,
@@ -75,7 +77,7 @@ fn is_same(
     Ok(same)
 }
 
-/// What a list of pieces comes to, with the function's number and its piece's place in the list.
+/// The answer for a list of pieces, with the function's number and its piece's place in the list.
 #[derive(Clone, Copy, PartialEq)]
 enum Answer {
     Image,
@@ -98,24 +100,24 @@ fn answer_for(alloc: Global, unit: &Arc<TypedUnit>, pieces: &[Piece], places: &[
     }
 }
 
-/// Lists of pieces and what they come to. Pieces 0 and 1 are those of the unit with 24 locals, 2 the `main` of another text, 3 and 4 those
-/// of a second unit with the first one's text.
+/// Lists of pieces and their answers. Pieces 0 and 1 are those of the unit with 24 locals, 2 the `main` of another text, 3 and
+/// 4 those of a second unit that has the first one's text.
 static LISTS: [(&[usize], Answer); 17] = [
     (&[0, 1], Answer::Image),
     (&[1, 0], Answer::Image),
     (&[3, 1], Answer::Image),
     (&[4, 0], Answer::Image),
-    // one twice: the first that came before
+    // a piece that is there twice: the first one that repeats an earlier one
     (&[0, 0], Answer::Doubled(0, 1)),
     (&[0, 1, 0], Answer::Doubled(0, 2)),
     (&[1, 0, 1, 0], Answer::Doubled(1, 2)),
     (&[0, 3, 1], Answer::Doubled(0, 1)),
     (&[1, 1], Answer::Doubled(1, 1)),
-    // the least that is missing
+    // the first function whose piece is missing
     (&[0], Answer::Missing(1)),
     (&[1], Answer::Missing(0)),
     (&[], Answer::Missing(0)),
-    // one of another text, whatever else is wrong
+    // a piece of another text, whatever else is wrong
     (&[2], Answer::Stranger(0, 0)),
     (&[2, 1], Answer::Stranger(0, 0)),
     (&[0, 1, 2], Answer::Stranger(0, 2)),
@@ -123,7 +125,7 @@ static LISTS: [(&[usize], Answer); 17] = [
     (&[1, 2, 1], Answer::Stranger(0, 1)),
 ];
 
-// Whether each of the lists comes to its answer.
+// Whether each of the lists gets its answer.
 fn are_answered(alloc: Global, unit: &Arc<TypedUnit>, pieces: &[Piece]) -> bool {
     for (places, answer) in LISTS.iter() {
         if answer_for(alloc, unit, pieces, places) != *answer {
@@ -151,7 +153,7 @@ fn lists_of_pieces(rt: HostRuntime) -> Result<(), Fail> {
     passes(Ok(right))
 }
 
-// The unit of 24 locals, its two pieces made and given up in the other order.
+// The unit with 24 locals: its two pieces are made and handed over in reverse order.
 fn reversed(alloc: Global) -> Result<CompiledUnit, Fail> {
     let unit = typed_unit(alloc, LONG.as_bytes())?;
     let mut pieces = Vec::new(alloc);
@@ -172,11 +174,11 @@ fn function_by_function(rt: HostRuntime) -> Result<(), Fail> {
     passes(Ok(right && kept))
 }
 
-/// Four functions, of which each calls others, before and behind it.
+/// Four functions, each of which calls others, before and after it.
 const FOUR: &str =
     "int c(int);int a[3]={1,2,3};int b(int n){a[1]=n;return n*2+c(1);}int c(int n){if(n>3)return a[1];return c(n+1)+a[2];}void d(int n){write_word(n-b(n));}int main(void){d(7);write_word(c(2));return b(1);}";
 
-/// Every order of four.
+/// Every order of the four functions.
 static ORDERS: [[usize; 4]; 24] = [
     [0, 1, 2, 3],
     [0, 1, 3, 2],
@@ -204,8 +206,8 @@ static ORDERS: [[usize; 4]; 24] = [
     [3, 2, 1, 0],
 ];
 
-// By hand: `b(7)` stores 7 and gives 14 + c(1), which is 7 + 3 * 3 = 16; `d` writes 7 - 30. `c(2)` is 7 + 2 * 3. `b(1)` stores 1 and gives
-// 2 + 1 + 9.
+// Worked out by hand: `b(7)` stores 7 and returns 14 + c(1), which is 7 + 3 * 3 = 16; `d` writes 7 - 30. `c(2)` is 7 + 2 * 3.
+// `b(1)` stores 1 and returns 2 + 1 + 9.
 const FOUR_RUN: Run<'static> = Run {
     input: &[],
     steps: 10_000,

@@ -1,5 +1,5 @@
-// Code of any length: the allocation of a function, with moves in front of its blocks that nobody needs. Each becomes one word of code, and
-// the validator accepts them, since no value lies in the registers between which they move.
+// Code of any length: the allocation of a function, with moves before its blocks that nobody needs. Each becomes one word of
+// code, and the validator accepts them, since no value lies in the registers between which they move.
 
 use super::orders::piece;
 use cc_cminor::to_cminor;
@@ -16,7 +16,7 @@ use std::alloc::Global;
 use std::sync::Arc;
 use std::test::Fail;
 
-/// How many moves stand in front of a block more: those of the block with this place, counted from 0.
+/// How many further moves there are before a block, and the place of the block, counted from 0.
 pub type Padding = (usize, usize);
 
 fn padding_of(paddings: &[Padding], place: usize) -> usize {
@@ -29,7 +29,7 @@ fn padding_of(paddings: &[Padding], place: usize) -> usize {
     count
 }
 
-// So many moves from x28 to x29, and then these.
+// The moves of a block with `count` moves from x28 to x29 before them.
 fn padded_moves(alloc: Global, count: usize, moves: &[Move]) -> Result<Moves, Fail> {
     let (Some(to), Some(from)) = (Register::new(29), Register::new(28)) else {
         return Err(Fail::from("no such register"));
@@ -77,7 +77,7 @@ fn rtl_of(alloc: Global, unit: &Arc<TypedUnit>, function: usize) -> Result<RtlPa
     Ok(to_rtl(alloc, cminor)?)
 }
 
-// The allocation of one function that `spill_all` gives, so padded.
+// The allocation of one function that `spill_all` gives, with these paddings.
 fn allocated(
     alloc: Global,
     unit: &Arc<TypedUnit>,
@@ -103,7 +103,7 @@ pub fn blocks(alloc: Global, unit: &Arc<TypedUnit>, function: usize) -> Result<u
     Ok(plain.blocks().len())
 }
 
-// Its piece.
+// The piece of a function with these paddings.
 fn padded_piece(
     alloc: Global,
     unit: &Arc<TypedUnit>,
@@ -115,7 +115,7 @@ fn padded_piece(
     Ok(emit(alloc, selected)?)
 }
 
-/// A unit whose last function is so padded, linked.
+/// A unit whose last function has these paddings, linked.
 pub fn padded(
     alloc: Global,
     unit: &Arc<TypedUnit>,

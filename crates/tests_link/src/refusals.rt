@@ -1,4 +1,4 @@
-// What `compile` refuses, and where; and that a text comes to one program or one fault.
+// What `compile` refuses, and at which place; and that a text leads to one program or one fault.
 
 use cc_link::{BuildFault, PieceFault, compile, verdicts_are_determined};
 use std::alloc::Global;
@@ -48,13 +48,14 @@ static TEXTS: [Row; 29] = [
         5,
     ),
     ("int a[65536];int b;int main(void){}", 21, 1, 18),
-    // of several faults the one that comes first
+    // of several faults, the one that comes first
     ("int main(void){return 1 2;} 08 $", 3, 1, 29),
     ("int main(void){y=1;return 1 2;}", 5, 1, 29),
     ("int main(void){y=1;x=2;}", 11, 1, 16),
 ];
 
-// The number of a text's fault with its line and column, or 0 where it is compiled, and 0 for a place that a fault lacks.
+// The number of a text's fault with its line and column. The number is 0 if the text is compiled, and the place is 0 if the
+// fault has none.
 fn fault_of(alloc: Global, text: &[u8]) -> (u32, usize, usize) {
     match compile(alloc, text) {
         Ok(unit) => {
@@ -93,7 +94,8 @@ fn a_text_past_65536_bytes(rt: HostRuntime) -> Result<(), Fail> {
     passes(Ok(compiled && refused))
 }
 
-// Whether a function of the text of these parts has too many nodes, and its name stands there.
+// Whether the text of these parts is refused because a function has too many nodes, with the place and length of that
+// function's name.
 fn is_too_large(alloc: Global, row: &Large) -> Result<bool, Fail> {
     let (parts, offset, bytes) = *row;
     let text = text_of(alloc, parts)?;
@@ -110,8 +112,9 @@ fn is_too_large(alloc: Global, row: &Large) -> Result<bool, Fail> {
     Ok(refused)
 }
 
-/// The parts of texts with a function of more than 4,096 nodes, the offset of its name, and the name's bytes: a write takes three
-/// nodes, and each function three more. Of several such functions it is the first, and none before the first is in its way.
+/// The parts of texts with a function of more than 4,096 nodes, the offset of its name, and the name's length: a write takes
+/// three nodes, and each function three more. If there are several such functions, the first is named; no function before it
+/// prevents that.
 type Large = (&'static [Part<'static>], usize, usize);
 
 static LARGE: [Large; 4] = [

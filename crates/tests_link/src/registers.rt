@@ -1,4 +1,4 @@
-// Values in registers and in slots, and nothing computed that nobody needs.
+// Values in registers and in slots; nothing is computed that nothing needs.
 
 use super::helpers::{ends_well, runs};
 use super::numbered::summed;
@@ -32,12 +32,12 @@ fn two_hundred_and_fifty_variables(rt: HostRuntime) -> Result<(), Fail> {
     passes(sums(rt.alloc()))
 }
 
-// mul by the table of the standard: opcode 0110011, funct3 000, funct7 0000001.
+// Whether the word is a mul, according to the table of the standard: opcode 0110011, funct3 000, funct7 0000001.
 fn is_product(word: u32) -> bool {
     word & 0xfe00_707f == 0x0200_0033
 }
 
-// Whether so many instructions of a text's image are mul.
+// Whether this many instructions of a text's image are mul.
 fn has_products(alloc: Global, row: &Row) -> Result<bool, Fail> {
     let unit = compile(alloc, row.0.as_bytes())?;
     let mut count = 0usize;
@@ -50,7 +50,7 @@ fn has_products(alloc: Global, row: &Row) -> Result<bool, Fail> {
     Ok(count == row.1)
 }
 
-/// Texts, and how many products are left in their code: what nobody needs has gone, and what only that read.
+/// Texts, and how many products are left in their code: values that nothing needs are gone, and so is what only they read.
 type Row = (&'static str, usize);
 
 static PRODUCTS: [Row; 4] = [

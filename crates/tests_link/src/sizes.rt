@@ -5,7 +5,7 @@ use cc_size::{Sized, UnitSize, size_along_in, size_in};
 use std::alloc::Global;
 use std::test::Fail;
 
-/// Four functions, of which main calls the second and the third, and the third the first.
+/// Four functions: `main` calls the second and the third, and the third calls the first.
 const CHAIN: &str =
     "int a[9];int h(int n){int i;int s=0;for(i=0;i<n;i++)s=s*a[i]+i;return s;}int f(int n){return n/3;}\
     int g(int n){int s=h(n)+h(n+1);return s*h(2);}int main(void){int s=f(7);return s+g(s)*g(s+1);}";
@@ -58,7 +58,7 @@ fn a_function_that_calls_itself(rt: HostRuntime) -> Result<(), Fail> {
     Ok(())
 }
 
-// Whether a unit that was made in a mode is measured in this one along its certificate, with the same stack.
+// Whether a unit that was made in mode `made` is measured in mode `asked` from its certificate, with the same stack.
 fn measured_again(alloc: Global, made: Mode, asked: Mode) -> Result<bool, Fail> {
     let sized = size_in(alloc, made, CHAIN.as_bytes())?;
     let stack = sized.size.stack;

@@ -20,8 +20,9 @@ use tests_texts::worked::LONG;
 const FORMS: &str =
     "unsigned char c[2];int a[3];int f(int n,int k){do n=n+1;while(n>=k);do a[n&1]=c[1];while(n<=0);c[0]=a[2];c[0]=c[k-8];a[k-7]=n;if(n<k)return n<<3;return -n;}int main(void){write_word(f(read_word(),9));}";
 
-/// Its steps. The word of each constant stands in the operation that reads it, an element of a known number has the number, one whose number
-/// is a difference with a word has the register and the word's negative, and a comparison and the test of its value are one branch.
+/// The steps of that function. The word of each constant is in the operation that reads it; an access to an element of known
+/// number has the number; one whose number is a difference with a word has the register and the word's negative; and a
+/// comparison and the test of its value are one branch.
 const FORMS_SELECTED: &str = "== f: Selected
 f0 slots 0
 1:
@@ -47,7 +48,7 @@ f0 slots 0
 
 static PROGRAMS: [&str; 10] = [LONG, FORMS, CRC, FIB, GCD, MATMUL, NEST, REGS, SIEVE, SORT];
 
-// What is written of the functions of a text or of one, and the number of the fault, or 0.
+// What is written about the functions of a text, or about one of them, and the number of the fault, or 0.
 #[derive(Drop)]
 struct Written {
     text: Vec<u8>,
@@ -72,12 +73,12 @@ fn shown(alloc: Global, text: &[u8], function: Option<&[u8]>) -> Result<Written,
     })
 }
 
-// Puts a text behind another.
+// Adds a text after another.
 fn add(text: &mut Vec<u8>, part: &str) -> Result<(), AllocError> {
     text.extend_from_slice(part.as_bytes())
 }
 
-// The stages of the row, of all functions or of one.
+// The stages in `ROW`, of all functions or of one.
 fn row_text(alloc: Global, function: &str) -> Result<Vec<u8>, AllocError> {
     let mut text = Vec::new(alloc);
     for (name, stage, lines) in ROW.iter() {
@@ -95,7 +96,7 @@ fn row_text(alloc: Global, function: &str) -> Result<Vec<u8>, AllocError> {
     Ok(text)
 }
 
-// Whether the stages of the row are these, of all functions (an empty name) or of one.
+// Whether the stages that are shown are those of `ROW`, of all functions (an empty name) or of one.
 fn shows_row(alloc: Global, function: &&'static str) -> Result<bool, Fail> {
     let wanted = match *function {
         "" => None,
@@ -123,7 +124,7 @@ fn each_form_of_step(rt: HostRuntime) -> Result<(), Fail> {
     passes(Ok(right))
 }
 
-// The labels of a stage: those that its code leads to, and those that stand.
+// The labels of a stage: those that its code leads to, and those that it has.
 #[derive(Drop)]
 struct Labels {
     named: Vec<u32>,
@@ -138,7 +139,7 @@ impl Labels {
         }
     }
 
-    // Adds those of a text that lists labels.
+    // Adds the labels of a text that lists labels.
     fn add_named(&mut self, list: &str) -> Result<(), Fail> {
         for label in list.split(", ") {
             self.named.push(label.parse::<u32>()?)?;
@@ -146,7 +147,7 @@ impl Labels {
         Ok(())
     }
 
-    // Adds those of a line.
+    // Adds the labels of a line.
     fn add_line(&mut self, line: &str) -> Result<(), Fail> {
         if let Some((label, _)) = line.split_once(':') {
             self.standing.push(label.parse::<u32>()?)?;
@@ -160,13 +161,13 @@ impl Labels {
         Ok(())
     }
 
-    // Whether each that is named stands.
+    // Whether each label that is named is there.
     fn all_stand(&self) -> bool {
         self.named.iter().all(|label| self.standing.contains(label))
     }
 }
 
-// How many stages of a text there are, and in how many of them some label is named that does not stand.
+// How many stages of a text there are, and in how many of them some label is named that is not there.
 fn stages_lacking_labels(alloc: Global, text: &str) -> Result<(usize, usize), Fail> {
     let (mut count, mut lacking) = (0usize, 0usize);
     let mut labels = Labels::new(alloc);
@@ -212,7 +213,7 @@ fn code_lines(alloc: Global, text: &str) -> Result<Vec<u8>, AllocError> {
     Ok(lines)
 }
 
-// A listing behind its first three lines, which are the start.
+// A listing after its first three lines, which are the start.
 fn behind_start(listing: &[u8]) -> &[u8] {
     let mut left = 3u32;
     for at in 0..listing.len() {
@@ -266,7 +267,7 @@ static LARGE: [Part<'static>; 3] = [
     ("}", 1),
 ];
 
-// Whether the stages of that text's functions, or of one, end so, and with fault 22.
+// Whether the stages of that text's functions, or of one of them, end with `end` and fault 22.
 fn ends_large(alloc: Global, function: Option<&[u8]>, end: &str) -> Result<bool, Fail> {
     let text = text_of(alloc, LARGE.as_slice())?;
     let found = shown(alloc, text.as_slice(), function);

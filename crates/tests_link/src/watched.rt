@@ -1,4 +1,4 @@
-// What a watcher sees of a function, which goes no further once the watcher refuses.
+// What a watcher sees of a function. The compiler goes no further once the watcher refuses.
 
 use cc_link::{Allocation, Mode, Seen, Watch, compile_watched_in, typed_unit};
 use cc_types::TypedUnit;
@@ -14,7 +14,7 @@ const QUOTIENT: &str = "int main(void){write_word(7/read_word());}";
 #[derive(Drop)]
 struct Few {
     left: u32,
-    // The last one that it saw, as a letter.
+    // The last stage that it saw, as a letter.
     last: u8,
 }
 
@@ -41,7 +41,8 @@ impl Watch for Few {
     }
 }
 
-// The last stage that was seen of the first function, if this many are to be, and the number that it is refused with, or 0.
+// The last stage of the first function that is seen by a watcher that accepts `count` stages, and the number that the function
+// is refused with, or 0.
 fn seen_last(alloc: Global, mode: Mode, unit: &Arc<TypedUnit>, count: u32) -> (u8, u32) {
     let mut few = Few {
         left: count,

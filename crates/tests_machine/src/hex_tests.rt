@@ -14,7 +14,7 @@ static CODE: [u32; 9] = [
 
 static GLOBALS: [u32; 5] = [0x00000001, 0x00000000, 0xcafef00d, 0xffffffff, 0x80000000];
 
-// For an ELF file with these words, by objcopy -O ihex.
+// What objcopy -O ihex wrote for an ELF file with these words.
 const BY_OBJCOPY: &str = ":020000021000EC\r
 :10000000370120009300F0FF33B110021305010007\r
 :1000100093081000730000009308D00573000000DF\r
@@ -74,7 +74,7 @@ fn writes_code_and_globals(rt: HostRuntime) {
     assert!(rt; writes_as_objcopy(rt.alloc()));
 }
 
-// Whether an image of one word, with no globals, is written right.
+// Whether an image of one word, with no globals, is written correctly.
 fn writes_one_word(alloc: Global) -> bool {
     let Ok(code) = vec![in alloc; 0x00000073u32] else {
         return false;
@@ -111,7 +111,7 @@ fn fnv(text: &[u8]) -> u64 {
     hash
 }
 
-/// The length and the checksum of the text of an image with as many words as one can have.
+/// The length and the checksum of the text of the largest image.
 fn largest(alloc: Global) -> Option<(usize, u64)> {
     let Ok(code) = words(alloc, MOST_CODE, 2_654_435_761, 0x13) else {
         return None;

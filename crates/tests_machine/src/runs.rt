@@ -140,7 +140,7 @@ static OPERATIONS: [(RegisterOperation, u32, u32, u32); 92] = [
     (RegisterOperation::Remu, 0x0, 0x0, 0x0),
 ];
 
-// The same with an immediate, given as the word that it denotes.
+// What each operation gives on a word and an immediate, which is given as the word that it denotes.
 static IMMEDIATES: [(ImmediateOperation, u32, u32, u32); 9] = [
     (ImmediateOperation::Addi, 0x7fffffff, 0x7ff, 0x800007fe),
     (ImmediateOperation::Addi, 0x80000000, 0xfffff800, 0x7ffff800),
@@ -153,7 +153,7 @@ static IMMEDIATES: [(ImmediateOperation, u32, u32, u32); 9] = [
     (ImmediateOperation::Andi, 0xff00ff00, 0xffffff0f, 0xff00ff00),
 ];
 
-// The same by a count.
+// What each shift gives on a word and a count.
 static SHIFTS: [(ShiftOperation, u32, u8, u32); 7] = [
     (ShiftOperation::Slli, 0x21212121, 0, 0x21212121),
     (ShiftOperation::Slli, 1, 31, 0x80000000),
@@ -359,8 +359,8 @@ const PRODUCT: &[u32] = &[
     0xfff00093, 0x0210b133, 0x00010513, 0x00100893, ECALL, EXIT, ECALL,
 ];
 
-// A program, a number of instructions and then another number of them, the machine's outcome then, and the first word that it has
-// written. The last two programs are a word that is not an instruction, and lw x1, 0(x0).
+// A program, a first and a second number of instructions, the machine's outcome after both, and the first word that it has
+// written by then. The last two programs are a word that is not an instruction, and lw x1, 0(x0).
 static PARTS: [(&[u32], u64, u64, MachineOutcome, Option<u32>); 11] = [
     (EXITS, 0, 2, MachineOutcome::Going, None),
     (EXITS, 2, 1, MachineOutcome::Exited(5), None),
@@ -413,7 +413,7 @@ fn shown(machine: &mut Machine, steps: u64) -> Result<(MachineOutcome, Option<u3
     Ok((outcome, machine.output().first().copied()))
 }
 
-// The same after two runs.
+// The same after two runs, of `before` and of `steps` instructions.
 fn shown_twice(
     machine: &mut Machine,
     before: u64,
@@ -423,7 +423,7 @@ fn shown_twice(
     shown(machine, steps)
 }
 
-// Whether a program has this outcome and has written this word first, after this many instructions and then this many more.
+// Whether a program has this outcome and has written this word first, after two runs of as many instructions as `parts` says.
 fn comes_to(
     alloc: Global,
     code: &[u32],

@@ -22,7 +22,7 @@ fn refuses_words_outside_the_table(rt: HostRuntime) {
     }
 }
 
-// As GNU as encodes them.
+// The words are those that GNU as gives for these instructions.
 #[test]
 fn encodes_long_operands(rt: HostRuntime) {
     let rd = Register::new(1);

@@ -72,8 +72,8 @@ where
     (pass, right)
 }
 
-// How many of this many threads got the right pieces of a text's unit, and how many holds of job 0 ended before their limit: one of its
-// pieces waits for all other pieces of all jobs. Then the pool ends, with all passes.
+// Starts `threads` threads, and answers how many of them got the right pieces of a text's unit, and how many holds of job 0 ended
+// before their limit. One piece of job 0 waits for all other pieces of all jobs. Then the pool ends, with all passes.
 fn crowd<N, R>(
     rt: &R,
     alloc: Global,

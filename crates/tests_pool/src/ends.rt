@@ -1,4 +1,4 @@
-// How a pool ends: with all passes it does, though pieces are under way; without one of them it is refused.
+// How a pool ends: with all passes it ends, even though pieces are under way; without one of them it refuses to end.
 
 ghost use Rattle.std.specs.Prelude.{◌≡◌};
 

@@ -51,7 +51,7 @@ pub struct Hold {
     met: Arc<AtomicU64>,
 }
 
-/// How many pieces have passed that were not held, and how many holds ended before their limit.
+/// How many pieces that were not held have passed, and how many holds ended before their limit.
 #[derive(Drop)]
 pub struct Signs {
     pub others: Arc<AtomicU64>,

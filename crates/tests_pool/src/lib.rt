@@ -1,8 +1,8 @@
-//! Tests of the pool: of what no clause says about it.
+//! Tests of the pool, for what no clause says about it.
 //!
-//! `helpers` has units and a gate that holds a piece, and `trial` starts a pool for most tests; `tickets` tests what comes back of jobs,
-//! `held` pieces and jobs that are held while others are made, `crowds` many threads that share a pool, `ends` how a pool ends, and `same`
-//! whether the pool makes the same image as one thread.
+//! `helpers` has units and a gate that holds a piece, and `trial` starts a pool for most tests; `tickets` tests what comes back
+//! from jobs, `held` pieces and jobs that are held while others are made, `crowds` many threads that share a pool, `ends` how a
+//! pool ends, and `same` whether the pool makes the same image as one thread.
 #![tactic(auto)]
 
 #[cfg(test)]

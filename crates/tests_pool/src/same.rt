@@ -1,4 +1,4 @@
-// A text has the same image whether one thread compiles it or the pool.
+// A text has the same image whether one thread or the pool compiles it.
 
 ghost use Rattle.std.specs.Prelude.{◌≡◌};
 

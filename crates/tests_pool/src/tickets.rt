@@ -1,4 +1,4 @@
-// What comes back of jobs, collected in either order; and that the first refused function is reported.
+// What comes back from jobs, collected in either order; and that the first refused function is reported.
 
 use super::helpers::{ONE, TWO, are_of, repeat, unit};
 use super::trial::{Own, Trial, succeeds};
@@ -33,7 +33,8 @@ fn the_least_that_is_refused(rt: HostRuntime) -> Result<(), Fail> {
     succeeds(&rt, rt.alloc(), NoGate, Trial::LeastRefused)
 }
 
-/// Of three functions two have too many nodes: whether the first of the two is reported, with the place and the length of its name.
+/// Two of three functions have too many nodes: whether the first of the two is reported, with the place and the length of its
+/// name.
 pub fn least_refused<N: Own, R: Wait>(rt: &R, alloc: Global, pool: Pool<N>) -> Result<bool, Fail> {
     let mut text = Vec::new(alloc);
     repeat(

@@ -45,7 +45,7 @@ fn is_right_on<N: Own, R: Wait>(
     }
 }
 
-// Whether it is so on a pool with this queue.
+// Whether the result is as it should be on a pool with this queue.
 fn begins_right<N, R, G>(
     rt: &R,
     alloc: Global,
@@ -63,7 +63,7 @@ where
     is_right_on(rt, alloc, pool, trial)
 }
 
-/// The failure of a test if it is not so on a pool whose workers pass this gate.
+/// The failure of a test if the result is not as it should be on a pool whose workers pass this gate.
 pub fn succeeds<R, G>(rt: &R, alloc: Global, gate: G, trial: Trial) -> Result<(), Fail>
 where
     R: Threads + Wait + Copy + Send + 'static,

@@ -1,16 +1,16 @@
-// Programs that go wrong: what `interpret` says of them, what a plain image does, which nobody promises, and what a checked one does, which
-// stops in place. And programs that are right, whose two images do the same.
+// Programs that go wrong: what `interpret` says about them, what a plain image does (nobody promises that), and what a checked
+// one does (it stops at the place). Also programs that do not go wrong: their two images do the same.
 
 use super::helpers::{interprets, runs, writes};
 use cc_task::{Kind, Task};
 use cc_tasks::perform_and_explain;
 
-/// The most instructions that a run may have: a checked image that has stopped takes no time for them.
+/// A run may have at most this many instructions: a checked image that has stopped takes no time for them.
 const MOST: u64 = 1_000_000_000;
 
-// Programs; what `interpret`, `run` and `run --checked` write of each on no input.
+// Programs, and what `interpret`, `run` and `run --checked` write for each without input.
 static PROGRAMS: [(&str, &str, &str, &str); 18] = [
-    // An element behind the last one is the next object's.
+    // An element after the last one is the next object's.
     (
         "int a[3];int b=7;int main(void){int i;for(i=0;i<=3;i++)a[i]=i;write_word(b);}",
         "wrong Index\n",
@@ -60,7 +60,7 @@ static PROGRAMS: [(&str, &str, &str, &str); 18] = [
         "1\nexited 0\n",
         "going\n",
     ),
-    // Arrays of bytes; the last word of the first has room for eight.
+    // Arrays of bytes; the words of the first one have room for eight bytes.
     (
         "unsigned char c[5],d[4];int n=8;int main(void){c[4]=2;write_word(c[4]);c[n]=9;write_word(d[0]);}",
         "2\nwrong Index\n",
@@ -73,7 +73,7 @@ static PROGRAMS: [(&str, &str, &str, &str); 18] = [
         "0\n0\nexited 0\n",
         "0\ngoing\n",
     ),
-    // An index that a call computes, which changes the array.
+    // An index computed by a call that changes the array.
     (
         "int a[2]={5,1};int f(void){a[0]=9;return a[1]+1;}int main(void){write_word(a[0]);a[f()]=3;write_word(a[0]);}",
         "5\nwrong Index\n",
@@ -92,7 +92,7 @@ static PROGRAMS: [(&str, &str, &str, &str); 18] = [
         "4\n0\nexited 0\n",
         "4\ngoing\n",
     ),
-    // Values that nobody takes.
+    // Values that nobody uses.
     (
         "int z;int main(void){1/z;write_word(1);}",
         "wrong Division\n",
@@ -105,14 +105,14 @@ static PROGRAMS: [(&str, &str, &str, &str); 18] = [
         "1\nexited 0\n",
         "going\n",
     ),
-    // In a function that is called, after some turns of its loop.
+    // The run goes wrong in a called function, after some turns of its loop.
     (
         "int a[4];int f(int n){int i;for(i=n;i>=0;i--)a[i]=a[i+1]+1;return a[0];}int main(void){write_word(f(2));write_word(f(3));}",
         "3\nwrong Index\n",
         "3\n4\nexited 0\n",
         "3\ngoing\n",
     ),
-    // Right ones.
+    // Programs that do not go wrong.
     (
         "int a[2];int f(void){a[0]=1;return 1;}int main(void){a[f()]+=a[0]+5;write_word(a[1]);}",
         "6\nended 0\n",
@@ -154,7 +154,7 @@ static EXPLAINED: [(&str, &str, &str); 3] = [
     ),
 ];
 
-// Whether a run of the checked image writes these lines, and this is explained.
+// Whether a run of the checked image writes these lines and explains this.
 fn explains<H: AllocGlobal>(rt: &H, text: &str, lines: &str, told: &str) -> bool {
     let task = Task::Run(Kind::Checked, 1000, Vec::new(rt.alloc()));
     let mut reader = text.as_bytes();

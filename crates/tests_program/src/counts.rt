@@ -1,10 +1,11 @@
-// What `--count` adds. Steps are the start of `main`, calls, and turns of loops; instructions those of the listings in `sizes` and of the machine.
+// What `--count` adds. Steps are counted at the start of `main`, at calls, and at turns of loops; instructions are those of the listings in
+// `sizes` and of the machine.
 
 use super::helpers::writes;
 use cc_task::{Kind, Task};
 use std::alloc::Global;
 
-// Programs, a bound, and what is written of a run with a count of steps.
+// Programs, a bound, and what is written for a run with a count of steps.
 static STEPS: [(&str, u64, &str); 8] = [
     ("int main(void){}", 1000, "ended 0\nsteps 1\n"),
     ("int main(void){}", 1, "ended 0\nsteps 1\n"),
@@ -43,7 +44,8 @@ fn steps(rt: HostRuntime) {
     }
 }
 
-// Bounds, and what is written of the run of the empty program's image: a jump to `main`, its two instructions, and the two that end the run.
+// Bounds, and what is written for the run of the empty program's image: a jump to `main`, its two instructions, and the two that end the
+// run.
 static INSTRUCTIONS: [(u64, &str); 4] = [
     (1_000_000_000, "exited 0\nexecuted 5\n"),
     (5, "exited 0\nexecuted 5\n"),

@@ -1,4 +1,4 @@
-// What is explained of faults and of runs that go wrong, beside what is answered.
+// What is explained about faults and about runs that go wrong, besides what is answered.
 
 use cc_task::{Kind, Task};
 use cc_tasks::perform_and_explain;
@@ -17,11 +17,11 @@ static CHECKED: [(&str, &str, &str); 6] = [
         "fault 11 Unknown at 2:2\n",
         "-:2:2: 'totl' is not declared\n    2 |  totl=1;\n      |  ^\n",
     ),
-    // The answer is the first fault alone; what is explained has the others too.
+    // The answer has only the first fault; the explanation has the others too.
     (
         "int main(void){\n totl=1;\n while(1){sums=2;continue;}\n break;\n}",
         "fault 11 Unknown at 2:2\n",
-        "-:2:2: 'totl' is not declared\n    2 |  totl=1;\n      |  ^\n-:3:11: 'sums' is not declared\n    3 |  while(1){sums=2;continue;}\n      |           ^\n-:4:2: 'break' stands outside a loop\n    4 |  break;\n      |  ^\n",
+        "-:2:2: 'totl' is not declared\n    2 |  totl=1;\n      |  ^\n-:3:11: 'sums' is not declared\n    3 |  while(1){sums=2;continue;}\n      |           ^\n-:4:2: 'break' is outside a loop\n    4 |  break;\n      |  ^\n",
     ),
     (
         "int main(void){return 1 2;}",

@@ -1,4 +1,5 @@
-// Programs that come in files: how the files are put together, what is answered and explained of them, and which command lines name files.
+// Programs that come in files: how the files are put together, what is answered and explained for them, and which command lines name
+// files.
 
 use crate::words::are_refused;
 use cc_command_line::read_invocation;
@@ -18,7 +19,7 @@ fn texts_of(alloc: Global, given: &[(&str, &str)]) -> Result<Vec<NamedText>, All
     Ok(texts)
 }
 
-// Texts, and what they make.
+// Texts, and the text that they make together.
 static JOINED: [(&[(&str, &str)], &str); 9] = [
     (&[], ""),
     (&[("a", "x")], "x"),
@@ -154,7 +155,7 @@ fn explained_texts(rt: HostRuntime) {
     }
 }
 
-// Whether two texts of so many bytes together, all spaces but a program, are answered by this line.
+// Whether two texts of this many bytes together, all spaces except a program, are answered with this line.
 fn answers_long<H: AllocGlobal>(rt: &H, spaces: usize, wanted: &[u8], told: &[u8]) -> bool {
     let Ok(mut texts) = texts_of(rt.alloc(), &[("A.c", ""), ("B.c", "int main(void){}")]) else {
         return false;
@@ -186,7 +187,7 @@ fn texts_that_are_too_long_together(rt: HostRuntime) {
     );
 }
 
-// Whether the program of two texts ends so.
+// Whether the run of the program of two texts ends with these lines.
 fn ends<H: AllocGlobal>(rt: &H, lines: &[u8]) -> bool {
     let given = &[
         ("A.c", "int twice(int a){return a+a;}"),
@@ -206,7 +207,7 @@ fn a_program_of_two_texts(rt: HostRuntime) {
     assert!(rt; ends(&rt, b"ended 4\n"));
 }
 
-// Which of the files of these names is not read, if one is not: its number.
+// The number of the first of these files that is not read, if there is one.
 fn unread(rt: &HostRuntime, names: &[&str]) -> Option<usize> {
     let mut given = Vec::new(rt.alloc());
     for name in names {
@@ -236,7 +237,7 @@ fn files_that_cannot_be_read(rt: HostRuntime) {
     assert!(rt; unread(&rt, &["/dev/null", "/dev/null"]).is_none());
     assert!(rt; unread(&rt, &["/dev/null", "/no/such/file", "/"]) == Some(1));
     assert!(rt; unread(&rt, &["/"]) == Some(0));
-    // A file without an end is read as far as a text may go, and then no other.
+    // A file without an end is read as far as a text may go; after that no other file is read.
     assert!(rt; unread(&rt, &["/dev/zero", "/no/such/file"]).is_none());
 }
 

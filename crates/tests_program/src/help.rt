@@ -19,22 +19,22 @@ Commands:
   cover      Run the program as `interpret` does, and print how often each line was reached
   asm        Compile the program and list its image
   stages     Show what the compiler makes of each function, stage by stage
-  size       Say how much an image takes: its code, its globals, and a stack that is enough
+  size       Show how much memory an image takes: its code, its globals, and a stack that is enough
   safe       Say `safe` if the program can't go wrong, whatever it reads; else where it may
   image      Compile the program and print its image as Intel HEX, or print that of a unit of a library
   source     Print the source of a unit of a library
   call       Run a unit of a library on input words
-  diff       Say where two libraries differ
+  diff       Show how two libraries differ
   log        Print what was added, replaced and withdrawn since the last compaction
   restore    Put back what a unit of a library was
   copy       Copy the units of a library into a new one, or some of them
   library    Keep compiled programs in a file that survives a power cut, by the commands of a script
-  serve      Do the scripts that others leave in a folder, many at a time, over a library in a file
+  serve      Serve the scripts that others leave in a folder, many at a time, over a library in a file
   submit     Leave a script for a server, wait for its answer and print it
   help       Print this message or the help of the given subcommand(s)
 
 Options:
-      --quiet    Explain no fault on standard error
+      --quiet    Write no explanations to standard error
       --json     Print answers and explanations as JSON, an object a line
   -h, --help     Print help
   -V, --version  Print version
@@ -80,7 +80,7 @@ a negative one is written modulo 4294967296: 4294967293 for -3.
 Exit status: 0 for an answer, 1 for a fault, 2 for a command line that is refused.
 ";
 
-// Whether the command line is answered by that text, with status 0.
+// Whether the command line is answered with that text, with status 0.
 fn is_answered_by(alloc: Global, words: &'static [&'static str], wanted: &str) -> bool {
     match printed(alloc, words) {
         Some((status, text)) => status == 0 && text.as_str() == wanted,

@@ -13,13 +13,13 @@ pub fn writes<H: AllocGlobal>(rt: &H, task: Task, text: &[u8], lines: &[u8], sta
     found == status && written.as_slice() == lines
 }
 
-/// Whether a run of a text within this many steps on no input writes these lines.
+/// Whether a run of a text without input writes these lines within this many steps.
 pub fn interprets<H: AllocGlobal>(rt: &H, text: &[u8], steps: u64, lines: &str) -> bool {
     let task = Task::Interpret(steps, Vec::new(rt.alloc()));
     writes(rt, task, text, lines.as_bytes(), 0)
 }
 
-/// Whether the image of a text writes these lines within this many instructions on no input.
+/// Whether the image of a text writes these lines without input, within this many instructions.
 pub fn runs<H: AllocGlobal>(rt: &H, text: &[u8], steps: u64, lines: &str) -> bool {
     let task = Task::Run(Kind::Plain, steps, Vec::new(rt.alloc()));
     writes(rt, task, text, lines.as_bytes(), 0)

@@ -3,7 +3,7 @@
 use super::helpers::{has_no_image, runs, writes};
 use cc_task::{Kind, Task};
 
-// Small programs, the instructions of each run, what its image writes on no input and how it ends.
+// Small programs, how many instructions each run may have, what the image writes without input, and how it ends.
 static IMAGES: [(&str, u64, &str); 10] = [
     ("int main(void){}", 1000, "exited 0\n"),
     (

@@ -4,7 +4,7 @@ use super::helpers::{checks, checks_parts, interprets};
 use std::alloc::{AllocError, Global};
 use tests_texts::parts::text_of;
 
-/// A text's begin, what is repeated, its end, how often, and the line that `check` writes.
+/// The beginning of a text, what is repeated, its end, how often, and the line that `check` writes.
 static REPEATED: [(&str, &str, &str, usize, &str); 11] = [
     // bytes
     ("", " ", "", 65_536, "fault 5 Unexpected at 1:65537\n"),
@@ -48,7 +48,7 @@ fn repeated_parts(rt: HostRuntime) {
     }
 }
 
-// Blocks within one another, and the line that `check` writes.
+// Nested blocks, and the line that `check` writes.
 #[test]
 fn levels_of_statements(rt: HostRuntime) {
     let within = [("int main(void){", 1), ("{", 63), ("}", 64)];

@@ -1,5 +1,5 @@
 // What is taken out of a library: a unit's image as Intel HEX, its source to the byte, and what is refused. The units are made by hand, so that what
-// was stored is what comes, and not what the compiler makes of a source. The lines of HEX were worked by hand.
+// comes out is what was stored, and not what the compiler makes of a source. The lines of HEX were worked by hand.
 
 use cc_disk::{Disk, FuseDisk, FuseMode, MemoryDisk};
 use cc_journal::{Journal, format};
@@ -62,7 +62,7 @@ fn with_units(alloc: Global, names: &[&[u8]]) -> Result<MemoryDisk, Fail> {
     Ok(library.into_disk())
 }
 
-// What comes of a part of a unit on a disk: the bytes or the fault's number, and what is told.
+// What is given for a part of a unit on a disk: the bytes or the fault's number, and the explanation.
 #[derive(Drop)]
 struct Taken {
     bytes: Vec<u8>,
@@ -110,7 +110,7 @@ fn an_image_and_a_source(rt: HostRuntime) -> Result<(), Fail> {
     Ok(())
 }
 
-// The same disk again and again: nothing was written to it, and it is given back after a refusal too.
+// The same disk is used again and again: nothing is written to it, and it is given back after a refusal too.
 #[test]
 fn a_disk_that_stays(rt: HostRuntime) -> Result<(), Fail> {
     let alloc = rt.alloc();
@@ -163,7 +163,7 @@ fn names_that_are_none(rt: HostRuntime) -> Result<(), Fail> {
     Ok(())
 }
 
-// What the opening refuses comes first, before a name that is none.
+// If the opening refuses the disk, this comes first, before a refusal of bytes that are no name.
 #[test]
 fn disks_that_are_refused(rt: HostRuntime) -> Result<(), Fail> {
     let alloc = rt.alloc();

@@ -5,7 +5,7 @@ use cc_task::Task;
 use cc_tasks::perform;
 use std::alloc::{AllocError, Global};
 
-// Small programs, the steps of each run, what it writes on no input and how it ends.
+// Small programs, how many steps each run may have, what it writes without input, and how it ends.
 static PROGRAMS: [(&str, u64, &str); 31] = [
     // the empty main
     ("int main(void){}", 1, "ended 0\n"),
@@ -84,7 +84,7 @@ static PROGRAMS: [(&str, u64, &str); 31] = [
         9,
         "44\n255\n8\n-16777216\n1\nended 0\n",
     ),
-    // by an index that is no constant; `-1` becomes unsigned beside `1u`, and stays `int` beside a promoted byte
+    // with an index that is no constant; `-1` becomes unsigned together with `1u`, and stays `int` together with a promoted byte
     (
         "unsigned char c[5];int main(void){int i,n=1,s=0;for(i=0;i<5;i++)c[i]=i*70;for(i=0;i<5;i++){c[i]/=2u;write_word(c[i]);s+=c[i]+((n?c[i]:1u)>-1);}write_word(s);return (n?c[4]:1)>-1;}",
         100,
@@ -190,7 +190,7 @@ fn push_numbered(text: &mut String, alloc: Global, i: u32, is_sum: bool) -> Resu
     text.push_str(&part)
 }
 
-// A function with 24 locals that are read one behind the other.
+// A function with 24 locals that are read one after the other.
 fn many_locals(alloc: Global) -> Result<String, AllocError> {
     let mut text = String::from_str(alloc, "int f(int x){return x;}int main(void){")?;
     for i in 1..25u32 {
@@ -219,7 +219,7 @@ fn is_one_line(written: &[u8]) -> bool {
     ends == 1 && written.ends_with(b"\n".as_slice())
 }
 
-// Whether a text writes a fault's line alone with the status 1.
+// Whether a text writes only a fault's line, with the status 1.
 fn has_fault<H: AllocGlobal>(rt: &H, text: &[u8]) -> bool {
     let mut reader = text;
     let mut written = Vec::new(rt.alloc());
@@ -229,7 +229,7 @@ fn has_fault<H: AllocGlobal>(rt: &H, text: &[u8]) -> bool {
         && is_one_line(written.as_slice())
 }
 
-// A text that ends anywhere is a program or has one fault line.
+// Wherever a text is cut off, it is a program or has one fault line.
 fn prefixes_have_faults<H: AllocGlobal>(rt: &H, text: &[u8]) -> bool {
     for end in 0..text.len() {
         if !has_fault(rt, &text[..end]) {

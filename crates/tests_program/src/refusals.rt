@@ -1,4 +1,4 @@
-// What `check` refuses, and where. Of several faults the first in the text is answered.
+// What `check` refuses, and at which place. If a text has several faults, the first one in it is reported.
 
 use super::helpers::checks;
 use cc_link::PieceFault;
@@ -71,7 +71,7 @@ static TEXTS: [(&str, &str); 30] = [
         "int f(void);int main(void){f();}",
         "fault 20 Undefined at 1:28\n",
     ),
-    // a fault of 1 to 4 wins wherever it stands, then 5 and 6, then the first error
+    // a fault of 1 to 4 wins at any place, then 5 and 6, then the first error
     (
         "int main(void){return 1 2;} 08 $",
         "fault 3 BadConstant at 1:29\n",
@@ -85,7 +85,7 @@ static TEXTS: [(&str, &str); 30] = [
         "int main(void){return f();}int f(int x){}",
         "fault 11 Unknown at 1:23\n",
     ),
-    // `char` stands in arrays at file scope alone
+    // `char` is allowed only in arrays at file scope
     (
         "unsigned char x;int main(void){}",
         "fault 5 Unexpected at 1:16\n",
@@ -105,7 +105,8 @@ fn texts(rt: HostRuntime) {
     }
 }
 
-// No text is known of which the compiler's validator refuses a function, so the fault is made by hand, of the second function here.
+// No text is known in which the compiler's validator refuses a function, so the fault is made by hand, for the second function
+// here.
 #[test]
 fn a_function_that_is_not_validated(rt: HostRuntime) {
     let text = b"int f(int x){return x;}int main(void){}".as_slice();

@@ -1,9 +1,9 @@
-// What `safe` says of programs.
+// What `safe` says about programs.
 
 use super::helpers::writes;
 use cc_task::Task;
 
-// Programs, what is written of each, and the status.
+// Programs, what is written for each, and the status.
 static PROGRAMS: [(&str, &str, u8); 12] = [
     ("int main(void){}", "safe\n", 0),
     ("int main(void){return (7/2)<<3;}", "safe\n", 0),

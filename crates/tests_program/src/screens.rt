@@ -1,10 +1,10 @@
-// What a terminal is shown of an answer, and what anything else gets.
+// What a terminal shows of an answer, and what anything else gets.
 
 use cc_screen::Screen;
 use std::alloc::Global;
 use std::io::Write;
 
-// Bytes, and what a terminal is shown of them.
+// Bytes, and what a terminal shows for them.
 static ROWS: [(&[u8], &[u8]); 7] = [
     (
         b"int main(void)\n{\treturn 0;}\n",
@@ -23,7 +23,7 @@ static ROWS: [(&[u8], &[u8]); 7] = [
     (b"", b""),
 ];
 
-// What comes out of these bytes.
+// What is printed for these bytes.
 fn printed(alloc: Global, bytes: &[u8], is_terminal: bool) -> Vec<u8> {
     let mut text = Vec::new(alloc);
     let mut screen = Screen::new(&mut text, is_terminal);

@@ -1,4 +1,5 @@
-// What `size` writes: whole answers of programs without calls, and of others the lines that the choice of instructions does not change.
+// What `size` writes: whole answers for programs without calls, and for others the lines that the choice of instructions does not
+// change.
 
 use super::helpers::writes;
 use cc_task::{Kind, Task};
@@ -31,7 +32,7 @@ fn whole_answers(rt: HostRuntime) {
     );
 }
 
-// Texts, and lines of what is written of each.
+// Texts, and lines that are written for each.
 static LINES: [(&str, &[&str]); 4] = [
     (
         "unsigned char c[5];int a[3];int f(int n){return n;}int main(void){return f(1)+f(2);}",
@@ -51,7 +52,7 @@ static LINES: [(&str, &[&str]); 4] = [
     ),
 ];
 
-// Whether each of these lines is one of a text's.
+// Whether a text has each of these lines.
 fn has_lines(text: &[u8], wanted: &[&str]) -> bool {
     for line in wanted {
         if !text

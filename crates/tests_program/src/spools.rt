@@ -5,7 +5,7 @@ use cc_command_line::{Server, Submitter, Work, line};
 use cc_task::Kind;
 use std::alloc::Global;
 
-// What a command line asks of a server, of the file `a.disk` and the folder `spool`.
+// What a command line asks a server to do, for the file `a.disk` and the folder `spool`.
 #[derive(Clone, Copy)]
 struct Asked {
     words: &'static [&'static str],
@@ -113,7 +113,7 @@ fn servers(rt: HostRuntime) {
     }
 }
 
-// Command lines of clients of the folder `spool`, with the line of a script that each asks for, and for how many seconds it waits.
+// Command lines of clients of the folder `spool`, with the line of a script that each asks for, and how many seconds it waits.
 static CLIENTS: [(&[&str], Option<&str>, Option<u32>); 7] = [
     (&["cclib", "submit", "spool"], None, None),
     (
@@ -197,7 +197,8 @@ fn clients(rt: HostRuntime) {
     }
 }
 
-// Command lines of clients of the folder `spool` whose line has more than itself: the line, its input, and the file with what it is to replace.
+// Command lines of clients of the folder `spool` whose script has more than its line: the line, its input, and the file with what it is to
+// replace.
 static LARGER: [(&[&str], &str, Option<&str>, Option<&str>); 5] = [
     (
         &["cclib", "submit", "spool", "call", "a", "1000"],

@@ -1,4 +1,4 @@
-// What is shown of a text's functions, and what is refused. That the stages are those of the compiler is tested in `tests_link`.
+// What is shown for a text's functions, and what is refused. `tests_link` tests that the stages are those of the compiler.
 
 use cc_task::Kind;
 use cc_tasks::{perform_and_explain_stages, perform_stages};
@@ -42,7 +42,7 @@ f0 slots 0
 0001000c 00008067 jalr x0, 0(x1)
 ";
 
-// What comes of a text: the status, what is written and what is told.
+// What is given for a text: the status, what is written and what is explained.
 #[derive(Drop)]
 struct Shown {
     status: u8,
@@ -69,7 +69,7 @@ fn show_stages<H: AllocGlobal>(rt: &H, text: &[u8], function: Option<&[u8]>) -> 
     }
 }
 
-// Whether that came, and nothing is told.
+// Whether these lines are the answer, and nothing is explained.
 fn is_answer(shown: Shown, lines: &str) -> bool {
     let is_right = shown.status == 0
         && shown.written.as_slice() == lines.as_bytes()
@@ -78,7 +78,7 @@ fn is_answer(shown: Shown, lines: &str) -> bool {
     is_right
 }
 
-// Whether the status is 1, what is written ends so, and this is told.
+// Whether the status is 1, what is written ends with these lines, and this is explained.
 fn is_refusal(shown: Shown, end: &str, told: &str) -> bool {
     let is_right = shown.status == 1
         && shown.written.as_slice().ends_with(end.as_bytes())
@@ -87,7 +87,7 @@ fn is_refusal(shown: Shown, end: &str, told: &str) -> bool {
     is_right
 }
 
-// Whether what is told begins so.
+// Whether the explanation begins with `start`.
 fn is_told(shown: &Shown, start: &str) -> bool {
     shown.told.as_slice().starts_with(start.as_bytes())
 }
@@ -115,7 +115,7 @@ fn all_functions(rt: HostRuntime) {
     assert!(rt; shows_both(&rt));
 }
 
-// Names that no function has, and what is told of each; nothing is shown.
+// Names that no function has, and the explanation of each; nothing is shown.
 static UNKNOWN: [(&str, &str); 3] = [
     (
         "mian",
@@ -165,7 +165,7 @@ fn a_warning(rt: HostRuntime) {
     drop(found);
 }
 
-// The stages up to the one that says so, and then the fault.
+// The stages up to the one at which the function is too large, and then the fault.
 #[test]
 fn a_function_that_is_too_large(rt: HostRuntime) {
     let parts = &[("int main(void){", 1), ("write_word(0);", 4097), ("}", 1)];

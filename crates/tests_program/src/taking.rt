@@ -1,11 +1,11 @@
-// The command lines of what is shown of a text, and of what is taken out of a library.
+// The command lines that show something about a text, or take something out of a library.
 
 use crate::words::are_refused;
 use cc_command_line::{Wanted, Work, line};
 use cc_task::{Kind, Part, Task};
 use std::alloc::Global;
 
-// Command lines that show functions, and the one that each names.
+// Command lines that show functions, and the function that each names.
 static STAGES: [(&[&str], Option<&str>); 4] = [
     (&["cclib", "stages"], None),
     (&["cclib", "stages", "main"], Some("main")),

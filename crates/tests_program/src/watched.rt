@@ -37,7 +37,7 @@ static IN_JSON: [&[&str]; 14] = [
     &["cclib", "--json", "submit", "a", "add", "b"],
 ];
 
-// Command lines that are refused with the option.
+// Command lines that are refused with `--json`.
 static NO_JSON: [&[&str]; 12] = [
     &["cclib", "--json", "asm"],
     &["cclib", "--json", "image"],
@@ -62,7 +62,8 @@ fn json_words(rt: HostRuntime) {
     assert!(rt; are_refused(rt.alloc(), NO_JSON.as_slice()));
 }
 
-// How many things a command line asks `trace` to keep, of how many steps and words, in how many files; none if it asks for no trace.
+// How many things a command line asks `trace` to keep, for how many steps and words, in how many files; none if it asks for no
+// trace.
 fn traced(alloc: Global, words: &'static [&'static str]) -> Option<(u64, usize, u32, usize)> {
     match read_invocation(alloc, words) {
         Ok(invocation) => {
@@ -103,7 +104,7 @@ fn trace_words(rt: HostRuntime) {
     );
 }
 
-// Whether runs are asked for whose inputs are in this file.
+// Whether runs are asked for with the inputs in this file.
 fn has_lines(asked: &Covered, name: &str) -> bool {
     let is_named = match &asked.lines {
         Some(lines) => lines.as_str() == name,
@@ -130,7 +131,7 @@ fn covers_lines(alloc: Global, words: &'static [&'static str], name: &str) -> bo
     }
 }
 
-// Command lines of the two that are refused.
+// Command lines of `trace` and `cover` that are refused.
 static REFUSED: [&[&str]; 11] = [
     &["cclib", "trace"],
     &["cclib", "trace", "1000000001"],

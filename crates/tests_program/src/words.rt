@@ -1,53 +1,202 @@
 // The command line.
 
 use cc_command_line::{
-    Invocation, Server, Session, Work, line, read_invocation, read_or_tell, refused_bytes,
+    Invocation, Session, Work, line, read_invocation, read_or_tell, refused_bytes,
 };
 use cc_task::{Kind, Task};
 use std::alloc::Global;
+use std::test::Fail;
+use tests_texts::verdict::{each_passes, passes};
 
-fn asks_to_check(alloc: Global, words: &'static [&'static str]) -> bool {
-    matches!(line(alloc, words), Ok(Work::One(Task::Check)))
+/// A command line that asks for a task, and which: its command, how an image is compiled, whether steps are counted, the bound, and the input.
+type Asked = (
+    &'static [&'static str],
+    &'static str,
+    Kind,
+    bool,
+    u64,
+    &'static [u32],
+);
+
+static TASKS: [Asked; 17] = [
+    (&["cclib", "check"], "check", Kind::Plain, false, 0, &[]),
+    (
+        &["cclib", "interpret", "1000"],
+        "interpret",
+        Kind::Plain,
+        false,
+        1_000,
+        &[],
+    ),
+    (
+        &["cclib", "interpret", "0001000000000"],
+        "interpret",
+        Kind::Plain,
+        false,
+        1_000_000_000,
+        &[],
+    ),
+    (
+        &["cclib", "interpret", "10", "4294967295", "007"],
+        "interpret",
+        Kind::Plain,
+        false,
+        10,
+        &[4294967295, 7],
+    ),
+    (&["cclib", "run", "5"], "run", Kind::Plain, false, 5, &[]),
+    (
+        &["cclib", "run", "1000000000", "0", "1"],
+        "run",
+        Kind::Plain,
+        false,
+        1_000_000_000,
+        &[0, 1],
+    ),
+    (&["cclib", "asm"], "asm", Kind::Plain, false, 0, &[]),
+    (
+        &["cclib", "interpret", "--count", "5", "7"],
+        "interpret",
+        Kind::Plain,
+        true,
+        5,
+        &[7],
+    ),
+    (
+        &["cclib", "run", "9", "--count"],
+        "run",
+        Kind::Plain,
+        true,
+        9,
+        &[],
+    ),
+    (
+        &["cclib", "run", "--checked", "9", "--count"],
+        "run",
+        Kind::Checked,
+        true,
+        9,
+        &[],
+    ),
+    (
+        &["cclib", "run", "--checked", "5", "7"],
+        "run",
+        Kind::Checked,
+        false,
+        5,
+        &[7],
+    ),
+    (
+        &["cclib", "run", "5", "--checked"],
+        "run",
+        Kind::Checked,
+        false,
+        5,
+        &[],
+    ),
+    (
+        &["cclib", "asm", "--checked"],
+        "asm",
+        Kind::Checked,
+        false,
+        0,
+        &[],
+    ),
+    (
+        &["cclib", "size", "--checked"],
+        "size",
+        Kind::Checked,
+        false,
+        0,
+        &[],
+    ),
+    (&["cclib", "safe"], "safe", Kind::Plain, false, 0, &[]),
+    (&["cclib", "size"], "size", Kind::Plain, false, 0, &[]),
+    (
+        &["cclib", "image", "--checked"],
+        "image",
+        Kind::Checked,
+        false,
+        0,
+        &[],
+    ),
+];
+
+// What a task is, as the last five parts of such a row.
+fn parts_of(task: &Task) -> (&'static str, Kind, bool, u64, &[u32]) {
+    match task {
+        Task::Check => ("check", Kind::Plain, false, 0, &[]),
+        Task::Interpret(steps, input) => (
+            "interpret",
+            Kind::Plain,
+            false,
+            *steps,
+            input.as_slice(),
+        ),
+        Task::InterpretCounted(steps, input) => (
+            "interpret",
+            Kind::Plain,
+            true,
+            *steps,
+            input.as_slice(),
+        ),
+        Task::Run(kind, steps, input) => ("run", *kind, false, *steps, input.as_slice()),
+        Task::RunCounted(kind, steps, input) => ("run", *kind, true, *steps, input.as_slice()),
+        Task::Asm(kind) => ("asm", *kind, false, 0, &[]),
+        Task::Image(kind) => ("image", *kind, false, 0, &[]),
+        Task::Size(kind) => ("size", *kind, false, 0, &[]),
+        Task::Safe => ("safe", Kind::Plain, false, 0, &[]),
+    }
 }
 
-fn asks_to_interpret(
-    alloc: Global,
-    words: &'static [&'static str],
-    steps: u64,
-    input: &[u32],
-) -> bool {
-    match line(alloc, words) {
-        Ok(Work::One(Task::Interpret(found, given))) => found == steps && given.as_slice() == input,
+fn asks_for(alloc: Global, asked: &Asked) -> Result<bool, Fail> {
+    match line(alloc, asked.0) {
+        Ok(Work::One(task)) => {
+            let right = parts_of(&task) == (asked.1, asked.2, asked.3, asked.4, asked.5);
+            drop(task);
+            Ok(right)
+        }
         other => {
             drop(other);
-            false
+            Ok(false)
         }
     }
 }
 
-fn asks_to_run(alloc: Global, words: &'static [&'static str], steps: u64, input: &[u32]) -> bool {
-    match line(alloc, words) {
-        Ok(Work::One(Task::Run(Kind::Plain, found, given))) => {
-            found == steps && given.as_slice() == input
-        }
-        other => {
-            drop(other);
-            false
-        }
-    }
+#[test]
+fn tasks(rt: HostRuntime) -> Result<(), Fail> {
+    each_passes(rt.alloc(), TASKS.as_slice(), asks_for)
 }
 
-fn asks_for_listing(alloc: Global, words: &'static [&'static str]) -> bool {
-    matches!(line(alloc, words), Ok(Work::One(Task::Asm(Kind::Plain))))
-}
+type Kept = (&'static [&'static str], &'static str, Option<u32>, usize);
 
-fn asks_for_library(
-    alloc: Global,
-    words: &'static [&'static str],
-    path: &str,
-    wanted: Option<u32>,
-    count: usize,
-) -> bool {
+// Command lines of `library` with the path, the room, and the number of workers.
+static LIBRARIES: [Kept; 3] = [
+    (&["cclib", "library", "units.disk"], "units.disk", None, 2),
+    (
+        &[
+            "cclib",
+            "library",
+            "--workers",
+            "8",
+            "a",
+            "--format",
+            "1073741824",
+        ],
+        "a",
+        Some(1_073_741_824),
+        8,
+    ),
+    (
+        &["cclib", "library", "a", "--format=64", "--workers=1"],
+        "a",
+        Some(64),
+        1,
+    ),
+];
+
+fn asks_for_library(alloc: Global, row: &Kept) -> Result<bool, Fail> {
+    let (words, path, wanted, count) = *row;
     match line(alloc, words) {
         Ok(
             Work::Library(
@@ -59,141 +208,51 @@ fn asks_for_library(
                     kind: Kind::Plain,
                 },
             ),
-        ) => disk.as_str() == path && area == wanted && workers == count && !is_strict,
+        ) => Ok(disk.as_str() == path && area == wanted && workers == count && !is_strict),
         other => {
             drop(other);
-            false
+            Ok(false)
         }
     }
 }
 
 #[test]
-fn libraries(rt: HostRuntime) {
-    let words = &["cclib", "library", "units.disk"];
-    assert!(rt; asks_for_library(rt.alloc(), words, "units.disk", None, 2));
-    let words = &[
-        "cclib",
-        "library",
-        "--workers",
-        "8",
-        "a",
-        "--format",
-        "1073741824",
-    ];
-    assert!(rt; asks_for_library(rt.alloc(), words, "a", Some(1_073_741_824), 8));
-    let words = &["cclib", "library", "a", "--format=64", "--workers=1"];
-    assert!(rt; asks_for_library(rt.alloc(), words, "a", Some(64), 1));
+fn libraries(rt: HostRuntime) -> Result<(), Fail> {
+    each_passes(rt.alloc(), LIBRARIES.as_slice(), asks_for_library)
 }
 
-#[test]
-fn tasks(rt: HostRuntime) {
-    assert!(rt; asks_to_check(rt.alloc(), &["cclib", "check"]));
-    assert!(rt; asks_to_interpret(rt.alloc(), &["cclib", "interpret", "1000"], 1000, &[]));
-    let words = &["cclib", "interpret", "0001000000000"];
-    assert!(rt; asks_to_interpret(rt.alloc(), words, 1_000_000_000, &[]));
-    let words = &["cclib", "interpret", "10", "4294967295", "007"];
-    assert!(rt; asks_to_interpret(rt.alloc(), words, 10, &[4294967295, 7]));
-    assert!(rt; asks_to_run(rt.alloc(), &["cclib", "run", "5"], 5, &[]));
-    assert!(rt;
-        asks_to_run(
-            rt.alloc(),
-            &["cclib", "run", "1000000000", "0", "1"],
-            1_000_000_000,
-            &[0, 1]
-        )
-    );
-    assert!(rt; asks_for_listing(rt.alloc(), &["cclib", "asm"]));
-}
+// Command lines without a task that ask for checked images.
+static CHECKED: [&[&str]; 3] = [
+    &["cclib", "library", "units.disk", "--checked"],
+    &["cclib", "serve", "--checked", "units.disk", "spool"],
+    &["cclib", "stages", "--checked"],
+];
 
-// What a command line asks to be counted: whether of an image, whether that is a checked one, the bound, and how many words the input has.
-fn asks_to_count(
-    alloc: Global,
-    words: &'static [&'static str],
-) -> Option<(bool, bool, u64, usize)> {
+fn asks_for_checked(alloc: Global, words: &&'static [&'static str]) -> Result<bool, Fail> {
     match line(alloc, words) {
-        Ok(Work::One(Task::InterpretCounted(steps, given))) => {
-            let count = given.len();
-            drop(given);
-            Some((false, false, steps, count))
+        Ok(work) => {
+            let right = match &work {
+                Work::Library(asked) => asked.kind == Kind::Checked,
+                Work::Serve(asked) => asked.kind == Kind::Checked,
+                Work::Stages(kind, None) => *kind == Kind::Checked,
+                _ => false,
+            };
+            drop(work);
+            Ok(right)
         }
-        Ok(Work::One(Task::RunCounted(kind, steps, given))) => {
-            let count = given.len();
-            drop(given);
-            Some((true, kind == Kind::Checked, steps, count))
-        }
-        other => {
-            drop(other);
-            None
+        Err(error) => {
+            drop(error);
+            Ok(false)
         }
     }
 }
 
 #[test]
-fn counted_runs(rt: HostRuntime) {
-    let alloc = rt.alloc();
-    let asked = asks_to_count(alloc, &["cclib", "interpret", "--count", "5", "7"]);
-    assert!(rt; asked == Some((false, false, 5, 1)));
-    let asked = asks_to_count(alloc, &["cclib", "run", "9", "--count"]);
-    assert!(rt; asked == Some((true, false, 9, 0)));
-    let asked = asks_to_count(alloc, &["cclib", "run", "--checked", "9", "--count"]);
-    assert!(rt; asked == Some((true, true, 9, 0)));
-    assert!(rt; is_refused(alloc, &["cclib", "check", "--count"]));
-    assert!(rt; is_refused(alloc, &["cclib", "run", "--count", "1000000001"]));
+fn checked_images(rt: HostRuntime) -> Result<(), Fail> {
+    each_passes(rt.alloc(), CHECKED.as_slice(), asks_for_checked)
 }
 
-fn asks_for_checked_run(alloc: Global, words: &'static [&'static str]) -> bool {
-    matches!(
-        line(alloc, words),
-        Ok(Work::One(Task::Run(Kind::Checked, 5, _)))
-    )
-}
-
-#[test]
-fn checked_images(rt: HostRuntime) {
-    let alloc = rt.alloc();
-    assert!(rt; asks_for_checked_run(alloc, &["cclib", "run", "--checked", "5", "7"]));
-    assert!(rt; asks_for_checked_run(alloc, &["cclib", "run", "5", "--checked"]));
-    let asked = line(alloc, &["cclib", "asm", "--checked"]);
-    assert!(rt; matches!(asked, Ok(Work::One(Task::Asm(Kind::Checked)))));
-    let asked = line(alloc, &["cclib", "size", "--checked"]);
-    assert!(rt; matches!(asked, Ok(Work::One(Task::Size(Kind::Checked)))));
-    let asked = line(alloc, &["cclib", "library", "units.disk", "--checked"]);
-    assert!(rt;
-        matches!(
-            asked,
-            Ok(Work::Library(Session {
-                kind: Kind::Checked,
-                ..
-            }))
-        )
-    );
-    let asked = line(
-        alloc,
-        &["cclib", "serve", "--checked", "units.disk", "spool"],
-    );
-    assert!(rt;
-        matches!(
-            asked,
-            Ok(Work::Serve(Server {
-                kind: Kind::Checked,
-                ..
-            }))
-        )
-    );
-    let asked = line(alloc, &["cclib", "safe"]);
-    assert!(rt; matches!(asked, Ok(Work::One(Task::Safe))));
-    assert!(rt; is_refused(alloc, &["cclib", "safe", "--checked"]));
-    let asked = line(alloc, &["cclib", "size"]);
-    assert!(rt; matches!(asked, Ok(Work::One(Task::Size(Kind::Plain)))));
-    let asked = line(alloc, &["cclib", "image", "--checked"]);
-    assert!(rt; matches!(asked, Ok(Work::One(Task::Image(Kind::Checked)))));
-    let asked = line(alloc, &["cclib", "stages", "--checked"]);
-    assert!(rt; matches!(asked, Ok(Work::Stages(Kind::Checked, None))));
-    assert!(rt; is_refused(alloc, &["cclib", "image", "units.disk", "a", "--checked"]));
-    assert!(rt; is_refused(alloc, &["cclib", "check", "--checked"]));
-}
-
-// Refused with status 2, the text on standard error.
+// Whether a command line is refused with status 2, and the text goes to standard error.
 fn is_refused(alloc: Global, words: &'static [&'static str]) -> bool {
     match line(alloc, words) {
         Ok(task) => {
@@ -208,7 +267,7 @@ fn is_refused(alloc: Global, words: &'static [&'static str]) -> bool {
     }
 }
 
-/// Whether each of these command lines is.
+/// Whether each of these command lines is refused.
 pub fn are_refused(alloc: Global, lists: &[&'static [&'static str]]) -> bool {
     let mut right = true;
     for words in lists {
@@ -217,7 +276,7 @@ pub fn are_refused(alloc: Global, lists: &[&'static [&'static str]]) -> bool {
     right
 }
 
-static REFUSED: [&[&str]; 19] = [
+static REFUSED: [&[&str]; 24] = [
     &["cclib", "interpret", "1000000001"],
     &["cclib", "interpret", "+5"],
     &["cclib", "interpret", "-1"],
@@ -237,11 +296,16 @@ static REFUSED: [&[&str]; 19] = [
     &["cclib", "library", "a", "--format", "63"],
     &["cclib", "library", "a", "--format", "1073741825"],
     &["cclib", "library", "a", "--format", "+64"],
+    &["cclib", "check", "--count"],
+    &["cclib", "run", "--count", "1000000001"],
+    &["cclib", "safe", "--checked"],
+    &["cclib", "image", "units.disk", "a", "--checked"],
+    &["cclib", "check", "--checked"],
 ];
 
 #[test]
-fn refused_words(rt: HostRuntime) {
-    assert!(rt; are_refused(rt.alloc(), REFUSED.as_slice()));
+fn refused_words(rt: HostRuntime) -> Result<(), Fail> {
+    passes(Ok(are_refused(rt.alloc(), REFUSED.as_slice())))
 }
 
 // Command lines, and whether each asks for quiet.
@@ -252,7 +316,8 @@ static QUIET: [(&[&str], bool); 4] = [
     (&["cclib", "interpret", "5", "1"], false),
 ];
 
-fn asks_for_quiet(alloc: Global, words: &'static [&'static str]) -> Option<bool> {
+fn asks_for_quiet(alloc: Global, row: &(&'static [&'static str], bool)) -> Result<bool, Fail> {
+    let (words, wanted) = *row;
     match read_invocation(alloc, words) {
         Ok(
             Invocation {
@@ -264,20 +329,18 @@ fn asks_for_quiet(alloc: Global, words: &'static [&'static str]) -> Option<bool>
         ) => {
             drop(work);
             drop(files);
-            if is_json { None } else { Some(is_quiet) }
+            Ok(!is_json && is_quiet == wanted)
         }
         Err(error) => {
             drop(error);
-            None
+            Ok(false)
         }
     }
 }
 
 #[test]
-fn quiet_words(rt: HostRuntime) {
-    for (words, is_quiet) in QUIET.iter() {
-        assert!(rt; asks_for_quiet(rt.alloc(), words) == Some(*is_quiet));
-    }
+fn quiet_words(rt: HostRuntime) -> Result<(), Fail> {
+    each_passes(rt.alloc(), QUIET.as_slice(), asks_for_quiet)
 }
 
 // Command lines, and a part of the text that is printed for each.
@@ -308,7 +371,7 @@ static PRINTED: [(&[&str], &str); 12] = [
     (&["cclib", "stages", "--help"], "cclib stages main <"),
 ];
 
-/// What a command line prints that asks for nothing to be done, with its exit status.
+/// What is printed for a command line that asks for nothing to be done, with the exit status.
 pub fn printed(alloc: Global, words: &'static [&'static str]) -> Option<(i32, String)> {
     match line(alloc, words) {
         Ok(task) => {
@@ -327,21 +390,20 @@ pub fn printed(alloc: Global, words: &'static [&'static str]) -> Option<(i32, St
     }
 }
 
-fn prints(alloc: Global, words: &'static [&'static str], part: &str) -> bool {
+fn prints(alloc: Global, row: &(&'static [&'static str], &'static str)) -> Result<bool, Fail> {
+    let (words, part) = *row;
     match printed(alloc, words) {
-        Some((_, text)) => text.as_str().contains(part),
-        None => false,
+        Some((_, text)) => Ok(text.as_str().contains(part)),
+        None => Ok(false),
     }
 }
 
 #[test]
-fn printed_texts(rt: HostRuntime) {
-    for (words, part) in PRINTED.iter() {
-        assert!(rt; prints(rt.alloc(), words, part), "for {part}");
-    }
+fn printed_texts(rt: HostRuntime) -> Result<(), Fail> {
+    each_passes(rt.alloc(), PRINTED.as_slice(), prints)
 }
 
-// What is read where nothing is to be told; a refusal would be printed.
+// Whether a quiet `check` is read; a refusal would be printed.
 fn reads_quiet_check(rt: &HostRuntime, words: &'static [&'static str]) -> bool {
     match read_or_tell(rt, rt.alloc(), words) {
         Ok(

@@ -16,7 +16,7 @@ none = record { a = false; b = false; c = false }
 abbrev pub both : Live → Live → Live
 both x y = record { a = x.a || y.a; b = x.b || y.b; c = x.c || y.c }
 
--- how many variables are not in it
+-- how many variables are not in the set
 abbrev pub room : Live → ℕ
 room x = cond x.a 0 1 + cond x.b 0 1 + cond x.c 0 1
 

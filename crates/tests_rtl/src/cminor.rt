@@ -1,5 +1,6 @@
 // Tests of the translation from C to Cminor: each function of the worked programs can be translated, the text of some is what the
-// rules of `docs/INTERMEDIATE.md` give by hand, and definitions of 64 KiB at the limits end in time.
+// rules of `docs/INTERMEDIATE.md` give when worked out by hand, and definitions of 64 KiB at the limits are translated in
+// time.
 
 #[cfg(test)]
 mod helpers;

@@ -9,7 +9,7 @@ use std::sync::Arc;
 use std::test::Fail;
 use tests_texts::stages::{Stage, shows_all};
 
-// Whether the function with this number can be translated, and the pair names it.
+// Whether the function with this number can be translated, and whether the pair names it.
 fn goes_through(alloc: Global, unit: &Arc<TypedUnit>, function: usize) -> Result<bool, Fail> {
     if function >= unit.functions() {
         return Ok(false);
@@ -59,7 +59,7 @@ impl Stage for GuardedStage {
 
 /// A text, the number of a function, and the text of its Cminor with guards.
 static SHOWN: [(&str, usize, &str); 5] = [
-    // nothing that may go wrong: the code stays as it was, with no loop at its end
+    // nothing can go wrong: the code stays as it was, with no loop at its end
     (
         "int a[4];int main(void){int i=read_word();return a[i&3]/2+a[3];}",
         0,

@@ -1,5 +1,5 @@
-// How many nodes a function has, and which function has too many. Whatever their form, definitions of some 64 KiB end within a
-// test's time.
+// How many nodes a function has, and which function has too many. Whatever their form, definitions of some 64 KiB are translated
+// within a test's time.
 
 use super::helpers::{Answer, first_answer};
 use std::alloc::Global;

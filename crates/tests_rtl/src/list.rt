@@ -102,7 +102,7 @@ fn pushes(list: &mut InstrList<u32>, item: u32) -> bool {
     }
 }
 
-// The same before the first item: checks that the item is then the first.
+// Adds an item before the first one, with the same checks: the item is then the first.
 fn inserts(list: &mut InstrList<u32>, item: u32) -> bool {
     let (given, before) = (list.given(), list.len());
     let Some(first) = list.first() else {
@@ -120,7 +120,7 @@ fn inserts(list: &mut InstrList<u32>, item: u32) -> bool {
     }
 }
 
-// Any of these growths may be refused (`bench/memory.sh list` refuses each in turn).
+// Any of these requests for memory may be refused (`tests/outside/memory.sh list` refuses each in turn).
 #[test]
 fn a_refused_growth_hands_the_item_back(rt: HostRuntime) {
     let mut list = InstrList::new(rt.alloc());

@@ -1,5 +1,5 @@
 // Tests of live sets and of functions without dead nodes, from outside: sets worked out by hand, which nodes are dropped and
-// which remain, and functions of some 4,096 nodes in time.
+// which remain, and that functions of some 4,096 nodes are analyzed in time.
 //
 // `helpers` makes the RTL of one function of a text, `worked` has the sets and the nodes that are dropped, and `large` the long
 // functions.

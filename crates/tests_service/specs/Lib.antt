@@ -1,2 +1,2 @@
--- What only private contracts and proofs speak of.
+-- What only private contracts and proofs use.
 pub mod internal

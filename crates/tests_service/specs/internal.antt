@@ -1,3 +1,3 @@
--- What the contracts of the tests speak of.
+-- What the contracts of the tests use.
 -- what the parameter of a service names
 pub mod Named

@@ -1,4 +1,4 @@
-// Disks, names and texts.
+// Disks, names and texts for the tests.
 
 ghost use Rattle.std.specs.Prelude.{◌≡◌, IsTrue, IfOk};
 ghost use Rattle.cc_library.specs.Apply.{Units};
@@ -26,7 +26,7 @@ pub const AREA: u32 = 4096;
 /// How many bytes a disk has.
 pub const SIZE: usize = 16 + 2 * 4096;
 
-/// What stands at a place, or no bytes.
+/// The bytes at a place, or no bytes.
 pub fn bytes_at(table: &[&'static [u8]; 3], place: usize) -> &'static [u8] {
     if place < 3 { table[place] } else { &[] }
 }
@@ -39,7 +39,7 @@ pub fn name_at(place: usize) -> Result<Name, Fail> {
     }
 }
 
-/// A text: its head, a part this many times, and its end.
+/// A text: its head, then `part` repeated `times` times, and its end.
 pub fn repeated(
     alloc: Global,
     head: &[u8],
@@ -73,7 +73,7 @@ pub fn opened<D: Disk + Drop>(alloc: Global, disk: D) -> Result<Library<D>, Fail
     }
 }
 
-/// The disk, and the map to which its bytes recover.
+/// The disk, and the map that is recovered from its bytes.
 pub fn found<D: Disk + Drop>(alloc: Global, disk: D) -> Result<(D, UnitMap), Fail>
     ensures { IfOk result (λ r. IsTrue D.honest → (units : Units) → Recovers (D.seen r.0) units → units ≡ r.1) }
 {

@@ -1,4 +1,5 @@
-// A model of the map: three names, each with the place of its unit's text where it has one. And what it says of a call, and of a history.
+// A model of the map: three names, each with the place of its unit's text if it has one. It says how a call is answered, and
+// what a history leads to.
 
 use crate::helpers::{NAMES, TEXTS, bytes_at, name_at};
 use cc_disk::Disk;
@@ -7,7 +8,7 @@ use cc_library::{Library, Name};
 use std::alloc::Global;
 use std::test::Fail;
 
-/// What a call changes: a name's unit, by the places of the name and of the text.
+/// What a call changes: a name's unit, given by the places of the name and of the text.
 #[derive(Clone, Copy)]
 pub enum Change {
     Add(usize, usize),
@@ -42,7 +43,7 @@ fn set(model: &Model, name: usize, text: Option<usize>) -> Model {
     new
 }
 
-/// The number that a call is answered on a device that does not fail: 31, 32, or 0 for Ok.
+/// The number that answers a call on a device that does not fail: 31, 32, or 0 for Ok.
 pub fn number_of(model: &Model, call: Call) -> u32 {
     match call {
         Call::Make(Change::Add(name, _)) => if text_of(model, name).is_some() {
@@ -96,7 +97,7 @@ fn is_source(source: &[u8], model: &Model, name: usize) -> bool {
     }
 }
 
-/// Whether the reply to a call that was answered with that number is the model's.
+/// Whether this is the model's reply to a call that was answered with `number`.
 pub fn is_reply(reply: &Reply, model: &Model, call: Call, number: u32) -> bool {
     match reply {
         Reply::Done => match call {
@@ -119,7 +120,7 @@ pub fn is_reply(reply: &Reply, model: &Model, call: Call, number: u32) -> bool {
     }
 }
 
-/// Whether a library has just the model's units.
+/// Whether a library has exactly the model's units.
 pub fn shows<D: Disk>(alloc: Global, library: &Library<D>, model: &Model) -> Result<bool, Fail> {
     if !are_names(&library.list(alloc)?, model) {
         return Ok(false);
@@ -144,7 +145,7 @@ fn place_of(table: &[&'static [u8]; 3], bytes: &[u8]) -> usize {
     3
 }
 
-// The call that asks this, by the places of its name and its text.
+// The call that asks this, given by the places of its name and its text.
 fn call_of(asked: &Asked) -> Call {
     match asked {
         Asked::Change(Command::Add(name, unit)) => Call::Make(Change::Add(
@@ -163,7 +164,7 @@ fn call_of(asked: &Asked) -> Call {
     }
 }
 
-// Whether a receipt's entry stands at its number, as the client's call with that number.
+// Whether the entry at a receipt's number is this call of this client.
 fn is_standing(history: &[SharedEntry], receipt: &Receipt, client: u64, call: u64) -> bool {
     let Some(before) = receipt.number.checked_sub(1) else {
         return false;
@@ -177,8 +178,8 @@ fn is_standing(history: &[SharedEntry], receipt: &Receipt, client: u64, call: u6
     }
 }
 
-// Whether the receipts of each client, which are numbered from 0, stand in the history, those of its calls from 1 on, and are as many as
-// it has entries.
+// Whether the receipts of each client are in the history, as those of its calls from 1 on, and no entry is without one. The
+// clients are numbered from 0.
 fn are_standing(history: &[SharedEntry], receipts: &[Vec<Receipt>]) -> bool {
     let mut count = 0usize;
     for (client, own) in receipts.iter().enumerate() {
@@ -197,8 +198,8 @@ fn are_standing(history: &[SharedEntry], receipts: &[Vec<Receipt>]) -> bool {
     count == history.len()
 }
 
-/// The map after a history from an empty one; none where an entry's answer is not the model's, or a client's receipts are not those of its
-/// entries.
+/// The map after a history that began with an empty map; none if an entry's answer is not the model's, or a client's receipts
+/// are not those of its entries.
 pub fn replayed(history: &[SharedEntry], receipts: &[Vec<Receipt>]) -> Option<Model> {
     let mut model = EMPTY;
     for shared in history {

@@ -1,8 +1,9 @@
 // A service with its workers.
 //
-// `starting` opens one, `trial` does what most tests ask of it, `reading` reads answers, `answers` makes each call, `ahead` hands texts in
-// before their turn, `calls` has one client and two in threads, `crowds` sixteen, `gates` holds a worker, `devices` fails, `files` lets a
-// service go and opens its file again, `full` fills a library, `memory` has a growth refused.
+// `starting` opens one, `trial` does what most tests ask of it, `reading` reads answers, `answers` makes each call, `ahead`
+// hands texts in before their turn, `calls` has one client and then two in threads, `crowds` has sixteen, `gates` holds a
+// worker, `devices` has devices that fail, `files` drops a service and opens its file again, `full` fills a library, and
+// `memory` has allocations refused.
 
 mod ahead;
 mod answers;

@@ -23,7 +23,7 @@ static SCRIPTS: [(&str, &str); 5] = [
         "add a 146\nunsigned char c[2]={300,-1};int main(void){write_word(c[0]);write_word(c[1]);c[0]+=220;write_word(c[0]);write_word(c[1]<<24);write_word(-1<c[1]);}\naudit\n",
         "ok 1\naudit a confirmed\nok\n",
     ),
-    // What is withdrawn is not audited, what takes its place is.
+    // A withdrawn unit is not audited; a unit that takes another's place is.
     (
         "add a 16\nint main(void){}\nadd b 16\nint main(void){}\nwithdraw a\nreplace b 25\nint main(void){return 7;}\naudit\n",
         "ok 1\nok 2\nok 3\nok 4\naudit b confirmed\nok\n",
@@ -70,7 +70,7 @@ fn audits_of_units_on_the_disk(rt: HostRuntime) -> Result<(), Fail> {
     Ok(())
 }
 
-// What a person reads of an audit of the unit of a record with this body.
+// What an audit explains to a person about the unit of a record with this body.
 fn explained<H>(rt: &H, alloc: Global, body: &[u8]) -> Result<Vec<u8>, Fail>
 where
     H: Threads + Wait + Copy + Send + 'static,
@@ -109,7 +109,7 @@ fn the_part_that_fails_is_explained(rt: HostRuntime) -> Result<(), Fail> {
     let Some(certificate) = &unit.certificate else {
         return Err(Fail::from("no certificate"));
     };
-    // The right certificate, beside another image.
+    // The right certificate, but with another image.
     let Ok(length) = u32::try_from(certificate.bytes().len()) else {
         return Err(Fail::from("a long certificate"));
     };

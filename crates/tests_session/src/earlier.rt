@@ -1,5 +1,6 @@
-// A library that the compiler of before selection has filled (27 November 2026): it opens, lists, runs and compacts as before. An audit does not
-// confirm the unit whose image is another one today, and confirms it again once its own source has replaced it.
+// A library that was filled with the compiler from before selection (27 November 2026) opens, lists, runs and compacts as before.
+// An audit does not confirm the unit whose image is a different one today, and confirms it again once the unit's own source has
+// replaced it.
 
 use crate::helpers::answers_on;
 use cc_disk::{Disk, MemoryDisk};
@@ -7,10 +8,11 @@ use cc_session::SessionEnd;
 use std::alloc::Global;
 use std::test::Fail;
 
-// How many bytes the file has: two areas of 4,096 bytes behind the header.
+// How many bytes the file has: two areas of 4,096 bytes after the header.
 const SIZE: usize = 8208;
 
-// Its bytes up to the last that is not 0, in hexadecimal. It has `sum` and `seven`; `seven` was replaced, and `gone` added and withdrawn.
+// The bytes of the file up to the last that is not 0, in hexadecimal. The library has `sum` and `seven`; `seven` was replaced,
+// and `gone` added and withdrawn.
 static BYTES: [&str; 20] = [
     "0043434c494230310010000000000000a59002000002010373756d6c000000696e7420615b335d3d7b352c362c377d3b696e74206d61696e28766f6964297b69",
     "6e7420693b696e7420733d303b666f7228693d303b693c333b692b2b29696628615b695d213d3629732b3d615b695d3b77726974655f776f72642873293b7265",
@@ -34,7 +36,7 @@ static BYTES: [&str; 20] = [
     "000000000400000000000a0000a507000000020304676f6e65",
 ];
 
-// What is asked of it, and the answers: 5 + 7 is 12, `sum` ends with its second word, 6.
+// A script on this library, and the answers: 5 + 7 is 12, and `sum` ends with its second word, 6.
 static SCRIPT: &str =
     "list\nrun sum 100000\nrun seven 100000\naudit\ncompact\nlist\nrun sum 100000\nreplace sum 108\nint a[3]={5,6,7};int main(void){int i;int s=0;for(i=0;i<3;i++)if(a[i]!=6)s+=a[i];write_word(s);return a[1];}\naudit\nrun sum 100000\n";
 

@@ -10,7 +10,7 @@ use std::test::Fail;
 use std::thread::Threads;
 use tests_texts::streams::{FailsBehind, Refuses};
 
-// Within a line, and within a source: the script does not end there.
+// The reader fails within a line, and within a source: the script does not end there.
 #[test]
 fn a_read_that_fails(rt: HostRuntime) -> Result<(), Fail> {
     for script in ["l", "add a 16\nint ma"] {
@@ -47,7 +47,7 @@ fn a_write_that_fails(rt: HostRuntime) -> Result<(), Fail> {
     Ok(())
 }
 
-/// Takes a number of answers, and refuses every write from then on.
+/// Takes this number of answers, and refuses every write from then on.
 #[derive(Drop)]
 pub struct Takes {
     pub left: u8,
@@ -68,7 +68,7 @@ impl Write for Takes {
     }
 }
 
-// An audit that is cut off behind its first unit: nothing is told of the second one, and the script is over.
+// An audit that is cut off after its first unit: nothing is written about the second one, and the script is over.
 #[test]
 fn an_audit_that_is_cut_off(rt: HostRuntime) -> Result<(), Fail> {
     let mut reader =
@@ -111,7 +111,7 @@ fn a_device_that_fails_once(rt: HostRuntime) -> Result<(), Fail> {
     Ok(())
 }
 
-// Whether a session that ends so hands back a disk with the unit that was acknowledged before.
+// Whether a session ends as `wanted` and hands back a disk with the unit that was acknowledged before.
 fn leaves_a_unit<H, R: Read>(
     rt: &H,
     alloc: Global,
@@ -131,7 +131,7 @@ where
     Ok(end == wanted && answers_on(rt, alloc, b"list\n", disk, lines, SessionEnd::Finished)?)
 }
 
-// The script ends within a source, and it can't be read on there.
+// One script ends within a source; another can't be read on at that point.
 #[test]
 fn what_a_fault_leaves(rt: HostRuntime) -> Result<(), Fail> {
     let mut short = b"add a 16\nint main(void){}\nadd b 99\nint".as_slice();

@@ -7,8 +7,8 @@ use cc_session::SessionEnd;
 use std::fs;
 use std::test::Fail;
 
-// Scripts, one after the other, each on the file opened again, and the lines of their answers: what was withdrawn is gone, what was added
-// stays.
+// Scripts, one after the other, each on the file opened again, and the lines of their answers: what was withdrawn is gone, what
+// was added is kept.
 static SCRIPTS: [(&str, &str); 4] = [
     (
         "add a 16\nint main(void){}\nlist\nrun a 1000\nadd a 16\nint main(void){}\nwithdraw a\nwithdraw a\nhello\n",

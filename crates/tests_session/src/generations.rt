@@ -1,4 +1,5 @@
-// One service behind the other: each ends by its bounds, and the next goes on with the disk and the spools that it left.
+// One service after the other: each ends when its bounds are reached, and the next goes on with the disk and the spools that it
+// left.
 
 use crate::helpers::{formatted, written_on};
 use crate::spools::{CLIENTS, Page, Paper, ROOM, is_right, page_of, script_of, spools_of_all};
@@ -15,7 +16,7 @@ use std::thread::Threads;
 // A bound that nothing reaches.
 const NEVER: u64 = u64::MAX;
 
-// A generation ends behind this many scripts alone.
+// A generation ends only after this many scripts.
 fn by_scripts(scripts: u64) -> Bounds {
     Bounds {
         ends: NEVER,
@@ -24,7 +25,7 @@ fn by_scripts(scripts: u64) -> Bounds {
     }
 }
 
-// It ends by these two bounds of bytes alone.
+// A generation ends only at these two bounds on its bytes.
 fn by_bytes(ends: u64, most: u64) -> Bounds {
     Bounds {
         ends,
@@ -33,7 +34,7 @@ fn by_bytes(ends: u64, most: u64) -> Bounds {
     }
 }
 
-/// Keeps what it is told, and writes a line each time.
+/// A steward that keeps what is reported to it, and writes a line each time.
 #[derive(Drop)]
 struct Keeper {
     opened: usize,
@@ -52,7 +53,7 @@ impl Steward for Keeper {
     }
 }
 
-/// What serving left: disk, spools and end; what was told of its generations; what was written.
+/// What serving left (the disk, the spools and the end), what was reported of its generations, and what was written.
 #[derive(Drop)]
 struct Told<D: Drop> {
     left: Served<D, MemorySpool<Paper, Page>>,
@@ -113,7 +114,7 @@ where
     Ok(served_on(rt, alloc, spools, disk, bounds))
 }
 
-// The same on a disk that fails for good behind so many calls.
+// The same on a disk that fails for good after this many calls.
 fn served_until<H>(
     rt: &H,
     alloc: Global,
@@ -142,7 +143,7 @@ fn one_spool(
     Ok(spools)
 }
 
-// Whether the scripts of the first spool were answered by these lines.
+// Whether the scripts of the first spool were answered with these lines.
 fn are_lines(spools: &[MemorySpool<Paper, Page>], lines: &[&[u8]]) -> bool {
     let Some(spool) = spools.first() else {
         return false;
@@ -165,7 +166,7 @@ fn ended_well(scripts: u64, entries: u64, bytes: u64, why: GenerationEnd) -> Gen
     }
 }
 
-// Three calls are counted as 768 bytes. At a bound of so many the next script is done by the next generation, where numbers begin at 1.
+// Three calls are counted as 768 bytes. At that bound the next script is done by the next generation, where numbers begin at 1.
 #[test]
 fn generations_that_end_by_bytes(rt: HostRuntime) -> Result<(), Fail> {
     let alloc = rt.alloc();
@@ -189,7 +190,7 @@ fn generations_that_end_by_bytes(rt: HostRuntime) -> Result<(), Fail> {
         let told = b"opened\nended\nopened\nended\n".as_slice();
         assert!(rt; done.told.as_slice() == told);
     }
-    // A byte more, and there is one generation.
+    // If the bound is one byte higher, there is one generation.
     let spools = one_spool(alloc, scripts.as_slice())?;
     let done = served_in_memory(&rt, alloc, spools, 4096, by_bytes(769, 769))?;
     assert!(rt;
@@ -204,7 +205,7 @@ fn generations_that_end_by_bytes(rt: HostRuntime) -> Result<(), Fail> {
     Ok(())
 }
 
-// A list counts its names; a change its unit, whether it is made or refused.
+// A list counts its names; a change counts its unit, whether it is made or refused.
 #[test]
 fn what_a_generation_counts(rt: HostRuntime) -> Result<(), Fail> {
     let alloc = rt.alloc();
@@ -219,7 +220,7 @@ fn what_a_generation_counts(rt: HostRuntime) -> Result<(), Fail> {
     let done = served_in_memory(&rt, alloc, spools, 4096, by_scripts(1))?;
     let told = done.generations.as_slice();
     assert!(rt; done.left.end == SessionEnd::Finished && told.len() == 5);
-    // 256, the 16 bytes of its source, and what was made of it.
+    // The bytes are 256, the 16 bytes of the source, and what was made of it.
     let bytes = told[0].bytes;
     assert!(rt; 256 + 16 < bytes && bytes < 4096);
     assert!(rt; told[0] == ended_well(1, 1, bytes, GenerationEnd::Scripts));
@@ -230,8 +231,8 @@ fn what_a_generation_counts(rt: HostRuntime) -> Result<(), Fail> {
     Ok(())
 }
 
-// While a script is being done a generation goes on at the lower bound of bytes, and ends at the upper one and behind its scripts. Once it was seen
-// to end it does not go on.
+// While a script is being done, a generation goes on at the lower bound of bytes, and ends at the upper one and after its
+// scripts. Once it was found to be at its end, it does not go on.
 #[test]
 fn a_meter_that_clients_share(rt: HostRuntime) -> Result<(), Fail> {
     let bounds = Bounds {
@@ -267,8 +268,8 @@ fn a_meter_that_clients_share(rt: HostRuntime) -> Result<(), Fail> {
     Ok(())
 }
 
-// A script's own calls may hold 256 MiB. What one holds is known from the first generation; the last line of a script may pass the bound, and behind a
-// line that did no further one is begun.
+// The calls of one script may hold 256 MiB. How much one of them holds is known from the first generation. The last line of a
+// script may exceed the bound, and after a line that did so no further one is begun.
 #[test]
 fn a_history_that_is_too_long(rt: HostRuntime) -> Result<(), Fail> {
     let alloc = rt.alloc();
@@ -278,7 +279,7 @@ fn a_history_that_is_too_long(rt: HostRuntime) -> Result<(), Fail> {
     let Some(first) = done.generations.as_slice().first() else {
         return Err(Fail::from("no generation"));
     };
-    // The table alone is 262,144 bytes.
+    // The table by itself is 262,144 bytes.
     assert!(rt; 262_144 < first.bytes && first.bytes < 264_000);
     let count = (268_435_456 / first.bytes).saturating_add(1) as usize;
     let refusals = b"fault 32 Absent\n".repeat(alloc, count)?;
@@ -300,7 +301,7 @@ fn a_history_that_is_too_long(rt: HostRuntime) -> Result<(), Fail> {
     Ok(())
 }
 
-// Behind two scripts no further one is taken; where the bound is none, one is done in each generation all the same.
+// After two scripts no further one is taken; if the bound is 0, one script is done in each generation all the same.
 #[test]
 fn generations_that_end_by_scripts(rt: HostRuntime) -> Result<(), Fail> {
     let alloc = rt.alloc();
@@ -333,7 +334,8 @@ fn generations_that_end_by_scripts(rt: HostRuntime) -> Result<(), Fail> {
     Ok(())
 }
 
-// Forty scripts of three clients, ten in a generation; each client that waited then may have taken one more. All are answered as ever.
+// Forty scripts of three clients, ten in a generation; each client that was waiting at its end may have taken one more. All are
+// answered as always.
 #[test]
 fn three_clients_over_four_generations(rt: HostRuntime) -> Result<(), Fail> {
     let alloc = rt.alloc();
@@ -361,7 +363,7 @@ fn three_clients_over_four_generations(rt: HostRuntime) -> Result<(), Fail> {
     Ok(())
 }
 
-// Where the disk that one generation left can't be opened, serving ends by that fault; what was acknowledged is on it.
+// If the disk that one generation left can't be opened, serving ends with that fault; what was acknowledged is on the disk.
 #[test]
 fn a_disk_that_fails_in_a_later_generation(rt: HostRuntime) -> Result<(), Fail> {
     let alloc = rt.alloc();
@@ -382,7 +384,7 @@ fn a_disk_that_fails_in_a_later_generation(rt: HostRuntime) -> Result<(), Fail> 
             return Err(Fail::from("no spool"));
         };
         let answered = spool.answered();
-        // A script whose change failed was the last.
+        // The script whose change failed was the last one.
         let mut units = 0usize;
         let mut failed = 0u32;
         for answer in answered {
@@ -402,7 +404,7 @@ fn a_disk_that_fails_in_a_later_generation(rt: HostRuntime) -> Result<(), Fail> 
             b"unit a\nok 1\n".as_slice(),
             b"unit a\nunit b\nok 1\n".as_slice(),
         ];
-        // A change that failed may stand on the disk.
+        // A change that failed may be on the disk.
         let is_here = names.get(units) == Some(&listed.as_slice());
         let is_more = failed == 1 && names.get(units.saturating_add(1)) == Some(&listed.as_slice());
         assert!(rt; is_here || is_more);

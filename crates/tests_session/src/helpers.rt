@@ -34,7 +34,7 @@ pub fn with_record(alloc: Global, body: &[u8]) -> Result<MemoryDisk, Fail> {
     with_record_in(alloc, 64, body)
 }
 
-/// Whether a session over these streams on a disk with this area ends so, and gives the disk back.
+/// Whether a session over these streams, on a disk with areas of this size, ends with this end, and gives the disk back.
 pub fn ends<H, R: Read, W: Write>(
     rt: &H,
     alloc: Global,
@@ -51,7 +51,7 @@ where
     Ok(end == wanted && disk.is_some())
 }
 
-/// What a session with this many workers writes to a script on this disk, how it ends, and whether it gives the disk back.
+/// What a session with this many workers writes for a script on this disk, how it ends, and whether it gives the disk back.
 pub fn played<H, D: Disk + Drop>(
     rt: &H,
     alloc: Global,
@@ -72,7 +72,7 @@ where
     (written, end, is_back)
 }
 
-/// Whether a script on this disk is answered by these lines, and ends so.
+/// Whether a script on this disk is answered with these lines, and ends this way.
 pub fn answers_on<H>(
     rt: &H,
     alloc: Global,
@@ -88,7 +88,7 @@ where
     Ok(end == wanted && is_back && written.as_slice() == lines.as_bytes())
 }
 
-/// The same on a formatted disk with this area.
+/// The same on a formatted disk with areas of this size.
 pub fn answers<H>(
     rt: &H,
     alloc: Global,
@@ -104,7 +104,8 @@ where
     answers_on(rt, alloc, script, disk, lines, wanted)
 }
 
-/// The first of these scripts, each on a formatted disk with this area, that is not answered by its lines, or does not end well.
+/// The first of these scripts, each on a formatted disk with areas of this size, that is not answered with its lines or does not
+/// end well.
 pub fn first_wrong<H>(
     rt: &H,
     alloc: Global,
@@ -123,7 +124,7 @@ where
     Ok(None)
 }
 
-/// What a script on this disk is answered, where the session ends well and gives the disk back.
+/// The answer to a script on this disk, if the session ends well and gives the disk back.
 pub fn written_on<H>(
     rt: &H,
     alloc: Global,

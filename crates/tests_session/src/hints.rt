@@ -1,4 +1,4 @@
-// Sources that are handed in before their turn: what is answered is what it would be without.
+// Sources that are handed in before their turn: the answers are the same as without that.
 
 use crate::failing::Takes;
 use crate::helpers::{formatted, played, written_on};
@@ -7,14 +7,14 @@ use std::alloc::{AllocError, Global};
 use std::io::{self, Read};
 use std::test::Fail;
 
-// A command, the line that answers it if it is no `ok`, and whether its call has a receipt.
+// A command, the line that answers it if that is no `ok`, and whether its call has a receipt.
 struct Piece {
     text: &'static str,
     fault: Option<&'static str>,
     is_counted: bool,
 }
 
-// Commands that are answered so in any order. The library has no unit `q`.
+// Commands that are answered like this in any order. The library has no unit `q`.
 static PIECES: [Piece; 12] = [
     Piece {
         text: "add a 16\nint main(void){}\n",
@@ -78,7 +78,7 @@ static PIECES: [Piece; 12] = [
     },
 ];
 
-// The commands from one of them on, and round to it, twice over: at the second time those that were added are there.
+// The commands in a circle, beginning with one of them, twice over: the second time those that were added are there.
 fn script_from(alloc: Global, first: usize) -> Result<(Vec<u8>, String), Fail> {
     let mut script = Vec::new(alloc);
     let mut lines = String::new(alloc);
@@ -115,7 +115,7 @@ fn each_fault_at_each_place(rt: HostRuntime) -> Result<(), Fail> {
     Ok(())
 }
 
-/// Gives a byte at a time, as somebody who types.
+/// Gives one byte at a time, like someone who types.
 #[derive(Drop)]
 struct Typed<'a> {
     bytes: &'a [u8],
@@ -148,7 +148,7 @@ fn a_script_that_is_typed(rt: HostRuntime) -> Result<(), Fail> {
     Ok(())
 }
 
-// The third answer can't be written: its unit is there, and none of those that were handed in after it.
+// The third answer can't be written: its unit is there, but none of those that were handed in after it.
 #[test]
 fn a_write_that_fails_within_a_window(rt: HostRuntime) -> Result<(), Fail> {
     let alloc = rt.alloc();

@@ -1,4 +1,5 @@
-// The name of a fault in its line comes from one table by its number. Here it is compared with what the fault itself is called, for every fault.
+// Fault lines take the fault's name from one table, by its number. Here that name is compared, for every fault, with the name
+// that the fault itself has.
 
 use cc_answers::name_of;
 use cc_library::{LibraryFault, NameFault};
@@ -18,7 +19,7 @@ fn is_named<F: Display + Drop>(alloc: Global, fault: F, number: u32) -> Result<b
     Ok(!name.is_empty() && name.as_str() == name_of(number))
 }
 
-// So of all of these.
+// The same for all of these.
 fn are_named<F: Display + Drop>(alloc: Global, faults: Vec<(F, u32)>) -> Result<bool, AllocError> {
     for (fault, number) in faults {
         if !is_named(alloc, fault, number)? {

@@ -29,12 +29,12 @@ static SCRIPTS: [(&str, &str); 13] = [
         "add a 1234567\nadd a +1\n",
         "fault 50 BadLine\nfault 50 BadLine\n",
     ),
-    // What stands behind the bytes of a source is skipped up to the newline, and nothing is done.
+    // What comes after the bytes of a source is skipped up to the newline, and nothing is done.
     (
         "add a 16\nint main(void){}list\nlist\n",
         "fault 50 BadLine\nok 1\n",
     ),
-    // The source of a refused name is read all the same.
+    // The source is read all the same if the name is refused.
     ("add A 4\nlist\nlist\n", "fault 33 BadName\nok 1\n"),
     (
         "add a 26\nint main(void){return 1 2}\n",
@@ -46,7 +46,7 @@ static SCRIPTS: [(&str, &str); 13] = [
     ),
     ("add a 0\n\n", "fault 5 Unexpected at 1:1\n"),
     ("replace a 16\nint main(void){}\n", "fault 32 Absent\n"),
-    // Records of two units do not fit 160 bytes.
+    // Records of two units do not fit in 160 bytes.
     (
         "add a 16\nint main(void){}\nadd b 16\nint main(void){}\nlist\n",
         "ok 1\nfault 34 Full\nunit a\nok 2\n",
@@ -77,7 +77,7 @@ fn a_script_that_ends_within_a_source(rt: HostRuntime) -> Result<(), Fail> {
     Ok(())
 }
 
-// So many bytes `a`.
+// A list of `count` bytes, each of them `a`.
 fn long(alloc: Global, count: usize) -> Result<Vec<u8>, AllocError> {
     let mut bytes = Vec::with_capacity(alloc, count)?;
     for _ in 0..count {
@@ -104,7 +104,7 @@ fn lines_at_their_limit(rt: HostRuntime) -> Result<(), Fail> {
     Ok(())
 }
 
-/// Gives a number of bytes `a`.
+/// A reader that gives `left` bytes, each of them `a`.
 #[derive(Drop)]
 struct Letters {
     left: usize,

@@ -1,4 +1,4 @@
-// Worked scripts, with what they are answered.
+// Worked scripts, with their answers.
 
 use crate::helpers::first_wrong;
 use std::test::Fail;

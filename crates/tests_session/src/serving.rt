@@ -1,4 +1,4 @@
-// Many clients at once: the scripts of spools in memory are done as a session does them, whatever the other clients do.
+// Many clients at once: the scripts of spools in memory are answered as in a session, whatever the other clients do.
 
 use crate::helpers::{formatted, written_on};
 use crate::spools::{
@@ -14,7 +14,7 @@ use std::sync::Wait;
 use std::test::Fail;
 use std::thread::Threads;
 
-/// Serves the scripts of these spools once, by two workers.
+/// Serves the scripts of these spools once, with two workers.
 pub fn served<H>(
     rt: &H,
     alloc: Global,
@@ -39,7 +39,7 @@ where
     )
 }
 
-// What a session answers to the scripts of a client, one behind the other.
+// What a session answers to the scripts of a client, one after the other.
 fn answered_alone<H>(rt: &H, alloc: Global, letter: u8, count: usize) -> Result<Vec<u8>, Fail>
 where
     H: Threads + Wait + Copy + Send + 'static,
@@ -65,13 +65,13 @@ fn three_clients_with_forty_scripts(rt: HostRuntime) -> Result<(), Fail> {
         let alone = answered_alone(&rt, alloc, *letter, *count)?;
         assert!(rt; without_numbers(alloc, alone.as_slice())?.as_slice() == all.as_slice());
     }
-    // What is left of the forty: the last script of the first client.
+    // What is left after the forty scripts: what the last script of the first client left.
     let listed = written_on(&rt, alloc, b"list\n", left.disk)?;
     assert!(rt; listed.as_slice() == b"unit a\nok 1\n".as_slice());
     Ok(())
 }
 
-// So many empty lines, then this.
+// `count` empty lines, then `end`.
 fn blank(alloc: Global, count: usize, end: &[u8]) -> Result<Vec<u8>, AllocError> {
     let mut bytes = Vec::with_capacity(alloc, count)?;
     for _ in 0..count {
@@ -81,7 +81,7 @@ fn blank(alloc: Global, count: usize, end: &[u8]) -> Result<Vec<u8>, AllocError>
     Ok(bytes)
 }
 
-// What is answered to so many empty lines, then this.
+// The answers to `count` empty lines, then `end`.
 fn refused(alloc: Global, count: usize, end: &[u8]) -> Result<Vec<u8>, AllocError> {
     let mut lines = Vec::new(alloc);
     for _ in 0..count {
@@ -94,7 +94,7 @@ fn refused(alloc: Global, count: usize, end: &[u8]) -> Result<Vec<u8>, AllocErro
 /// A script, whether it is torn, and the room for its answer; its answer, and the fault that ends it.
 type Case<'a> = (&'a [u8], bool, usize, &'a [u8], Option<u32>);
 
-// Whether the scripts of one client are answered so, in turn.
+// Whether the scripts of one client are answered like this, in turn.
 fn are_answered<H>(rt: &H, alloc: Global, cases: &[Case<'_>]) -> Result<bool, Fail>
 where
     H: Threads + Wait + Copy + Send + Sync + 'static,
@@ -118,7 +118,8 @@ where
     Ok(right)
 }
 
-// A script that 51, 52 or 53 ends ends alone: the next is answered as if it had not been. 52 comes behind 65,536 lines, sources not counted.
+// 51, 52 or 53 ends only its own script: the next script is answered as if there had been no fault. 52 comes after 65,536 lines,
+// not counting sources.
 #[test]
 fn a_fault_ends_its_script_alone(rt: HostRuntime) -> Result<(), Fail> {
     let alloc = rt.alloc();
@@ -160,7 +161,7 @@ fn a_fault_ends_its_script_alone(rt: HostRuntime) -> Result<(), Fail> {
     Ok(())
 }
 
-// An answer that has no room for a line, and one that has none for the line of the fault itself.
+// One answer has no room for a line; another has no room for the line of the fault itself.
 #[test]
 fn an_answer_without_room(rt: HostRuntime) -> Result<(), Fail> {
     let cases: [Case<'_>; 3] = [
@@ -178,7 +179,7 @@ fn an_answer_without_room(rt: HostRuntime) -> Result<(), Fail> {
     Ok(())
 }
 
-// Where no service is opened no script is taken, and disk and spools come back.
+// If no service is opened, no script is taken, and the disk and the spools come back.
 #[test]
 fn a_disk_that_is_no_library(rt: HostRuntime) -> Result<(), Fail> {
     let alloc = rt.alloc();
@@ -195,7 +196,7 @@ fn a_disk_that_is_no_library(rt: HostRuntime) -> Result<(), Fail> {
     assert!(rt; left.end == SessionEnd::Fault(38));
     assert!(rt; written.as_slice() == b"fault 38 NotALibrary\n".as_slice());
     assert!(rt; left.spools.len() == 1 && left.spools[0].answered().is_empty());
-    // They are done on a disk that has one.
+    // The scripts are done on a disk that has a library.
     let left = served(
         &rt,
         alloc,
@@ -211,7 +212,7 @@ fn a_disk_that_is_no_library(rt: HostRuntime) -> Result<(), Fail> {
     Ok(())
 }
 
-// A service has 1,024 clients. Where there are more spools no script is taken of any.
+// A service has 1,024 clients. If there are more spools, no script is taken from any.
 #[test]
 fn more_spools_than_clients(rt: HostRuntime) -> Result<(), Fail> {
     let alloc = rt.alloc();

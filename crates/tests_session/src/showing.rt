@@ -1,4 +1,5 @@
-// The lines that a served script has beside those of a session: a unit's image, and its source, which stands in a frame.
+// The lines that a served script can have in addition to those of a session: they ask for a unit's image, and for its source,
+// which is in a frame.
 
 use crate::helpers::{answers, formatted};
 use crate::serving::served;
@@ -10,11 +11,12 @@ use std::sync::Wait;
 use std::test::Fail;
 use std::thread::Threads;
 
-// A unit with a table that begins with other values than 0. Lines of its source look like those of an answer, and it ends without a newline.
+// A unit with a table that begins with values other than 0. Some lines of its source look like those of an answer, and the source
+// ends without a newline.
 const TABLE: &str =
     "int t[3]={7,-2,258};\n/*\nfault 1 x\nsource 4\n*/\nint main(void){write_word(t[1]);return t[2];}";
 
-// Its image: nine words of code, as `cclib asm` lists them, and the three of the table.
+// The unit's image: nine words of code, as `cclib asm` lists them, and the three of the table.
 const HEX: &str = "\
 :020000040001F9\n\
 :10000000EF00C0009308D005730000003703200004\n\
@@ -24,7 +26,8 @@ const HEX: &str = "\
 :0C00000007000000FEFFFFFF02010000EF\n\
 :00000001FF\n";
 
-/// Whether a script of a spool is answered by these lines, up to the fault that ends it, where one does. Its answer has this much room.
+/// Whether a script of a spool is answered with these lines, up to the fault that ends it, if one does. The answer has this much
+/// room.
 pub fn is_served<H>(
     rt: &H,
     alloc: Global,
@@ -70,7 +73,8 @@ fn an_image_and_a_source(rt: HostRuntime) -> Result<(), Fail> {
     Ok(())
 }
 
-// Each is a call of the service, as `run` is: so 32 has a number of its own, and 33 has none.
+// Each of these lines is a call of the service, as `run` is: so the call that is refused with 32 has a receipt's number, and the
+// one with 33 has none.
 #[test]
 fn refused_lines(rt: HostRuntime) -> Result<(), Fail> {
     let alloc = rt.alloc();
@@ -83,7 +87,7 @@ fn refused_lines(rt: HostRuntime) -> Result<(), Fail> {
     Ok(())
 }
 
-// A session's script has neither line.
+// Neither of these lines is allowed in a session's script.
 #[test]
 fn no_lines_of_a_session(rt: HostRuntime) -> Result<(), Fail> {
     let alloc = rt.alloc();
@@ -107,7 +111,7 @@ fn texts_without_room(rt: HostRuntime) -> Result<(), Fail> {
     Ok(())
 }
 
-// Whether a source is what its frame has, and whether it is there where a byte of that is cut off or stands behind it.
+// Whether a source is what its frame has, and whether it is there if a byte of that is cut off or comes after it.
 fn is_framed(alloc: Global, source: &[u8]) -> Result<bool, Fail> {
     if source.len() > 65_536 {
         return Ok(false);

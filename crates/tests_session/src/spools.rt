@@ -1,4 +1,4 @@
-// Spools in memory, with scripts of several clients and the answers that each gets whatever the others do.
+// Spools in memory, with scripts of several clients, and the answers that each gets whatever the others do.
 
 use cc_spool::MemorySpool;
 use std::alloc::{AllocError, Global};
@@ -6,7 +6,7 @@ use std::collections::VecDeque;
 use std::io::{self, ErrorKind, Read, Write};
 use std::test::Fail;
 
-/// The scripts of a client, in turn, with the lines of their answers: `@` stands for the client's letter, `#` for a receipt's number.
+/// The scripts of a client, in turn, with the lines of their answers: `@` means the client's letter, `#` a receipt's number.
 pub static SCRIPTS: [(&str, &str); 14] = [
     (
         "add @ 16\nint main(void){}\nrun @ 1000\n",
@@ -45,7 +45,7 @@ pub static SCRIPTS: [(&str, &str); 14] = [
 /// The clients, each with how many of the scripts it does: forty in all.
 pub const CLIENTS: [(u8, usize); 3] = [(b'a', 14), (b'b', 13), (b'c', 13)];
 
-/// A script. One that is torn can't be read behind its bytes.
+/// A script. If it is torn, it can't be read past its bytes.
 #[derive(Drop)]
 pub struct Paper {
     pub bytes: VecDeque<u8>,
@@ -82,7 +82,7 @@ impl Write for Page {
     }
 }
 
-/// The most bytes of an answer that has all the room that it needs.
+/// An answer that has all the room that it needs has at most this many bytes.
 pub const ROOM: usize = 4_000_000;
 
 /// An empty answer with this room.
@@ -116,7 +116,7 @@ pub fn without_numbers(alloc: Global, lines: &[u8]) -> Result<Vec<u8>, AllocErro
     Ok(kept)
 }
 
-/// A spool with the first so many scripts of a client.
+/// A spool with the first `count` scripts of a client.
 pub fn spool_of(
     alloc: Global,
     letter: u8,
@@ -152,7 +152,7 @@ pub fn script_of(alloc: Global, script: &[u8], is_torn: bool) -> Result<Paper, A
     })
 }
 
-/// All answers of a spool, one behind the other, with `#` for the number of each receipt.
+/// All answers of a spool, one after the other, with `#` for the number of each receipt.
 pub fn answers_of(alloc: Global, spool: &MemorySpool<Paper, Page>) -> Result<Vec<u8>, AllocError> {
     let mut all = Vec::new(alloc);
     for done in spool.answered() {
@@ -162,7 +162,7 @@ pub fn answers_of(alloc: Global, spool: &MemorySpool<Paper, Page>) -> Result<Vec
     Ok(all)
 }
 
-/// Whether so many of the scripts of a client were answered as they should be, and no other.
+/// Whether exactly `count` of the scripts of a client were answered, each as it should be.
 pub fn is_right(
     alloc: Global,
     letter: u8,

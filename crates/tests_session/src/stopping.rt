@@ -1,4 +1,4 @@
-// Scripts that have been at work for long while others wait: they end behind the line at work, or within a run.
+// Scripts that have been at work for long while others wait: they end after the line at work, or within a run.
 
 use crate::helpers::formatted;
 use crate::spools::{Page, Paper, ROOM, page_of, script_of};
@@ -10,7 +10,8 @@ use std::sync::Wait;
 use std::test::Fail;
 use std::thread::Threads;
 
-// One spool with these scripts, whose client is told so.
+// One spool with these scripts, and what it answers when it is asked whether its script has been at work for long, and whether
+// others wait.
 fn spool_of(
     alloc: Global,
     scripts: &[&str],
@@ -34,7 +35,7 @@ fn spool_of(
 /// A script, its answer, and the fault that ends it.
 type Case = (&'static str, &'static str, Option<u32>);
 
-// Whether these scripts of one client are answered so, in a generation that takes so many.
+// Whether these scripts of one client are answered like this, in a generation that takes `scripts` of them.
 fn are_answered<H>(
     rt: &H,
     alloc: Global,
@@ -77,7 +78,7 @@ where
     Ok(right)
 }
 
-// The last line is done, an empty script has none, and a line that can't be done is one too.
+// The last line of a script is done, an empty script has no line, and a line that can't be done counts as one.
 static LINES: [Case; 4] = [
     ("list\nlist\nlist\n", "ok 1\nfault 61 Stopped\n", Some(61)),
     ("list\n", "ok 2\n", None),
@@ -89,7 +90,7 @@ static LINES: [Case; 4] = [
     ),
 ];
 
-// The same where nobody waits, or none has been at work for long.
+// Scripts are done whole if nobody waits, or if none has been at work for long.
 static WHOLE: [Case; 2] = [
     ("list\nlist\nlist\n", "ok 1\nok 2\nok 3\n", None),
     (
@@ -110,8 +111,8 @@ fn scripts_that_end_behind_a_line(rt: HostRuntime) -> Result<(), Fail> {
     Ok(())
 }
 
-// What is added, and what is run of it: `a` never ends, `b` ends at once, and `c` takes more than 10,000,000 instructions for the sum of the numbers
-// below 2,000,000, which is 1,999,999,000,000, as a word -1,455,759,936.
+// What is added, and how it runs: `a` never ends, `b` ends at once, and `c` takes more than 10,000,000 instructions for the sum
+// of the numbers below 2,000,000, which is 1,999,999,000,000, or -1,455,759,936 as a word.
 static RUNS: [Case; 7] = [
     ("add a 26\nint main(void){while(1){}}\n", "ok 1\n", None),
     ("add b 16\nint main(void){}\n", "ok 2\n", None),
@@ -130,7 +131,8 @@ static RUNS: [Case; 7] = [
     ),
 ];
 
-// Where others wait: behind 10,000,000 instructions a run is cut that is not at its end. Its unit was fetched, and nothing is written of it.
+// If others wait, a run that is not at its end is cut off after 10,000,000 instructions. Its unit was fetched, and nothing is
+// written of it.
 static CUTS: [Case; 8] = [
     ("add a 26\nint main(void){while(1){}}\n", "ok 1\n", None),
     ("add b 16\nint main(void){}\n", "ok 2\n", None),

@@ -7,13 +7,13 @@ use crate::spools::ROOM;
 use cc_session::SessionEnd;
 use std::test::Fail;
 
-// Scripts, and the lines of their answers. An update that finds a unit has an entry for the look and one for the change.
+// Scripts, and the lines of their answers. An update that finds a unit has one entry for the look and one for the change.
 static UPDATES: [(&str, &str); 9] = [
     (
         "add a 16\nint main(void){}\nupdate a 16 25\nint main(void){}\nint main(void){return 7;}\nrun a 100\nlist\n",
         "ok 1\nok 3\nexited 7\nunit a\nok 5\n",
     ),
-    // The stored source has one byte more, or one fewer, than the one that is expected; or one of them is another.
+    // The stored source has one byte more, or one fewer, than the one that is expected; or one byte is different.
     (
         "add a 16\nint main(void){}\nupdate a 15 25\nint main(void){\nint main(void){return 7;}\nrun a 100\nlist\n",
         "ok 1\nfault 60 Changed\nexited 0\nunit a\nok 4\n",
@@ -22,12 +22,12 @@ static UPDATES: [(&str, &str); 9] = [
         "add a 16\nint main(void){}\nupdate a 17 25\nint main(void){}\n\nint main(void){return 7;}\nupdate a 16 25\nint main(void){ \nint main(void){return 7;}\nsource a\n",
         "ok 1\nfault 60 Changed\nfault 60 Changed\nsource 16\nint main(void){}\n",
     ),
-    // The first of two updates from one source is done, the second finds another one.
+    // Of two updates from the same source, the first is done, and the second finds another source.
     (
         "add a 16\nint main(void){}\nupdate a 16 25\nint main(void){}\nint main(void){return 7;}\nupdate a 16 25\nint main(void){}\nint main(void){return 8;}\nrun a 100\n",
         "ok 1\nok 3\nfault 60 Changed\nexited 7\n",
     ),
-    // 33, then the text, then 32, then 60.
+    // The order is 33, then the fault of the text, then 32, then 60.
     (
         "update B 0 2\n\n/*\nupdate b 0 2\n\n/*\nupdate b 0 16\n\nint main(void){}\nlist\n",
         "fault 33 BadName\nfault 2 UnclosedComment at 1:1\nfault 32 Absent\nok 2\n",
@@ -45,7 +45,7 @@ static UPDATES: [(&str, &str); 9] = [
         "update b 1 16\nx\nint main(void){}y\nlist\n",
         "fault 50 BadLine\nok 1\n",
     ),
-    // Lines that are none.
+    // Lines that are no commands.
     (
         "update a 1\nupdate a 1 1 1\nupdate a x 1\nupdate a 1 x\nupdate  1 1\nupdate a 1 1000000\nlist\n",
         "fault 50 BadLine\nfault 50 BadLine\nfault 50 BadLine\nfault 50 BadLine\nfault 50 BadLine\nfault 50 BadLine\nok 1\n",
@@ -62,14 +62,15 @@ static LOOKS: [(&str, &str); 3] = [
         "add a 48\nint main(void){return read_word()-read_word();}\n\ncall a 1000 3\n9 2\ncall a 1000 1\n7\ncall a 1000 0\n\ncall a 1 1\n7\ncall b 1000 1\n7\nlist\n",
         "ok 1\nexited 7\nexited 7\nexited 0\ngoing\nfault 32 Absent\nunit a\nok 7\n",
     ),
-    // Words above 4294967295, with a sign, without a digit; and another byte than a newline after them.
+    // Words above 4294967295, with a sign, or without a digit; and a byte other than a newline after the words.
     (
         "add a 35\nint main(void){return read_word();}\ncall a 1000 10\n4294967295\ncall a 1000 10\n4294967296\ncall a 1000 2\n-1\ncall a 1000 3\n1  \ncall a 1000 1\n12\nlist\n",
         "ok 1\nexited -1\nfault 50 BadLine\nfault 50 BadLine\nfault 50 BadLine\nfault 50 BadLine\nunit a\nok 3\n",
     ),
 ];
 
-// The record of `int main(void){}` under a name of one letter takes 121 bytes, by bench/records.py; that of a withdrawal 9.
+// The record of `int main(void){}` under a name of one letter takes 121 bytes, as tools/records.py counts; that of a withdrawal
+// takes 9.
 static SPACES: [(&str, &str); 3] = [
     (
         "space\nspace a\nspace \nSpace\nlist\n",
@@ -144,7 +145,7 @@ fn scripts_that_end_early(rt: HostRuntime) -> Result<(), Fail> {
     Ok(())
 }
 
-// A session's script has none of these lines.
+// None of these lines is allowed in a session's script.
 #[test]
 fn no_lines_of_a_session(rt: HostRuntime) -> Result<(), Fail> {
     let script = b"update a 1 1\naudit a\ncall a 1 1\nspace\nlist\n".as_slice();

@@ -1,4 +1,5 @@
-// A spool in a real folder: which things in `new` are scripts, what a start makes of what a kill left, and when an answer gives way to 54.
+// A spool in a real folder: which things in `new` are scripts, what a start makes of what a kill left, and when an answer is
+// replaced by 54.
 
 use crate::helpers::{
     End, Folder, Meanwhile, answer, answer_one, answer_read, begun, clears, counts, done, ends_so,
@@ -13,13 +14,13 @@ use std::time::{Duration, Instant};
 #[derive(Clone, Copy, Drop)]
 enum Thing {
     File(&'static str),
-    // A file of so many bytes that nobody wrote.
+    // A file of this length to which nothing was written.
     Sparse(u64),
     Link,
     Directory,
 }
 
-// A name, what has it, and whether it is a script.
+// A name, the thing that has it, and whether that is a script.
 #[derive(Clone, Copy, Drop)]
 struct Row {
     name: &'static str,
@@ -97,7 +98,7 @@ fn put_plain(folder: Folder) -> bool {
     folder.write("new", "plain", "list\n")
 }
 
-// Whether a row is as it should be behind the server: answered, or untouched.
+// Whether a row is as it should be after the server: answered, or untouched.
 fn is_right(folder: Folder, row: &Row) -> bool {
     folder.is_there("done", row.name) == row.is_script
         && folder.is_there("new", row.name) != row.is_script
@@ -219,7 +220,8 @@ fn an_empty_file_beside_an_answer(rt: HostRuntime) {
     let path = "an_empty_file_beside_an_answer.spool";
     let folder = Folder { rt, path };
     let (layout, held) = folder.take().expect(&rt, "a folder");
-    // A second client of the server made it before the first one took the claim of the script away that it had answered.
+    // A second client of the server made the empty file before the first client removed the claim of the script that it had
+    // answered.
     must(&rt, leave(folder, &STATES[1]), "a claim");
     let name = STATES[1].name;
     must(&rt, folder.write("done", name, "ok 1\n"), "an answer");
@@ -267,7 +269,7 @@ fn a_stop_of_before_the_start(rt: HostRuntime) {
     must(&rt, folder.end(layout, held), "its end");
 }
 
-// Whether three looks find nothing to do, nor hand over what is kept.
+// Whether three looks find nothing to do, and do not hand over what is kept.
 fn is_idle(folder: Folder, spool: &mut FolderSpool) -> bool {
     for _ in 0..3 {
         if done(folder, spool) != 0 {
@@ -282,7 +284,7 @@ fn what_a_start_could_not_hand_over(rt: HostRuntime) {
     let path = "what_a_start_could_not_hand_over.spool";
     let folder = Folder { rt, path };
     let (layout, held) = folder.take().expect(&rt, "a folder");
-    // Three that were begun.
+    // Three scripts that were begun.
     for state in &STATES[1..4] {
         let is_left = leave(folder, state) && folder.make("done", state.name);
         must(&rt, is_left, state.name);
@@ -301,7 +303,7 @@ fn what_a_start_could_not_hand_over(rt: HostRuntime) {
     for state in &STATES[1..4] {
         must(&rt, folder.unmake("done", state.name), state.name);
     }
-    // They go together.
+    // The three answers go together.
     must(&rt, done(folder, &mut spool) == 0, "no script is done");
     let is_over = spool.answered() == 3 && spool.kept() == 0;
     must(&rt, is_over, "three are handed over");
@@ -355,7 +357,7 @@ fn a_script_that_nobody_takes(rt: HostRuntime) {
     must(&rt, folder.end(layout, held), "its end");
 }
 
-// A server that answers when its client says that it waits.
+// A server that answers once its client says that it is waiting.
 #[derive(Drop)]
 struct Server {
     folder: Folder,
@@ -380,7 +382,8 @@ fn is_served(folder: Folder, layout: &FolderLayout) -> bool {
     ends_so(folder, layout, &mut io::sink(), Some(1), end, "ok 1\n")
 }
 
-// A script that is read slowly, while somebody puts one of their own into `new` under the name that it has in `tmp`, and a server answers that.
+// A script that is read slowly. Meanwhile somebody puts a script of their own into `new` under the name that the slow one has in
+// `tmp`, and a server answers that script.
 #[derive(Drop)]
 struct Watched {
     folder: Folder,
@@ -391,7 +394,7 @@ struct Watched {
 }
 
 impl Watched {
-    // Puts the other script there, and has it answered; whether that succeeds.
+    // Puts the forged script there, and has it answered. The result is whether that succeeds.
     fn forge(&mut self) -> bool {
         put_as_written(self.folder)
             && answer_one(self.folder, &mut self.spool, "ok 1\n", Meanwhile::Nothing)
@@ -445,7 +448,7 @@ fn another_script_in_the_place_of_a_claimed_one(rt: HostRuntime) {
         || answer_one(folder, &mut spool, "ok 1\n", Meanwhile::Replaced),
     );
     must(&rt, is_done, "it is claimed");
-    // It waited for the answer, and left the other one where it is.
+    // The client waited for its own answer, and left the other one where it is.
     must(&rt, is_right, "it is answered");
     must(&rt, folder.has("new", 1), "the other one waits");
     must(&rt, folder.has("done", 0), "`done` is empty");
@@ -464,13 +467,13 @@ fn a_script_that_has_another_number(rt: HostRuntime) {
         || renumber_one(folder),
     );
     must(&rt, is_done, "it has another number");
-    // It is known as the script that was left, and taken back.
+    // The file is recognised as the script that was left, and is taken back.
     must(&rt, is_right, "it is taken back");
     must(&rt, folder.has("new", 0), "`new` is empty");
     must(&rt, folder.end(layout, held), "its end");
 }
 
-// An answer, and the number of the fault that it tells last, if it tells one.
+// An answer, and the number of the fault that it reports last, if it reports one.
 static ANSWERS: [(&str, Option<u32>); 6] = [
     ("", None),
     ("ok 1\nfault 11 Unknown at 4:5\n", Some(11)),
@@ -480,7 +483,7 @@ static ANSWERS: [(&str, Option<u32>); 6] = [
     ("fault 4294967296 Large", Some(4_294_967_295)),
 ];
 
-// Whether this number is told of an answer, which is written on as it is and then taken away.
+// Whether this number is reported for an answer, which is passed on as it is and then removed.
 fn tells(folder: Folder, layout: &FolderLayout, text: &'static str, number: Option<u32>) -> bool {
     let Some(spool) = second(layout, 1) else {
         return false;
@@ -538,18 +541,18 @@ fn names_that_hide_no_script(rt: HostRuntime) {
     must(&rt, fill_with_directories(folder), "directories");
     must(&rt, put_plain(folder), "a script");
     let mut spool = FolderSpool::new(layout, 100);
-    // As many as a client tries in one go, none of which can be claimed.
+    // There are as many names as a client tries in one go, and none of them can be claimed.
     must(&rt, done(folder, &mut spool) == 0, "none of the first");
     must(&rt, done(folder, &mut spool) == 1, "the one after them");
-    // They are passed over then.
+    // These names are passed over then.
     must(&rt, folder.write("new", "1", ""), "another one after them");
-    // A change within the clock's grain is seen by a later look.
+    // A change within the grain of the clock is seen when the client looks later.
     thread::sleep(&rt, Duration::from_millis(200));
     must(&rt, done(folder, &mut spool) == 1, "it is the first");
     must(&rt, folder.end_spool(spool, held), "its end");
 }
 
-// Whether a client waits for nobody, though another one is busy too: nothing is there that can be claimed.
+// Whether a client sees no one waiting, although another client is busy too: nothing is there that can be claimed.
 fn is_left_alone(folder: Folder, spool: &FolderSpool) -> bool {
     let is_alone = !spool.is_awaited();
     is_alone && folder.make("new", "a-directory") && !spool.is_awaited()
@@ -606,7 +609,7 @@ fn a_folder_of_another_user(rt: HostRuntime) {
     let path = "a_folder_of_another_user.spool";
     let folder = Folder { rt, path };
     must(&rt, folder.make("", ""), "a folder");
-    // Who is not root can't give it away.
+    // Only root can give the folder away.
     if folder.give("", 1) {
         must(&rt, folder.is_refused(), "it is another user's");
         must(&rt, !folder.is_there(".", "lock"), "no lock is made");
@@ -638,7 +641,7 @@ fn a_folder_that_everybody_may_write_to(rt: HostRuntime) {
     must(&rt, folder.remove_all(), "its end");
 }
 
-// What stands in a folder before it is cleared: a part, a name, and whether that is taken away.
+// What a folder has before it is cleared: the part, the name, and whether the file is removed.
 static OLD: [(&str, &str, bool); 8] = [
     ("tmp", "old", true),
     ("tmp", ".hidden", false),
@@ -647,7 +650,7 @@ static OLD: [(&str, &str, bool); 8] = [
     // A script that waits, and one that was claimed.
     ("new", "waits", false),
     ("cur", "claimed", false),
-    // What a start that was killed tried these parts with.
+    // The files with which a start that was killed tried whether it could write to these parts.
     ("new", ".try-1", true),
     ("cur", ".try-2", true),
 ];
@@ -683,7 +686,8 @@ fn a_link_in_the_place_of_a_part(rt: HostRuntime) {
     must(&rt, folder.remove_all(), "its end");
 }
 
-// Whether a spool whose folder was moved finds nothing, and another client of it goes on unless the folder counts as lost.
+// Whether a spool whose folder was moved finds nothing, and another client of that folder goes on unless the folder counts as
+// lost.
 fn goes_on(folder: Folder, spool: &mut FolderSpool, busy: &mut FolderSpool) -> bool {
     !spool.is_over()
         && answer(folder, spool, "", Meanwhile::Nothing).is_none()
@@ -697,7 +701,7 @@ fn a_folder_that_was_moved(rt: HostRuntime) {
     let path = "a_folder_that_was_moved.old";
     let moved = Folder { rt, path };
     let (layout, held) = folder.take().expect(&rt, "a folder");
-    // One client of two does nothing else meanwhile.
+    // Of two clients, one does nothing else meanwhile.
     let mut busy = second(&layout, 100).expect(&rt, "a client");
     let mut spool = FolderSpool::new(layout, 100);
     must(&rt, folder.move_to(moved), "it is moved");
@@ -713,7 +717,7 @@ fn a_folder_that_was_moved(rt: HostRuntime) {
     let since = began.elapsed(&rt).expect(&rt, "the time");
     must(&rt, 6 <= since.as_secs(), "six seconds long");
     must(&rt, spool.is_over() && spool.has_failed(), "it is lost");
-    // It would be the only one to go on, and is over too.
+    // This client would be the only one to go on, and is over too.
     must(&rt, busy.is_over() && busy.has_failed(), "to both");
     must(&rt, folder.is_there("new", "plain"), "the script waits");
     must(&rt, folder.end(other, also_held), "its end");
@@ -764,17 +768,17 @@ fn a_second_script_of_a_name(rt: HostRuntime) {
     must(&rt, put_plain(folder), "a script");
     let mut spool = FolderSpool::new(layout, 100);
     must(&rt, done(folder, &mut spool) == 1, "it is done");
-    // It waits until the first one's answer is taken away.
+    // The second script waits until the answer to the first one is removed.
     must(&rt, put_plain(folder), "a second one");
     must(&rt, done(folder, &mut spool) == 0, "it waits");
     must(&rt, folder.remove("done", "plain"), "the way is free");
-    // Its name is passed over for a second.
+    // The name is passed over for a second.
     thread::sleep(&rt, Duration::from_millis(1100));
     must(&rt, done(folder, &mut spool) == 1, "it is done too");
     must(&rt, folder.end_spool(spool, held), "its end");
 }
 
-// The rights of the parts of a folder, where all may leave scripts and where a group may.
+// The rights of the parts of a folder, if all may leave scripts and if a group may.
 static RIGHTS: [(&str, u32, u32); 5] = [
     ("cur", 0o700, 0o2700),
     ("done", 0o755, 0o2770),
@@ -792,7 +796,7 @@ fn the_rights_of_a_folder(rt: HostRuntime) {
         must(&rt, folder.has_rights(part, *rights), part);
     }
     must(&rt, folder.end(layout, held), "its end");
-    // A group's folder.
+    // The folder of a group.
     must(&rt, folder.make("", ""), "a directory");
     must(&rt, folder.set_rights("", 0o2750), "a group's");
     let (layout, held) = folder.take().expect(&rt, "a group's folder");
@@ -802,7 +806,8 @@ fn the_rights_of_a_folder(rt: HostRuntime) {
     must(&rt, folder.end(layout, held), "its end");
 }
 
-// A script with lines of each kind, sources after some of them that look like lines, and its answer; then what the log says of them.
+// A script with lines of each kind, some followed by sources that look like lines, and its answer; then what the log says about
+// them.
 const LOGGED: &str =
     "add a 16\nint main(void){}\nadd b 5\nlist\n\nlist\nrun a 5\nsource a\nhel\u{1}lo\nupdate a 1 4\nx\nrun \ncall a 9 3\n1 2\nimage a\nadd c 2\nxyz\nlist\n";
 
@@ -812,7 +817,7 @@ const ANSWERED: &str =
 const SAID: &str =
     "add a 16 ok\nadd b 5 fault 5\nlist ok\nrun a 5 exited\nsource a source\nhel?lo fault 50\nupdate a 1 4 fault 60\ncall a 9 3 trapped\nimage a image\nadd c 2 fault 50\n";
 
-// What was not answered is not there, as the last line of this script. A next server begins a new file.
+// The log lacks what was not answered, such as the last line of this script. The next server begins a new file.
 #[test]
 fn who_did_what(rt: HostRuntime) {
     let path = "who_did_what.spool";

@@ -1,7 +1,8 @@
-// The folder of a test, and what tests do in it and see of it.
+// The folder of a test, and what tests do in it and look at.
 //
-// Each call of the system stands here alone, and answers by a `bool` or a number where it is refused: a test that handed errors on, or asserted
-// in many places, would be proved for minutes, since each of its exits lets go of all that it has.
+// Each call of the system has a function of its own here; if the call is refused, the function answers with a `bool` or a number.
+// A test that passed errors on, or asserted in many places, would take minutes to prove, since each of its exits drops all that
+// it has.
 
 use cc_spool::{
     AnswerFile, FolderLayout, FolderSpool, Held, Limits, Recovered, ScriptFile, Spool, Submission,
@@ -26,7 +27,7 @@ pub struct Folder {
     pub path: &'static str,
 }
 
-/// What is seen of a file: its rights, and when it was last written.
+/// What is looked at in a file: its rights, and when it was last written.
 #[derive(Clone, Copy, Drop)]
 pub struct Seen {
     rights: u32,
@@ -34,7 +35,7 @@ pub struct Seen {
 }
 
 impl Folder {
-    /// The path of a file in a part of the folder; none where there is no memory.
+    /// The path of a file in a part of the folder; none if there is no memory.
     fn path_in(self, part: &str, name: &str) -> String {
         match format!(in self.rt.alloc(); "{}/{part}/{name}", self.path) {
             Ok(path) => path,
@@ -48,13 +49,13 @@ impl Folder {
         fs::create_dir_all(&self.rt, path.as_str()).is_ok()
     }
 
-    /// Takes an empty directory away.
+    /// Removes an empty directory.
     pub fn unmake(self, part: &str, name: &str) -> bool {
         let path = self.path_in(part, name);
         fs::remove_dir(&self.rt, path.as_str()).is_ok()
     }
 
-    /// Makes a file of this text.
+    /// Makes a file with this text.
     pub fn write(self, part: &str, name: &str, text: &str) -> bool {
         let path = self.path_in(part, name);
         fs::write(&self.rt, path.as_str(), text).is_ok()
@@ -87,7 +88,7 @@ impl Folder {
         said.as_str() == wanted
     }
 
-    /// Takes a file away.
+    /// Removes a file.
     pub fn remove(self, part: &str, name: &str) -> bool {
         let path = self.path_in(part, name);
         fs::remove_file(&self.rt, path.as_str()).is_ok()
@@ -119,7 +120,7 @@ impl Folder {
             .ok()
     }
 
-    /// Makes a file so many bytes long.
+    /// Makes a file `bytes` bytes long.
     pub fn set_length(self, part: &str, name: &str, bytes: u64) -> bool {
         match self.open(part, name) {
             Some(file) => file.set_len(bytes).is_ok(),
@@ -134,7 +135,7 @@ impl Folder {
         }
     }
 
-    /// Makes an empty file that was written a minute from now.
+    /// Makes an empty file whose time of writing is a minute from now.
     pub fn set_ahead(self, part: &str, name: &str) -> bool {
         let Ok(now) = SystemTime::now(&self.rt) else {
             return false;
@@ -145,19 +146,19 @@ impl Folder {
         }
     }
 
-    /// Makes the rights of a directory these.
+    /// Sets the rights of a directory.
     pub fn set_rights(self, part: &str, rights: u32) -> bool {
         let path = self.path_in(part, "");
         fs::set_permissions(&self.rt, path.as_str(), Permissions::from_mode(rights)).is_ok()
     }
 
-    /// Gives a directory to another user; refused to who is not root.
+    /// Gives a directory to another user; only root is allowed to.
     pub fn give(self, part: &str, user: u32) -> bool {
         let path = self.path_in(part, "");
         chown(&self.rt, path.as_str(), Some(user), None).is_ok()
     }
 
-    /// What is seen of a file, and no link is followed.
+    /// What is looked at in a file; a link is not followed.
     pub fn see(self, part: &str, name: &str) -> Option<Seen> {
         let path = self.path_in(part, name);
         let Ok(told) = fs::symlink_metadata(&self.rt, path.as_str()) else {
@@ -182,7 +183,7 @@ impl Folder {
         }
     }
 
-    /// Whether a file is there, and was not written since it was seen.
+    /// Whether a file is there, and was not written since it was looked at.
     pub fn is_as_seen(self, part: &str, name: &str, before: Option<Seen>) -> bool {
         match (before, self.see(part, name)) {
             (Some(before), Some(seen)) => before.written == seen.written,
@@ -190,7 +191,8 @@ impl Folder {
         }
     }
 
-    /// How many entries a part has, and the name of one that is no answer. Of one that can't be read, the most there can be.
+    /// How many entries a part has, and the name of one that is no answer. For a part that can't be read, the number is the
+    /// largest possible.
     fn entries(self, part: &str) -> (usize, String) {
         let mut script = String::new(self.rt.alloc());
         let path = self.path_in(part, "");
@@ -210,17 +212,18 @@ impl Folder {
         (count, script)
     }
 
-    /// Whether a part has so many entries.
+    /// Whether a part has this many entries.
     pub fn has(self, part: &str, wanted: usize) -> bool {
         self.entries(part).0 == wanted
     }
 
-    /// A new folder with its parts, and its lock; none where it is refused.
+    /// A new folder with its parts, and its lock; none if it is refused.
     pub fn take(self) -> Option<(FolderLayout, Held)> {
         held(FolderLayout::new(self.rt, self.rt.alloc(), self.path).ok()?)
     }
 
-    /// The same as a server has it with so many clients, each of which may do a script for so many seconds while others wait.
+    /// The same, as a server with this many clients takes the folder. Each client may do a script for this many seconds while
+    /// others wait.
     pub fn take_to_serve(self, clients: usize, patience: u32) -> Option<(FolderLayout, Held)> {
         let limits = Limits {
             days: 7,
@@ -232,29 +235,29 @@ impl Folder {
         held(FolderLayout::for_server(self.rt, self.rt.alloc(), self.path, limits).ok()?)
     }
 
-    /// Whether it is no folder that a server takes.
+    /// Whether a server refuses the folder.
     pub fn is_refused(self) -> bool {
         self.take().is_none()
     }
 
-    /// Moves the folder, so that it is another one.
+    /// Moves the folder to the path of another one.
     pub fn move_to(self, other: Folder) -> bool {
         fs::rename(&self.rt, self.path, other.path).is_ok()
     }
 
-    /// Takes the folder away.
+    /// Removes the folder.
     pub fn remove_all(self) -> bool {
         fs::remove_dir_all(&self.rt, self.path).is_ok()
     }
 
-    /// Lets its parts go, and takes it away.
+    /// Drops the layout and the lock of the folder, and removes it.
     pub fn end(self, layout: FolderLayout, held: Held) -> bool {
         drop(layout);
         drop(held);
         self.remove_all()
     }
 
-    /// Lets a spool in it go, and takes it away.
+    /// Drops a spool in the folder, and removes the folder.
     pub fn end_spool(self, spool: FolderSpool, held: Held) -> bool {
         drop(spool);
         drop(held);
@@ -262,7 +265,7 @@ impl Folder {
     }
 }
 
-// A folder with its lock; none where it is refused.
+// A folder with its lock; none if it is refused.
 fn held(mut layout: FolderLayout) -> Option<(FolderLayout, Held)> {
     match take_folder(&mut layout, 1) {
         Ok(Some(held)) => Some((layout, held)),
@@ -270,7 +273,7 @@ fn held(mut layout: FolderLayout) -> Option<(FolderLayout, Held)> {
     }
 }
 
-/// The next script, which waits: a change is seen by a look that is made a moment later.
+/// The next script, for which this waits: a change is seen when the client looks a moment later.
 pub fn begun(spool: &mut FolderSpool) -> Option<(ScriptFile, AnswerFile)> {
     for _ in 0..1000 {
         let next = spool.next();
@@ -292,12 +295,12 @@ pub fn is_soon_awaited(folder: Folder, spool: &FolderSpool) -> bool {
     false
 }
 
-/// What a start finds; none where it can't look.
+/// What a start finds; none if it can't look.
 pub fn recovered(layout: &FolderLayout) -> Option<Recovered> {
     recover(layout).ok()
 }
 
-/// Whether so many entries are counted.
+/// Whether this many entries are counted.
 pub fn counts(layout: &FolderLayout, most: usize, wanted: usize) -> bool {
     match count_entries(layout, most) {
         Ok(count) => count == wanted,
@@ -305,7 +308,7 @@ pub fn counts(layout: &FolderLayout, most: usize, wanted: usize) -> bool {
     }
 }
 
-/// Whether so many old files are taken away.
+/// Whether this many old files are removed.
 pub fn clears(layout: &FolderLayout, days: u32, wanted: u64) -> bool {
     match clear_old(layout, days) {
         Ok(count) => count == wanted,
@@ -325,9 +328,10 @@ pub fn second(layout: &FolderLayout, most: u64) -> Option<FolderSpool> {
 #[derive(Clone, Copy, Drop)]
 pub enum Meanwhile {
     Nothing,
-    /// Its place in `new` is given to another one, and two seconds go by.
+    /// The script's place in `new` is given to another one, and two seconds go by.
     Replaced,
-    /// The answer of `plain` is moved to `done`, as where a call is done over a network, its answer is lost, and it is made again.
+    /// The answer of `plain` is moved to `done`, as if a call over a network had succeeded, its reply had been lost, and the call
+    /// had been made again.
     Moved,
     /// As much is written as an answer may have, and then more.
     Filled,
@@ -340,7 +344,7 @@ fn fill<W: Write>(answer: &mut W) -> bool {
             return false;
         }
     }
-    // What was refused stays so, and a later line is not written behind the gap.
+    // What was refused stays refused, and a later line is not written after the gap.
     answer.write(b"1").is_err() && answer.write(b"").is_err() && answer.flush().is_err()
 }
 
@@ -351,7 +355,7 @@ fn replace(folder: Folder) -> bool {
     is_replaced
 }
 
-/// Takes the next script, and answers it by this text; whether all of that succeeds. None where none waits.
+/// Takes the next script, and answers it with this text. The result is whether all of that succeeds; none if no script waits.
 pub fn answer(
     folder: Folder,
     spool: &mut FolderSpool,
@@ -370,7 +374,7 @@ pub fn answer(
     Some(is_written && is_done)
 }
 
-/// Reads the next script whole, once it comes, and answers it by this text; whether all of that succeeds.
+/// Reads the whole of the next script, once it comes, and answers it with this text. The result is whether all of that succeeds.
 pub fn answer_read(folder: Folder, spool: &mut FolderSpool, text: &str) -> bool {
     let Some((mut script, mut answer)) = begun(spool) else {
         return false;
@@ -382,7 +386,7 @@ pub fn answer_read(folder: Folder, spool: &mut FolderSpool, text: &str) -> bool 
     is_read && is_written
 }
 
-/// Answers what waits; how many scripts that were, up to 20.
+/// Answers the scripts that wait. The result is how many they were, up to 20.
 pub fn done(folder: Folder, spool: &mut FolderSpool) -> usize {
     for count in 0..20 {
         match answer(folder, spool, "ok\n", Meanwhile::Nothing) {
@@ -394,7 +398,7 @@ pub fn done(folder: Folder, spool: &mut FolderSpool) -> usize {
     20
 }
 
-/// Answers one script for which something is done meanwhile, once it comes; whether that succeeds.
+/// Answers one script for which something is done meanwhile, once it comes. The result is whether that succeeds.
 pub fn answer_one(
     folder: Folder,
     spool: &mut FolderSpool,
@@ -418,7 +422,7 @@ fn renumber(folder: Folder, name: &str) -> bool {
         && folder.rename("tmp", "copy", "new", name)
 }
 
-/// Puts another file with the same text and time in the place of the script that comes, as where a file's number belongs to its path.
+/// Replaces the script that comes with another file that has the same text and time, as if a file's number belonged to its path.
 pub fn renumber_one(folder: Folder) -> bool {
     for _ in 0..1000 {
         thread::sleep(&folder.rt, Duration::from_millis(1));
@@ -430,21 +434,21 @@ pub fn renumber_one(folder: Folder) -> bool {
     false
 }
 
-/// How a script that was left ends.
+/// How a script ends that was left.
 #[derive(Clone, Copy, Drop)]
 pub enum End {
-    /// Answered, by the number of the fault that its answer tells last, if it tells one.
+    /// It was answered; this is the number of the fault that its answer reports last, if it reports one.
     Answered(Option<u32>),
     NotTaken,
 }
 
-/// Puts a script into `new` under the name that the one in `tmp` has; whether that succeeds.
+/// Puts a script into `new` under the name that the one in `tmp` has. The result is whether that succeeds.
 pub fn put_as_written(folder: Folder) -> bool {
     let (_, name) = folder.entries("tmp");
     folder.write("new", name.as_str(), "list\n")
 }
 
-/// Leaves a script from this reader; whether it is answered without a fault, and so much is written on.
+/// Leaves a script from this reader. The result is whether it is answered without a fault, and this text is passed on.
 pub fn is_answered<S: Read, E: Write>(
     folder: Folder,
     layout: &FolderLayout,
@@ -463,7 +467,7 @@ pub fn is_answered<S: Read, E: Write>(
     )
 }
 
-/// Leaves a script; whether it ends so, and so much is written on.
+/// Leaves a script. The result is whether it ends like this, and this text is passed on.
 pub fn ends_so<E: Write>(
     folder: Folder,
     layout: &FolderLayout,

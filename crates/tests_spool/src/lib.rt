@@ -1,4 +1,5 @@
-//! Tests of the spool in a folder, over real folders where the test runs. Expected answers come from docs/FORMATS.md.
+//! Tests of the spool in a folder, over real folders in the place where the test runs. Expected answers come from
+//! docs/FORMATS.md.
 #![tactic(auto)]
 
 #[cfg(test)]

@@ -1,4 +1,4 @@
-// Records that reading ahead cuts in two: what is read at once ends within a gate's record, at each of its first bytes, and
+// Records that reading ahead cuts in two: what is read in one go ends within a gate's record, at each of its first bytes, and
 // within a body.
 
 use crate::helpers::{holds, opened};
@@ -8,10 +8,10 @@ use std::alloc::Global;
 use std::test::Fail;
 use tests_texts::verdict::passes;
 
-// How many bytes are read ahead, from an area's begin on where it is opened.
+// How many bytes are read ahead, from the beginning of an area on when it is opened.
 const AHEAD: usize = 65_536;
 
-// So many bytes that tell their place.
+// This many bytes, whose values show their places.
 fn counted(alloc: Global, length: usize) -> Result<Vec<u8>, Fail> {
     let mut bytes = Vec::with_capacity(alloc, length)?;
     for i in 0..length {
@@ -39,7 +39,7 @@ fn are_found(alloc: Global, lengths: &[usize]) -> Result<bool, Fail> {
 
 #[test]
 fn a_record_behind_what_was_read_ahead(rt: HostRuntime) -> Result<(), Fail> {
-    // The second record begins `before` bytes before the end of what is read ahead, or behind it.
+    // The second record begins `before` bytes before the end of what is read ahead, or after it.
     for before in 0..9usize {
         let first = AHEAD - 5 - before;
         passes(are_found(rt.alloc(), &[first, 300, 0, 7]))?;

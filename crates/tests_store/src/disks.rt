@@ -23,7 +23,7 @@ fn is_chosen(alloc: Global) -> Result<bool, Fail> {
     }
     disk.write_at(1, &[7, 8])?;
     let right = has_bytes(alloc, &mut disk, &[1, 7, 8, 4, 5])?
-        // What was written is unsettled, and 0 past the choice's end.
+        // What was written is unsettled; past the end of the choice a crash leaves 0.
         && crash_leaves(alloc, &disk, &[9, 10], &[1, 10, 0, 4, 5])?;
     disk.sync()?;
     Ok(right && crash_leaves(alloc, &disk, &[0xff; 5], &[1, 7, 8, 4, 5])?)
@@ -34,7 +34,7 @@ fn a_crash_chooses_the_unsettled_bytes(rt: HostRuntime) -> Result<(), Fail> {
     passes(is_chosen(rt.alloc()))
 }
 
-// The mode of a fuse that passes one call; what two writes and a sync answer, what the disk then has, and the failures.
+// The mode of a fuse that lets one call pass; the answers to two writes and a sync, what the disk then has, and the failures.
 type Row = (FuseMode, [bool; 3], [u8; 2], u64);
 
 fn is_row(alloc: Global, row: &Row) -> Result<bool, Fail> {

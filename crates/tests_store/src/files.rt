@@ -8,12 +8,12 @@ use std::fs::{self, OpenOptions};
 use std::test::Fail;
 use tests_texts::verdict::passes;
 
-// Whether nobody opens the file as a disk, or makes one of it.
+// Whether nobody can open the file as a disk, or make a disk of it.
 fn is_held(rt: &HostRuntime, path: &str) -> bool {
     FileDisk::open(rt, path).is_err() && FileDisk::create(rt, path, 9).is_err()
 }
 
-// Makes a journal with one record in a new file: whether nobody else has the file while the journal does.
+// Makes a journal with one record in a new file. The result is whether nobody else has the file while the journal does.
 fn is_written(rt: &HostRuntime, alloc: Global, path: &str) -> Result<bool, Fail> {
     let mut disk = FileDisk::create(rt, path, 144)?;
     let has_size = disk.size() == 144;
@@ -41,7 +41,8 @@ fn a_journal_in_a_file(rt: HostRuntime) -> Result<(), Fail> {
     passes(Ok(right && fs::remove_file(&rt, path).is_ok()))
 }
 
-// Whether twenty bytes from that offset on of a disk of 100 bytes are read, or are not, and one read has failed until then.
+// Whether twenty bytes from that offset on of a disk of 100 bytes are read, or are not, as `wanted` says; and exactly one read
+// has failed so far.
 fn is_read(disk: &mut FileDisk, offset: usize, wanted: bool) -> bool {
     let mut buffer = [0u8; 20];
     offset <= 80
@@ -50,7 +51,7 @@ fn is_read(disk: &mut FileDisk, offset: usize, wanted: bool) -> bool {
         && disk.failures() == 1
 }
 
-// Whether a disk of zeros reads no further than its file goes, which somebody cuts: a read past its end gives fewer bytes.
+// Whether a disk of zeros reads no further than its file goes after somebody cut the file: a read past its end gives fewer bytes.
 fn is_cut(rt: &HostRuntime, alloc: Global, path: &str) -> Result<bool, Fail> {
     let mut disk = FileDisk::create(rt, path, 100)?;
     let are_zeros = has_bytes(alloc, &mut disk, &[0; 100])?;

@@ -5,7 +5,7 @@ use cc_journal::{Body, Journal, JournalFault, format};
 use std::alloc::Global;
 use std::test::Fail;
 
-/// The smallest area, and a disk of two of them.
+/// The size of the smallest area, and of a disk with two of them.
 pub const AREA: u32 = 64;
 
 pub const SIZE: usize = 144;
@@ -68,12 +68,12 @@ pub fn part(bytes: &[u8], from: usize, to: usize) -> &[u8] {
     }
 }
 
-/// Whether these are all the bytes of the disk.
+/// Whether the disk has exactly these bytes.
 pub fn has_bytes<D: Disk>(alloc: Global, disk: &mut D, wanted: &[u8]) -> Result<bool, Fail> {
     Ok(bytes_of(alloc, disk)?.as_slice() == wanted)
 }
 
-/// Whether the disk has these bytes from these offsets on.
+/// Whether the disk has these bytes, each part from its offset on.
 pub fn has_parts<D: Disk>(
     alloc: Global,
     disk: &mut D,
@@ -86,7 +86,7 @@ pub fn has_parts<D: Disk>(
     )
 }
 
-/// Whether these are those bodies, in order.
+/// Whether the records have those bodies, in order.
 pub fn are_bodies(records: &[Body], wanted: &[&[u8]]) -> bool {
     if records.len() != wanted.len() {
         return false;

@@ -1,4 +1,4 @@
-// Disks that nobody formatted so.
+// Disks that `format` did not make.
 
 use crate::helpers::{bytes_of, has_parts, holds, opened, part, refusal, row_disk};
 use cc_disk::{Disk, FuseDisk, FuseMode};
@@ -18,7 +18,7 @@ fn is_refused(alloc: Global, row: &Row) -> Result<bool, Fail> {
 fn each_change_of_the_row(rt: HostRuntime) -> Result<(), Fail> {
     let table: [Row; 13] = [
         (&[], 0),
-        // The name, the reserved bytes, an area below 64, an area that does not fit.
+        // The name, the reserved bytes, an area below 64, an area that is larger than the disk.
         (&[(1, 0x44)], 38),
         (&[(7, 0x30)], 38),
         (&[(12, 1)], 38),
@@ -27,7 +27,7 @@ fn each_change_of_the_row(rt: HostRuntime) -> Result<(), Fail> {
         (&[(8, 0x41)], 38),
         (&[(10, 1)], 38),
         (&[(11, 0x80)], 38),
-        // A body of 58 bytes fits, and one of 59 does not.
+        // A body of 58 bytes fits, a body of 59 does not.
         (&[(17, 0x3a)], 0),
         (&[(17, 0x3b)], 37),
         (&[(17, 0xff), (18, 0xff), (19, 0xff), (20, 0xff)], 37),
@@ -49,7 +49,7 @@ fn the_longest_body_is_there_at_once(rt: HostRuntime) -> Result<(), Fail> {
     passes(is_longest(rt.alloc()))
 }
 
-// Whether the row's disk has its record with this gate alone where that is open.
+// Whether the row's disk with this gate has its record only if the gate is open.
 fn has_gate(alloc: Global, gate: u8) -> Result<bool, Fail> {
     let disk = row_disk(alloc, &[(16, gate)])?;
     if gate == 0xa5 {
@@ -67,7 +67,8 @@ fn each_value_of_the_first_gate(rt: HostRuntime) -> Result<(), Fail> {
     Ok(())
 }
 
-// Whether a record with the body 77 goes after the first record of area A, or to the start of area B, by that area byte.
+// Whether a record with the body 77 goes after the first record of area A, or to the start of area B, depending on that area
+// byte.
 fn is_added(alloc: Global, area_byte: u8) -> Result<bool, Fail> {
     let mut journal = opened(alloc, row_disk(alloc, &[(0, area_byte)])?)?;
     journal.append(alloc, &[0x77])?;
@@ -87,7 +88,7 @@ fn each_value_of_the_area_byte(rt: HostRuntime) -> Result<(), Fail> {
     Ok(())
 }
 
-// Opening settles what was written before, as it is, without a sync.
+// Opening a disk syncs, as it is, what was written before without a sync.
 #[test]
 fn opening_settles_what_was_written(rt: HostRuntime) -> Result<(), Fail> {
     passes(is_settled(rt.alloc()))

@@ -1,4 +1,4 @@
-// The largest area, on a disk that keeps a few of its bytes alone.
+// The largest area, on a disk that keeps only a few of its bytes.
 
 use crate::helpers::refusal;
 use crate::sparse::SparseDisk;
@@ -80,7 +80,7 @@ fn the_edges_of_its_records(rt: HostRuntime) -> Result<(), Fail> {
     let rows = [
         (0, 1_073_741_819, 37),
         (0, u32::MAX, 37),
-        // The record and the closed gate fit: a body of a gigabyte, in memory too. One byte more does not.
+        // The record and the closed gate fit, and a body of a gigabyte fits in memory too. One byte more does not fit.
         (1, 1_073_741_818, 0),
         (1, 1_073_741_819, 37),
         (1, 1_073_741_824, 37),

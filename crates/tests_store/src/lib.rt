@@ -3,7 +3,7 @@
 //! `helpers` makes disks and reads them back, `sparse` is a disk of any size that is not honest, `disks` tests the disks of
 //! `cc_disk`, `files` the one on a file, `rows` has the worked rows of the journal, `logs` those of a log, `largest` the largest
 //! area, `sweep` fails the device at each call of appends in turn, `moves` at each call of a rewrite, `hostile` opens disks that
-//! nobody formatted so, `random` disks of random bytes, `ahead` records that reading ahead cuts in two. `library` has the tests
+//! `format` did not make, `random` disks of random bytes, `ahead` records that reading ahead cuts in two. `library` has the tests
 //! of the library, on the same disks.
 #![tactic(auto)]
 

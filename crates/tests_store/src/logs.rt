@@ -1,4 +1,4 @@
-// The calls of a log, which keeps no body: each hands them over instead.
+// The calls of a log. A log keeps no body: each call returns the bodies instead.
 
 use crate::helpers::{ROW, SIZE, are_bodies, bytes_of, formatted, has_bytes, has_parts, one_body};
 use cc_disk::{Disk, FuseDisk, FuseMode, MemoryDisk};
@@ -10,18 +10,18 @@ use tests_texts::verdict::{each_passes, passes};
 // The body of the worked row.
 const ROW_BODY: [u8; 4] = [1, 3, 1, 0x61];
 
-// What is done to a log, and the number that it has to be answered, 0 for Ok.
+// What is done to a log, and the number of the right answer, 0 for Ok.
 #[derive(Clone, Copy)]
 enum Step {
-    // The body of the row is added, alone, or with what stands around it in its record.
+    // The body of the row is added, by itself, or with what is around it in its record.
     Row { is_framed: bool },
-    // A body of so many bytes of this value is added.
+    // A body of this many bytes, each with this value, is added.
     Append(u8, usize, u32),
-    // All is written anew as one body, of so many bytes 1.
+    // All is written again as one body of this many bytes, each 1.
     Rewrite(usize, u32),
 }
 
-// The log on a disk, which has records with these bodies.
+// The log on a disk whose records have these bodies.
 fn opened<D: Disk + Drop>(alloc: Global, disk: D, wanted: &[&[u8]]) -> Result<Log<D>, Fail> {
     match Log::open(alloc, disk) {
         Ok((log, bodies)) => {
@@ -34,12 +34,13 @@ fn opened<D: Disk + Drop>(alloc: Global, disk: D, wanted: &[&[u8]]) -> Result<Lo
     }
 }
 
-// The body of the row with what stands around it in its record.
+// The body of the row with what is around it in its record.
 fn framed(alloc: Global) -> Result<Body, Fail> {
     Ok(Body::from_framed(vec![in alloc; 4u8, 0, 0, 0, 1, 3, 1, 0x61, 0]?))
 }
 
-// Whether adding the bytes, which the body has, is answered with this number, and they are handed back where they were added.
+// Whether adding this body, which has these bytes, is answered with this number, and the bytes are handed back if they were
+// added.
 fn appends<D: Disk>(
     alloc: Global,
     log: &mut Log<D>,
@@ -53,7 +54,7 @@ fn appends<D: Disk>(
     }
 }
 
-// Whether writing all anew as a body of so many bytes 1 is answered with this number, and that body is handed over.
+// Whether writing all again as a body of this many bytes, each 1, is answered with this number, and that body is handed over.
 fn rewrites<D: Disk>(
     alloc: Global,
     log: &mut Log<D>,
@@ -89,7 +90,7 @@ fn appends_bytes<D: Disk>(
     Ok(appends(alloc, log, body, bytes, number))
 }
 
-// The disk, whose log has records with these bodies, once these steps were answered as they have to be. None closes the log.
+// The disk, whose log has records with these bodies, after these steps were answered as they have to be. No step closes the log.
 fn played(
     alloc: Global,
     disk: MemoryDisk,
@@ -123,10 +124,10 @@ fn has_records(alloc: Global, disk: MemoryDisk, wanted: &[&[u8]]) -> bool {
     }
 }
 
-// A second body of 50 bytes would need 55 where 54 are left, with its gate.
+// If 54 bytes are left, a second body of 50 bytes does not fit: it would need 55 with its gate.
 const SECOND: [Step; 2] = [Step::Append(2, 50, 34), Step::Append(2, 49, 0)];
 
-// Whether the row comes of its body, and a second body then has the room that it should.
+// Whether the row is made from its body, and a second body then has as much room as it should.
 fn writes_the_row(alloc: Global, is_framed: &bool) -> Result<bool, Fail> {
     let step = Step::Row {
         is_framed: *is_framed,
@@ -168,7 +169,7 @@ fn is_written_anew(alloc: Global) -> Result<bool, Fail> {
         Step::Append(1, 54, 34),
     ];
     let mut disk = played(alloc, formatted(alloc)?, &[], &steps)?;
-    // Area B counts: an open gate, a body without a byte, a closed gate.
+    // Area B counts: it has an open gate, a body of no bytes, and a closed gate.
     let right = has_parts(alloc, &mut disk, &[(0, &[1]), (80, &[0xa5, 0, 0, 0, 0, 0])])?;
     let disk = played(alloc, disk, &[&[]], &[Step::Append(1, 53, 0)])?;
     Ok(right && has_records(alloc, disk, &[&[], &[1; 53]]))
@@ -179,7 +180,7 @@ fn a_log_written_anew(rt: HostRuntime) -> Result<(), Fail> {
     passes(is_written_anew(rt.alloc()))
 }
 
-// A log of which the disk fails at the call after this many. Opening makes three.
+// A log whose disk fails at the call after this many. Opening makes three.
 fn closed_after(alloc: Global, passes: u64) -> Result<Log<FuseDisk<MemoryDisk>>, Fail> {
     let fuse = FuseDisk::new(formatted(alloc)?, passes, FuseMode::Once);
     let mut log = opened(alloc, fuse, &[])?;

@@ -1,4 +1,4 @@
-// Every point of failure of a `rewrite`, in each mode and out of each area, and a crash after it.
+// Every point of failure of a `rewrite`, in each mode and out of each area, and a crash after each.
 
 use crate::helpers::{formatted, holds, number, one_body, opened};
 use cc_disk::{Disk, FuseDisk, FuseMode, MemoryDisk};
@@ -14,7 +14,7 @@ const OLD: [u8; 3] = [1, 2, 3];
 // A body that is itself an open gate and a whole record.
 const NEW: [u8; 7] = [0xa5, 1, 0, 0, 0, 9, 0];
 
-// A disk with the old record, in area B where it was moved.
+// A disk with the old record, in area B if it was moved.
 fn with_old(alloc: Global, moved: bool) -> Result<MemoryDisk, Fail> {
     let mut journal = opened(alloc, formatted(alloc)?)?;
     journal.append(alloc, &OLD)?;
@@ -24,7 +24,7 @@ fn with_old(alloc: Global, moved: bool) -> Result<MemoryDisk, Fail> {
     Ok(journal.into_disk())
 }
 
-// The disk after a rewrite whose device calls meet the fuse once this many have passed: whether it was done, and whether
+// The disk after a rewrite whose device calls meet the fuse once this many have passed; whether the rewrite was made; and whether
 // later calls answer 36 and make no device call.
 fn rewritten(
     alloc: Global,
@@ -49,7 +49,7 @@ fn rewritten(
     Ok((fuse.into_disk(), false, quiet))
 }
 
-// Whether each crash leaves the old record or the new one, and the new one where the rewrite was done.
+// Whether each crash leaves the old record or the new one, and only the new one if the rewrite was made.
 fn is_right(alloc: Global, disk: &MemoryDisk, done: bool) -> Result<bool, Fail> {
     for byte in [0x00u8, 0xa5, 0xff] {
         let new = holds(alloc, disk.crash(alloc, &[byte; 144])?, &[&NEW]);
@@ -61,13 +61,13 @@ fn is_right(alloc: Global, disk: &MemoryDisk, done: bool) -> Result<bool, Fail> 
     Ok(true)
 }
 
-// Whether a rewrite is right whose device calls meet the fuse once this many have passed, in this mode.
+// Whether a rewrite is right if its device calls meet the fuse, in this mode, once this many have passed.
 fn survives(alloc: Global, moved: bool, calls: u64, mode: FuseMode) -> Result<bool, Fail> {
     let (disk, done, quiet) = rewritten(alloc, moved, calls, mode)?;
     Ok(quiet && done == (calls == 4) && is_right(alloc, &disk, done)?)
 }
 
-// The same out of either area.
+// The same for a rewrite out of either area.
 fn survives_in_each(alloc: Global, row: &(u64, FuseMode)) -> Result<bool, Fail> {
     Ok(survives(alloc, false, row.0, row.1)? && survives(alloc, true, row.0, row.1)?)
 }
@@ -81,7 +81,7 @@ fn every_failure_of_a_rewrite(rt: HostRuntime) -> Result<(), Fail> {
     Ok(())
 }
 
-// Whether a crash that leaves this area byte leaves the record of its area.
+// Whether a crash that leaves this area byte leaves the record of the area that it names.
 fn is_torn(alloc: Global, disk: &MemoryDisk, byte: u8) -> Result<bool, Fail> {
     let wanted: &[u8] = if byte % 2 == 0 { &OLD } else { &NEW };
     Ok(holds(alloc, disk.crash(alloc, &[byte])?, &[wanted]))

@@ -31,14 +31,14 @@ fn random_disk(alloc: Global, state: &mut u64) -> Result<Vec<u8>, Fail> {
     Ok(bytes)
 }
 
-// Whether the records of an area fit it, and their bodies.
+// Whether the records of an area fit in it. Adds their bodies to `bodies`.
 fn bodies_in<'a>(area: &'a [u8], bodies: &mut Vec<&'a [u8]>) -> Result<bool, Fail> {
     let mut rest = area;
     for _ in 0..area.len() {
         match rest {
             [0xa5, a, b, c, d, after @ ..] => {
                 let length = u32::from_le_bytes([*a, *b, *c, *d]) as usize;
-                // A gate stands after the body.
+                // A gate comes after the body.
                 if length >= after.len() {
                     return Ok(false);
                 }
@@ -73,7 +73,7 @@ fn is_read(alloc: Global, bytes: &[u8]) -> Result<bool, Fail> {
     }
 }
 
-// Whether the next random disk is read so.
+// Whether the next random disk is read as the format says.
 fn is_next_read(alloc: Global, state: &mut u64) -> Result<bool, Fail> {
     let bytes = random_disk(alloc, state)?;
     is_read(alloc, &bytes)

@@ -10,14 +10,14 @@ use std::alloc::Global;
 use std::test::Fail;
 use tests_texts::verdict::passes;
 
-// What is done to a journal with areas of 64 bytes, and the number that it has to be answered, 0 for Ok.
+// What is done to a journal with areas of 64 bytes, and the number of the right answer, 0 for Ok.
 #[derive(Clone, Copy)]
 enum Step {
-    // A body of so many bytes of this value is added.
+    // A body of this many bytes, each with this value, is added.
     Append(u8, usize, u32),
-    // All is written anew as one body, of so many bytes 1.
+    // All is written again as one body of this many bytes, each 1.
     Rewrite(usize, u32),
-    // All is written anew as no body.
+    // All is written again as no body at all.
     Clear(u32),
 }
 
@@ -62,7 +62,7 @@ fn format_and_append(rt: HostRuntime) -> Result<(), Fail> {
     passes(writes_the_row(rt.alloc()))
 }
 
-// The disk once a journal on it has a body more.
+// The disk after a journal on it was given one more body.
 fn appended(alloc: Global, disk: MemoryDisk, body: &[u8]) -> Result<MemoryDisk, Fail> {
     let mut journal = opened(alloc, disk)?;
     journal.append(alloc, body)?;
@@ -79,7 +79,7 @@ fn the_journal_goes_on_after_it_was_opened_again(rt: HostRuntime) -> Result<(), 
     passes(Ok(holds(alloc, disk, &[&[0, 0], &[1, 1], &[2, 2]])))
 }
 
-// A journal whose area A a record of 58 bytes fills, once an empty record was put in its place.
+// A record with a body of 58 bytes fills area A of a journal. Then all is written again as one empty record.
 const FULL: Step = Step::Append(7, 58, 0);
 
 const MOVED: Step = Step::Rewrite(0, 0);
@@ -89,7 +89,7 @@ fn is_moved(alloc: Global) -> Result<bool, Fail> {
     let has_one = are_bodies(journal.records(), &[&[]]);
     let mut disk = journal.into_disk();
     let is_in_b = has_parts(alloc, &mut disk, &[(0, &[1]), (80, &[0xa5, 0, 0, 0, 0, 0])])?;
-    // What stands in area A counts for nothing from then on.
+    // What area A has does not count from then on.
     Ok(has_one && is_in_b && holds(alloc, disk, &[&[]]))
 }
 
@@ -98,7 +98,7 @@ fn a_rewrite_goes_to_the_other_area(rt: HostRuntime) -> Result<(), Fail> {
     passes(is_moved(rt.alloc()))
 }
 
-// Whether the moved journal answers this as it has to, and its disk has the same bytes after it.
+// Whether the moved journal answers this step as it has to, and its disk has the same bytes after it.
 fn leaves_all(alloc: Global, step: Step) -> Result<bool, Fail> {
     let before = bytes_of(alloc, &mut played(alloc, &[FULL, MOVED])?.into_disk())?;
     let journal = played(alloc, &[FULL, MOVED, step])?;

@@ -1,4 +1,4 @@
-// A disk of any size that keeps a few of its bytes alone. It is not honest: of what it reads nothing is promised.
+// A disk of any size that keeps only a few of its bytes. It is not honest: nothing is promised about what it reads.
 
 ghost use Rattle.std.specs.Prelude.{false, ◌≡◌, [], ⊤};
 ghost use Rattle.std.proofs.lemmas.Bool.{false≢true};
@@ -12,7 +12,7 @@ pub struct SparseDisk {
 }
 
 impl SparseDisk {
-    /// A disk of that size with these bytes at these offsets. A read gives 0 where none is kept.
+    /// A disk of that size with these bytes at these offsets. A read gives 0 for each other byte.
     pub fn new(kept: Vec<(usize, u8)>, size: usize) -> SparseDisk {
         SparseDisk { kept, size }
     }
@@ -23,7 +23,7 @@ impl SparseDisk {
     }
 }
 
-// The bytes from that offset on, 0 where none is kept.
+// The bytes from that offset on, 0 for each that is not kept.
 fn recall(kept: &[(usize, u8)], offset: usize, buffer: &mut [u8]) {
     buffer.fill(0);
     for (at, byte) in kept {
@@ -34,7 +34,7 @@ fn recall(kept: &[(usize, u8)], offset: usize, buffer: &mut [u8]) {
     }
 }
 
-// Sets those that are kept.
+// Sets those of these bytes that are kept.
 fn keep(kept: &mut [(usize, u8)], offset: usize, bytes: &[u8]) {
     for (at, byte) in kept.iter_mut() {
         let i = at.wrapping_sub(offset);

@@ -1,4 +1,4 @@
-// Every point of failure of format, open and two appends, in each mode, and a crash after it.
+// Every point of failure of format, open and two appends, in each mode, and a crash after each.
 
 use crate::helpers::{AREA, SIZE, are_bodies};
 use cc_disk::{FuseDisk, FuseMode, MemoryDisk};
@@ -23,7 +23,7 @@ struct Reached {
     kept: usize,
 }
 
-// Formats, opens and appends until the device fails, and goes on as far as it can.
+// Formats, opens and appends until the device fails, and then goes on as far as possible.
 fn run(alloc: Global, passes: u64, mode: FuseMode) -> Result<(MemoryDisk, Reached), Fail> {
     let mut fuse = FuseDisk::new(MemoryDisk::new(alloc, SIZE)?, passes, mode);
     let mut reached = Reached {
@@ -46,7 +46,7 @@ fn run(alloc: Global, passes: u64, mode: FuseMode) -> Result<(MemoryDisk, Reache
     Ok((journal.into_disk().into_disk(), reached))
 }
 
-// Whether what is recovered is a prefix of what was begun that holds all that was kept.
+// Whether what is recovered is a prefix of what was begun, and holds all that was kept.
 fn is_right(alloc: Global, disk: MemoryDisk, reached: Reached) -> bool {
     match Journal::open(alloc, disk) {
         Ok(journal) => {
@@ -62,7 +62,7 @@ fn is_right(alloc: Global, disk: MemoryDisk, reached: Reached) -> bool {
     }
 }
 
-// Whether the disk is right where this many calls pass before the fuse, and each crash leaves it so.
+// Whether the disk is right if this many calls pass before the fuse is met, and stays so after each crash.
 fn survives(alloc: Global, passes: u64, mode: FuseMode) -> Result<bool, Fail> {
     let (disk, reached) = run(alloc, passes, mode)?;
     for byte in [0x00u8, 0xa5, 0xff] {

@@ -5,7 +5,7 @@ use std::alloc::{AllocError, Global};
 /// A part of a text, and how often it is repeated.
 pub type Part<'a> = (&'a str, usize);
 
-/// Appends a part to a text, this many times.
+/// Appends a part to a text `times` times.
 pub fn append(text: &mut Vec<u8>, part: &str, times: usize) -> Result<(), AllocError> {
     for _ in 0..times {
         text.extend_from_slice(part.as_bytes())?;
@@ -23,7 +23,7 @@ pub fn main_of(writes: usize, reads: usize) -> [Part<'static>; 4] {
     ]
 }
 
-/// The text of these parts.
+/// The text that consists of these parts.
 pub fn text_of(alloc: Global, parts: &[Part<'_>]) -> Result<Vec<u8>, AllocError> {
     let mut text = Vec::new(alloc);
     for (part, times) in parts {

@@ -6,7 +6,7 @@ use std::test::Fail;
 
 /// A stage that translates a text to functions of its language.
 pub trait Stage {
-    /// Whether each function of a text can be translated, and there are this many.
+    /// Whether each function of a text can be translated, and the text has `functions` of them.
     fn all_go_through(alloc: Global, text: &[u8], functions: usize) -> Result<bool, Fail>;
 
     /// The text of one function in the stage's language, or `None` if it cannot be translated.

@@ -2,7 +2,7 @@
 
 use std::io::{self, ErrorKind, Read, Write};
 
-/// Gives these bytes, and then fails.
+/// A reader that gives these bytes, and then fails.
 #[derive(Drop)]
 pub struct FailsBehind {
     pub bytes: &'static [u8],
@@ -17,7 +17,7 @@ impl Read for FailsBehind {
     }
 }
 
-/// Refuses every write.
+/// A writer that refuses every write.
 #[derive(Drop)]
 pub struct Refuses;
 

@@ -16,7 +16,7 @@ int main(void){
 }
 ";
 
-// Texts, inputs a line, whether there is one, and what is printed.
+// Texts, inputs (one on each line), whether there is only one, and what is printed.
 static COVERED: [(&str, &str, bool, &str); 3] = [
     (
         SUMS,

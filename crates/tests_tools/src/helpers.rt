@@ -18,7 +18,7 @@ pub(crate) fn texts_of(
     Ok(texts)
 }
 
-/// Nobody reads explanations.
+/// Explanations that nobody reads.
 pub(crate) fn nobody(alloc: Global) -> Telling<Vec<u8>> {
     Telling {
         errors: Vec::new(alloc),

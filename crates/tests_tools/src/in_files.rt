@@ -31,7 +31,7 @@ fn names(alloc: Global) -> Result<Vec<String>, AllocError> {
     Ok(names)
 }
 
-// What `trace` prints of it on one word.
+// What `trace` prints for that program on one word.
 fn trace(rt: &HostRuntime, word: u32) -> Result<Vec<u8>, AllocError> {
     let alloc = rt.alloc();
     let names = names(alloc)?;
@@ -54,7 +54,7 @@ fn traces_files(rt: HostRuntime) {
     assert!(rt; is_there && same);
 }
 
-// What `cover` prints of it on one word.
+// What `cover` prints for that program on one word.
 fn cover(rt: &HostRuntime, word: u32) -> Result<Vec<u8>, AllocError> {
     let alloc = rt.alloc();
     let names = names(alloc)?;

@@ -22,7 +22,7 @@ fn prints<H: AllocGlobal>(
     found == status && written.as_slice() == lines.as_bytes()
 }
 
-// Texts, what `check` prints of them, and the status.
+// Texts, what `check` prints for them, and the status.
 static CHECKED: [(&[(&str, &str)], &str, u8); 7] = [
     (
         &[("-", "int main(void){}")],

@@ -1,5 +1,5 @@
-//! Tests of what the program shows tools and people of a run or an answer: objects of JSON, the newest things of a run, how often each line is
-//! reached, which calls are open. Expected texts were written by hand from `docs/JSON.md`, `docs/LANGUAGE.md` and the programs.
+//! Tests of what the program shows to tools and people about a run or an answer: objects of JSON, the newest things of a run, how often each
+//! line is reached, which calls are open. Expected texts were written by hand from `docs/JSON.md`, `docs/LANGUAGE.md` and the programs.
 #![tactic(auto)]
 
 #[cfg(test)]

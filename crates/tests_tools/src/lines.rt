@@ -55,7 +55,8 @@ static ANSWERS: [(&[u8], &str); 14] = [
     ),
 ];
 
-// Lines of explanations, and the object of each; nothing for a line that shows the text or that a fault has already.
+// Lines of explanations, and the object of each; nothing for a line that shows the text, or that the object of a fault already
+// has.
 static TOLD: [(&[u8], &str); 5] = [
     (
         b"-:4:2: 'totl' is not declared: did you mean 'total'?",

@@ -10,7 +10,7 @@ int g(int i,int j){int k;for(k=0;k<j;k=k+1)f(k);return f(i);}
 int main(void){return g(0-1,2);}
 ";
 
-// Texts, why their runs go wrong, the message of that, and that of each open call, with the offsets.
+// Texts, why their runs go wrong, the message for that, and the message for each open call, with the offsets.
 static OPEN: [(&str, Cause, usize, &str, &[(usize, &str)]); 3] = [
     (
         NESTED,

@@ -1,5 +1,5 @@
-// Allocations that are wrong or only differently spelled: one with two operands exchanged, one with each of its bytes changed, and each
-// prefix of its bytes.
+// Allocations that are wrong, or are only spelled differently: one with two operands exchanged, one with each of its bytes
+// changed, and each prefix of its bytes.
 
 use super::changes::{Change, changed};
 use super::pairs::{pair_of, unit_of};
@@ -15,7 +15,8 @@ use std::test::Fail;
 use tests_texts::verdict::passes;
 use tests_texts::worked::LONG;
 
-// The place of the first operation with two operands, and that operation with them exchanged; `None` if there is none.
+// The place of the first operation with two operands, and that operation with its operands exchanged; `None` if there is no
+// such operation.
 fn exchanged(ltl: &Ltl) -> Option<(usize, Operation)> {
     for (place, block) in ltl.blocks().iter().enumerate() {
         if let Operation::Binary {
@@ -39,7 +40,8 @@ fn exchanged(ltl: &Ltl) -> Option<(usize, Operation)> {
     None
 }
 
-// With its operands exchanged the operation is refused with 24, and the pair that comes back is accepted with the unchanged allocation.
+// Whether the operation with its operands exchanged is refused with 24, and the pair that comes back is accepted with the
+// unchanged allocation.
 fn difference_is_guarded(alloc: Global) -> Result<bool, Fail> {
     let unit = unit_of(alloc, DIFFERENCE.as_bytes())?;
     let pair = pair_of(alloc, &unit, 0)?;
@@ -64,7 +66,7 @@ fn exchanged_operands_are_refused(rt: HostRuntime) -> Result<(), Fail> {
     passes(difference_is_guarded(rt.alloc()))
 }
 
-// Bytes are not a function, or are one that is refused, or one that is accepted: then the RTL to ask with again. `None` for any other
+// The RTL for the next try, if the bytes spell no function, or one that is refused, or one that is accepted. `None` for any other
 // answer.
 fn answered(
     alloc: Global,
@@ -90,7 +92,7 @@ fn answered(
     }
 }
 
-// Tries every value of the byte at a place.
+// Tries every value of the byte at a place. Returns as `answered` does.
 fn place_answered(
     alloc: Global,
     unit: &Arc<TypedUnit>,
@@ -118,7 +120,8 @@ fn place_answered(
     Ok(left)
 }
 
-// Tries every value of one byte in `one_in` of a function's allocation, beginning at `first`.
+// Tries every value of one byte in every `one_in` bytes of a function's allocation, beginning with the byte `first`; of each byte
+// if `one_in` is 0.
 fn are_answered(
     alloc: Global,
     text: &str,
@@ -142,7 +145,7 @@ fn are_answered(
     Ok(left.is_some())
 }
 
-// Each proper prefix of the bytes of a function's allocation is refused with 37.
+// Whether each proper prefix of the bytes of a function's allocation is refused with 37.
 fn are_prefixes_refused(alloc: Global, text: &str, function: usize) -> Result<bool, Fail> {
     let unit = unit_of(alloc, text.as_bytes())?;
     let ltl = spill_all(alloc, pair_of(alloc, &unit, function)?.code())?;

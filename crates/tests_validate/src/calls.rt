@@ -1,5 +1,5 @@
-// Where a value may be kept while another function runs. By the standard calling convention of RISC-V a call keeps x8, x9 and x18 to x27
-// (s0 to s11), and every other register is lost.
+// Where a value may be kept while another function runs. By the standard calling convention of RISC-V, a call keeps x8, x9 and
+// x18 to x27 (s0 to s11); the words of all other registers are lost.
 
 use super::changes::as_moves;
 use super::pairs::{pair_of, unit_of};
@@ -10,14 +10,14 @@ use std::alloc::Global;
 use std::test::Fail;
 use tests_texts::verdict::passes;
 
-// Function 1 needs its parameter again, once after a call and once without a call.
+// Function 1 needs its parameter again: in one text after a call, in the other without a call.
 static BEHIND_A_CALL: &str = "int g(void){return 7;}int f(int x){g();return x;}int main(void){}";
 
 static WITHOUT_A_CALL: &str = "int g(void){return 7;}int f(int x){return x;}int main(void){}";
 
 static KEPT: [u8; 12] = [8, 9, 18, 19, 20, 21, 22, 23, 24, 25, 26, 27];
 
-// The move with that register in place of slot 0, which `spill_all` gives the parameter.
+// The move, with this register instead of slot 0, which `spill_all` gives the parameter.
 fn moved(each: Move, place: Register) -> Move {
     match each {
         Move::Spill { slot, from } if slot.number() == 0 => Move::Between { to: place, from },
@@ -53,7 +53,8 @@ fn in_register(alloc: Global, spilled: &Ltl, place: Register) -> Result<Ltl, Fai
     }
 }
 
-// Whether the validator gives this answer (a fault's number, or 0) for the function whose parameter is in a register all the time.
+// Whether the validator gives this answer (a fault's number, or 0) for function 1 if its parameter is in this register all the
+// time.
 fn is_answered(alloc: Global, text: &str, place: Register, wanted: u32) -> Result<bool, Fail> {
     let unit = unit_of(alloc, text.as_bytes())?;
     let pair = pair_of(alloc, &unit, 1)?;
@@ -65,7 +66,8 @@ fn is_answered(alloc: Global, text: &str, place: Register, wanted: u32) -> Resul
     }
 }
 
-// Whether a value in that register is accepted across a call exactly if calls keep the register, and is always accepted without a call.
+// Whether a value in the register with this number is accepted across a call exactly if calls keep the register, and is always
+// accepted without a call.
 fn is_kept_or_not(alloc: Global, number: u8) -> Result<bool, Fail> {
     let Some(place) = Register::new(number) else {
         return Ok(false);

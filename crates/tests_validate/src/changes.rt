@@ -1,5 +1,5 @@
-// Single changes of a function of LTL: one register, slot, successor, operator, constant or number of one operation or move is replaced by
-// another, or one move is dropped or made twice.
+// Single changes of a function of LTL: one register, slot, successor, operator, constant or number in one operation or move is
+// replaced with another, or one move is dropped or made twice.
 
 use cc_ltl::{Block, Ltl, Move, Moves, Operation, Register, Slot};
 use cc_words::{Binary, Unary, Width};
@@ -54,7 +54,7 @@ fn other_binary(operator: Binary) -> Binary {
     }
 }
 
-/// A change of a move, by its number, if it has that many: two of what it sets, two of what it reads.
+/// The change of a move with this number, if there is one: two change what the move sets, and two change what it reads.
 pub fn changed_move(each: &Move, slots: u16, number: u32) -> Option<Move> {
     if number > 3 {
         return None;
@@ -77,7 +77,7 @@ pub fn changed_move(each: &Move, slots: u16, number: u32) -> Option<Move> {
     }
 }
 
-// A part of an operation, which is replaced by another if it is the one that is changed.
+// A register of an operation; another register instead, if this is the place to change.
 fn register_at(number: u32, place: u32, register: Register) -> Register {
     if number == place {
         other(register, false)
@@ -123,7 +123,7 @@ pub fn operation_changes(operation: &Operation) -> u32 {
     }
 }
 
-/// A change of an operation, by its number, in a function with this many blocks.
+/// The change of an operation with this number, in a function with `blocks` blocks.
 pub fn changed_operation(operation: &Operation, blocks: u32, number: u32) -> Operation {
     match *operation {
         Operation::Unary {
@@ -221,8 +221,8 @@ fn changed_plain(operation: Operation, blocks: u32, number: u32) -> Operation {
     }
 }
 
-/// A list of moves with one change: the change with this number of the move at a place, or that move dropped or made twice. `None` if there
-/// is no change with that number.
+/// A list of moves with one change. The move at `place` gets the change with this number, or it is dropped or made twice.
+/// `None` if there is no change with that number.
 pub fn changed_moves(
     alloc: Global,
     moves: &[Move],
@@ -247,7 +247,7 @@ pub fn changed_moves(
     Ok(Some(changed))
 }
 
-/// These as the moves of a block, if there are not too many.
+/// These moves as the moves of a block, if there are not too many.
 pub fn as_moves(moves: Vec<Move>) -> Result<Moves, Fail> {
     match Moves::new(moves) {
         Ok(moves) => Ok(moves),
@@ -258,7 +258,7 @@ pub fn as_moves(moves: Vec<Move>) -> Result<Moves, Fail> {
     }
 }
 
-/// What one block becomes: another operation, or other moves before or after it.
+/// What is changed in a block: its operation, or its moves before or after it.
 #[derive(Drop)]
 pub enum Change {
     Operation(Operation),
@@ -283,7 +283,7 @@ fn changed_block(alloc: Global, block: &Block, change: Change) -> Result<Block, 
     })
 }
 
-/// The function with the block at a place changed. `None` if the result is not a function.
+/// The function with the block at `place` changed. `None` if the result is not a function.
 pub fn changed(
     alloc: Global,
     ltl: &Ltl,

@@ -4,7 +4,7 @@ use super::world::{Next, Stop, World};
 use cc_rtl::{Node, RtlPair};
 use std::alloc::{AllocError, Global};
 
-/// The words of registers, 0 for each that was never written.
+/// The words of registers: 0 for each register that was never written.
 #[derive(Drop)]
 struct Registers {
     words: Vec<u32>,
@@ -29,7 +29,7 @@ impl Registers {
     }
 }
 
-/// Runs a function for at most this many nodes, with at most this many open calls.
+/// Runs a function for at most 600 nodes, with at most `open` open calls.
 #[cycle(graphs)]
 pub fn run_graph(
     alloc: Global,

@@ -1,6 +1,7 @@
-//! Tests of the validator from outside: every single change of an allocation is refused, or makes no difference that small interpreters of
-//! RTL and LTL see. `texts` has the functions, `graph` and `located` the two interpreters, `world` what they share, `changes` the changes.
-//! `calls` tests which registers keep a value across a call, and `turns` few and many moves that turn words round.
+//! Tests of the validator from outside: each single change of an allocation is refused, or makes no difference that small
+//! interpreters of RTL and LTL see. `texts` has the functions, `graph` and `located` are the two interpreters, `world` is what
+//! they share, and `changes` makes the changes. `calls` tests which registers keep a value across a call, and `turns` tests few
+//! and many moves that pass words round.
 //!
 //! `colour` tests the allocator, with the validator as its judge, and `linear` tests what becomes of validated code.
 #![tactic(auto)]

@@ -1,5 +1,5 @@
-// A small interpreter of LTL. The words that a call, a read or a write leaves in what it destroys, and those that are anywhere at the
-// entry, come from a list that the caller chooses by a seed.
+// A small interpreter of LTL. The words that a call, a read or a write leaves in what it destroys, and the words that are
+// anywhere at the entry, come from a list that the caller chooses with a seed.
 
 use super::graph::run_graph;
 use super::world::{Next, Stop, World};
@@ -38,7 +38,7 @@ impl Places {
         Ok(places)
     }
 
-    // The next word of the list: zeros, ones, or others.
+    // The next word of the list: zeros only, ones only, or other words.
     fn next_unknown(&mut self) -> u32 {
         self.unknown = self.unknown.wrapping_add(1);
         match self.seed {
@@ -127,7 +127,7 @@ fn block_at(ltl: &Ltl, label: u32) -> Option<&Block> {
     }
 }
 
-/// Runs LTL for at most this many blocks; a function that it calls runs as RTL.
+/// Runs LTL for at most 600 blocks; a function that it calls runs as RTL.
 pub fn run_located(
     alloc: Global,
     program: &[RtlPair],

@@ -1,4 +1,4 @@
-// Every single change of an allocation is refused or harmless.
+// Each single change of an allocation is refused or harmless.
 
 use super::changes::{Change, changed, changed_moves, changed_operation, operation_changes};
 use super::graph::run_graph;
@@ -16,8 +16,8 @@ use std::sync::Arc;
 use std::test::Fail;
 use tests_texts::verdict::each_passes;
 
-// Whether two runs on the same input, of RTL and of LTL with these unknown words, stop in the same way and leave the same world. If the RTL
-// goes wrong, the LTL may do anything.
+// Whether two runs on the same input, of RTL and of LTL with these unknown words, stop in the same way and leave the same
+// world. If the RTL goes wrong, the LTL may do anything.
 fn runs_alike(
     alloc: Global,
     program: &[RtlPair],
@@ -43,7 +43,7 @@ fn runs_alike(
     Ok(stop == other && here.is_same(&there))
 }
 
-// Whether that is so on ten inputs, with three lists of unknown words.
+// Whether the runs are alike in this way on ten inputs, with three lists of unknown words.
 fn is_harmless(
     alloc: Global,
     program: &[RtlPair],
@@ -68,7 +68,7 @@ struct Counts {
     harmless: u32,
 }
 
-// The function that is changed, its unit, and the RTL of all of the unit's functions.
+// The function that is changed, its unit, and the RTL of all the unit's functions.
 #[derive(Drop)]
 struct Subject {
     unit: Arc<TypedUnit>,
@@ -79,7 +79,7 @@ struct Subject {
 }
 
 impl Subject {
-    // Whether one changed function is refused or harmless.
+    // Whether a changed function is refused or harmless.
     fn is_right(&mut self, alloc: Global, changed: Option<Ltl>) -> Result<bool, Fail> {
         let Some(ltl) = changed else {
             return Ok(true);
@@ -165,7 +165,7 @@ impl Subject {
         self.operation_is_guarded(alloc, ltl, place, &block.operation)
     }
 
-    // Tries each change of each block; of a long function only of every sixteenth block, since a test has sixty seconds.
+    // Tries each change of each block; for a long function only of every sixteenth block, since a test has sixty seconds.
     fn is_guarded(&mut self, alloc: Global) -> Result<bool, Fail> {
         let pair = pair_of(alloc, &self.unit, self.function as usize)?;
         let ltl = spill_all(alloc, pair.code())?;
@@ -212,7 +212,7 @@ fn allocations_that_spill_all_are_right(rt: HostRuntime) -> Result<(), Fail> {
     each_passes(rt.alloc(), FUNCTIONS.as_slice(), is_right_at_first)
 }
 
-// Whether every change of a function is refused or harmless, and at least one is refused.
+// Whether each change of a function is refused or harmless, and at least one is refused.
 fn is_guarded(alloc: Global, row: &Function) -> Result<bool, Fail> {
     let mut held = subject_of(alloc, row.0, row.1, row.2)?;
     let right = held.is_guarded(alloc)?;

@@ -69,8 +69,8 @@ pub static FUNCTIONS: [Function; 17] = [
     ),
 ];
 
-/// The function of the difference.
+/// The function that subtracts.
 pub static DIFFERENCE: &str = "int f(int a,int b){return a-b;}int main(void){}";
 
-/// The function of three nodes.
+/// A function of three nodes.
 pub static EMPTY: &str = "int main(void){}";

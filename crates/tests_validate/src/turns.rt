@@ -1,4 +1,4 @@
-// Words that are turned round through three slots, by few moves and by more than there are locations.
+// Words that are passed round through three slots, by few moves and by more moves than there are locations.
 
 use super::changes::{Change, changed};
 use super::pairs::{pair_of, unit_of};
@@ -25,7 +25,8 @@ fn slot(number: u16) -> Result<Slot, Fail> {
     }
 }
 
-// Parameter i goes to slot i + shift, of slots 0 to 2 in a ring; then, this many times, each of the three words goes to the slot below.
+// Parameter i goes to slot i + shift, in a ring of slots 0 to 2. Then each of the three words goes to the slot below, `turns`
+// times.
 fn turned(alloc: Global, shift: u16, turns: u32) -> Result<Vec<Move>, Fail> {
     let mut moves = Vec::new(alloc);
     for number in 0..3u8 {
@@ -72,7 +73,8 @@ fn entry_place(ltl: &Ltl) -> usize {
     ltl.blocks().len()
 }
 
-// Whether the validator accepts the moves if they bring the parameters back to their own slots, and otherwise refuses them with 24.
+// Whether the validator accepts the moves if they bring the parameters back to their own slots, and otherwise refuses them with
+// 24.
 fn is_answered(alloc: Global, turns: u32, shift: u16) -> Result<bool, Fail> {
     let wanted = if turns % 3 == u32::from(shift) { 0 } else { 24 };
     let unit = unit_of(alloc, TEXT.as_bytes())?;
@@ -88,7 +90,7 @@ fn is_answered(alloc: Global, turns: u32, shift: u16) -> Result<bool, Fail> {
     }
 }
 
-// The same at each shift.
+// Whether this holds at each shift.
 fn are_answered(alloc: Global, turns: &u32) -> Result<bool, Fail> {
     Ok(
         is_answered(alloc, *turns, 0)?

@@ -1,4 +1,4 @@
-// What an interpreter shares with the functions that it calls: one object of words, the input, the output.
+// What an interpreter shares with the functions that it calls: one object of words, the input, and the output.
 
 use cc_words::Width;
 use std::alloc::{AllocError, Global};
@@ -11,7 +11,7 @@ pub enum Stop {
     Going,
 }
 
-/// Where a run goes from one node or block, or how it ends there.
+/// The node or block that a run goes to, or how the run ends.
 #[derive(Clone, Copy)]
 pub enum Next {
     To(u32),
@@ -26,7 +26,7 @@ pub struct World {
     output: Vec<u32>,
 }
 
-// Some word, by a seed and a number.
+// Some word, chosen by a seed and a number.
 fn word(seed: u32, number: u32) -> u32 {
     if seed == 0 {
         number
@@ -36,7 +36,7 @@ fn word(seed: u32, number: u32) -> u32 {
 }
 
 impl World {
-    /// A world whose object has this many words; the seed chooses these words and those of the input.
+    /// A world whose object has `words` words; the seed chooses them, and the words of the input.
     pub fn new(alloc: Global, words: u32, seed: u32) -> Result<World, AllocError> {
         let mut object = Vec::new(alloc);
         for number in 0..words {
@@ -50,7 +50,7 @@ impl World {
         })
     }
 
-    /// An element; `None` if there is no such element or the access has another width.
+    /// An element; `None` if there is no such element, or if the access has another width.
     pub fn element(&self, width: Width, object: u32, index: u32) -> Option<u32> {
         match width {
             Width::Word if object == 0 => self.object.as_slice().get(index as usize).copied(),
@@ -58,7 +58,7 @@ impl World {
         }
     }
 
-    /// Sets an element, and answers whether there is one.
+    /// Sets an element, and returns whether there is such an element.
     pub fn store(&mut self, width: Width, object: u32, index: u32, word: u32) -> bool {
         if object != 0 || matches!(width, Width::Byte) {
             return false;
@@ -82,7 +82,7 @@ impl World {
         Ok(())
     }
 
-    /// Whether two worlds have the same object and output, and have taken the same number of inputs.
+    /// Whether two worlds have the same object and output, and have taken the same number of input words.
     pub fn is_same(&self, other: &World) -> bool {
         self.taken == other.taken
             && self.object.as_slice() == other.object.as_slice()

@@ -1,4 +1,4 @@
--- What a row holds: nothing if it has no word, and nothing past its end.
+-- What a row holds: nothing if it has no words, and nothing past its end.
 use Rattle.std.proofs.Common.{◌≡◌, ℕ, ◌*◌, ◌/◌, ◌%◌, ◌<◌, ◌≤◌, List, [], length, ap, ◌∙◌, Bool, ◌==◌, ◌||◌, ◌&&◌, nat_lt, false, refl, IsTrue, arith, inl, inr, max, zero, suc}
 use Rattle.std.specs.Int.{bit_at}
 use Rattle.std.specs.Int.RustNames.{bit_or}
@@ -7,7 +7,7 @@ use Rattle.std.proofs.lemmas.Bool.{cases_lt}
 use Rattle.std.proofs.lemmas.List.{get_or_past}
 use Rattle.cc_bits.specs.Rows.{holds, key}
 
--- bit c of row r, where rows have this many words
+-- bit c of row r, if each row has `width` words
 abbrev pub bit : (width : ℕ) → (words : List ℕ) → (r c : ℕ) → Bool
 bit width words r c = nat_lt c (64 * width) && holds words (key width r c)
 

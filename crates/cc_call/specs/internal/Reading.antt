@@ -13,13 +13,13 @@ abbrev pub IsNextLine : (before after : Option (List ℕ)) (line : List ℕ) →
 IsNextLine before after line true = IfSome before (λ input. (input ≢ []) × (line ≡ take_through 10 input) × (after ≡ Some (drop_through 10 input)))
 IsNextLine before after line false = IfSome before (λ input. input ≡ [])
 
--- the line of 53 or of 40 was written, or could not be
+-- the line for 53 or for 40 was written, or could not be
 abbrev pub IsToldUnread : (old new : Option (List ℕ)) → LinesEnd → Type 0
 IsToldUnread old new Refused = Appends old new (refusal_text 53) ⊎ Appends old new (refusal_text 40)
 IsToldUnread old new Unwritten = Unit {0}
 IsToldUnread old new Answered = ⊥
 
--- how the lines so far end with one more; none if no other follows it
+-- how the lines end when one more is added; none if no other may follow it
 abbrev pub end_after : LinesEnd → LineEnd → Option LinesEnd
 end_after end line.Answered = Some end
 end_after end line.BadLine = Some Refused

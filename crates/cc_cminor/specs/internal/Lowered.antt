@@ -2,7 +2,7 @@
 use Rattle.std.specs.Prelude.{◌≡◌, ℕ, List}
 use Rattle.cc_ast.specs.Tree.{External}
 use Rattle.cc_resolve.specs.Layout.{layout_of}
-use Rattle.cc_c_laws.specs.Resolved.{IsResolved}
+use Rattle.cc_c_semantics.specs.Resolved.{IsResolved}
 use Rattle.cc_cminor.specs.Cminor.{Statement}
 use Rattle.cc_cminor.specs.internal.Lowering.{body_code}
 

@@ -113,7 +113,7 @@ abbrev pub is_zero_test : unary.Unary → Bool
 is_zero_test one.IsZero = true
 is_zero_test op = false
 
--- an expression whose value is always 0 or 1, by its form
+-- an expression whose value is always 0 or 1, judging by its form
 abbrev pub is_truth : Expression → Bool
 is_truth (Unary op e) = is_zero_test op
 is_truth (Binary op a b) = is_comparison op
@@ -147,14 +147,14 @@ compared two.Eq a b = different a b
 compared two.Ne a b = different a b
 compared op a b = Binary op a b
 
--- whether it is the second of these
+-- whether the tested word is 0 exactly if the comparison is not
 abbrev pub is_opposite : binary.Binary → (right : Expression) → Bool
 is_opposite two.LeS b = not (is_constant b)
 is_opposite two.LeU b = not (is_constant b)
 is_opposite two.Eq b = true
 is_opposite op b = false
 
--- the same for any expression
+-- what a branch on any expression tests
 abbrev pub condition : Expression → Expression
 condition (Unary op a) = if is_zero_test op then condition a else Unary op a
 condition (Binary op a b) = compared op a b
@@ -186,7 +186,7 @@ is_strict k = false
 
 -- ---- expressions
 
--- no call, no && and ||, no conditional: it becomes one expression of Cminor
+-- the expression has no call, no && or ||, and no conditional: it becomes one expression of Cminor
 abbrev pub is_plain : Expr → Bool
 is_plain (Number t n) = true
 is_plain (Variable x) = true
@@ -271,7 +271,7 @@ abbrev mutual
       (put_expr g v k a) (put_expr g v (suc k) b) (put_expr g v k b) k
   put_expr g v k (Conditional c a b) = used (is_plain c) (plain g v c) (put_expr g v k c) k (λ x. branch x (put_expr g v k a) (put_expr g v k b))
 
-  -- puts some values into the variables from k on
+  -- puts these values into the variables from k on
   pub put_all : Layout → Environment → ℕ → Exprs → List Statement
   put_all g v k none = []
   put_all g v k (more e rest) = put_expr g v k e ∷ put_all g v (suc k) rest
@@ -328,12 +328,12 @@ started g (Performs a) v = performed_optional g v a
 
 -- ---- statements
 
--- break and continue in a loop; outside a loop the function is done
+-- break and continue in a loop; outside a loop the function ends
 abbrev pub leaving : Bool → ℕ → Statement
 leaving true i = Exit i
 leaving false i = Return (Constant 0)
 
--- a turn of a loop that tests its condition first: `continue` leaves the inner block, `break` also the one around the loop
+-- a turn of a loop that tests its condition first: `continue` leaves the inner block, `break` also leaves the one around the loop
 abbrev pub looped : (test : (Expression → Statement) → Statement) → Statement → Statement → Statement
 looped test body step = test (λ x. branch x (Sequence (Block body) step) (Exit 0))
 
@@ -342,7 +342,7 @@ abbrev pub tested : ((Expression → Statement) → Statement) → Statement
 tested test = test (λ x. branch x Skip (Exit 0))
 
 abbrev mutual
-  -- a statement, inside a loop or not
+  -- the code of a statement, inside a loop or not
   pub lowered : Layout → Bool → Environment → Stmt → Statement
   lowered g b v (tree.Block all) = in_sequence (all_lowered g b (inner v) all)
   lowered g b v (tree.Local t ds) = in_sequence (declared_code g t ds v)
@@ -363,11 +363,11 @@ abbrev mutual
   all_lowered g b v end = []
   all_lowered g b v (next first rest) = lowered g b v first ∷ all_lowered g b (behind first v) rest
 
--- the environment after a list
+-- the environment after a list of statements
 abbrev pub behind_all : Stmts → Environment → Environment
 behind_all end v = v
 behind_all (next first rest) v = behind_all rest (behind first v)
 
--- the body of a function, from the environment in which it begins
+-- the code of a function's body, from the environment in which it begins
 abbrev pub body_code : Layout → Environment → Stmts → Statement
 body_code g v body = in_sequence (all_lowered g false v body)

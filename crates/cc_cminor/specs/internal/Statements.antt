@@ -4,7 +4,7 @@ use Rattle.cc_cminor.specs.Cminor as cminor
 use Rattle.cc_cminor.specs.Code.{statement_of}
 use Rattle.cc_cminor.specs.declared.code.Statement.{Statement}
 
--- some statements
+-- the statements that a list of the code's values represents
 abbrev pub statements_of : List Statement → List cminor.Statement
 statements_of [] = []
 statements_of (s ∷ rest) = statement_of s ∷ statements_of rest

@@ -55,9 +55,9 @@ abbrev pub taken_or : Layout → Environment → ℕ → ℕ → Option Expr →
 taken_or g v k w None = at_once (Constant w)
 taken_or g v k w (Some e) = taken g v k e
 
--- ---- what is made of values
+-- ---- what is built from values
 
--- a statement after the code that precedes the value it takes
+-- a statement, after the code that has to precede the value that it takes
 abbrev pub behind_code : Option Statement → Statement → Statement
 behind_code None s = s
 behind_code (Some c) s = Sequence c s
@@ -78,7 +78,7 @@ strictly op t k None a None b = at_once (binary_of op t a b)
 strictly op t k None a (Some d) b = waiting k (Sequence (Set k a) (Sequence d (Set k (binary_of op t (Local k) b))))
 strictly op t k (Some c) a d b = waiting k (Sequence c (behind_code d (Set k (binary_of op t (Local k) b))))
 
--- `&&` and `||`: what is done if the left operand is not 0, and if it is
+-- `&&` and `||`: what runs if the left operand is not 0, and what runs if it is
 abbrev pub decided : Kind → ℕ → Expression → (second : Statement) → Statement
 decided Conjunction k a second = branch a second (Set k (Constant 0))
 decided Disjunction k a second = branch a (Set k (Constant 1)) second
@@ -96,7 +96,7 @@ abbrev pub joined : Kind → BinaryOperator → Scalar → ℕ → Option Statem
 joined Strict op t k c a d b = strictly op t k c a d b
 joined p op t k c a d b = logically p k c a d b
 
--- `?:`, given what is done if the test is not 0 and if it is
+-- `?:`, given what runs if the test is not 0 and what runs if it is
 abbrev pub conditionally : ℕ → Option Statement → Expression → (nonzero otherwise : Statement) → Taken
 conditionally k c e a b = waiting k (behind_code c (branch e a b))
 
@@ -107,12 +107,12 @@ abbrev pub above_target : Environment → Target → ℕ
 above_target v (AtVariable x) = free v
 above_target v (AtElement x i) = suc (free v)
 
--- an element is set whose index waits in variable k
+-- sets an element whose index waits in variable k
 abbrev pub element_set : Layout → Environment → ℕ → Option BinaryOperator → List ℕ → Scalar → Expression → Statement
 element_set g v k op x t e =
     Store (width_of g x) (object_of g x) (Local k) (combined op (element_type (found (types_in v) x)) t (Load (width_of g x) (object_of g x) (Local k)) e)
 
--- a target is set, with or without an operator on its old value, to a right side of a type
+-- sets a target to a right side of this type, with or without an operator on its old value
 abbrev pub assigned_to : Layout → Environment → Option BinaryOperator → Target → Scalar → Option Statement → Expression → Statement
 assigned_to g v op (AtVariable x) t c e = behind_code c (variable_set g v x.text (combined op (variable_type (found (types_in v) x.text)) t (variable_of g v x.text) e))
 assigned_to g v op (AtElement x i) t c e = Sequence (put_expr g v (free v) i) (behind_code c (element_set g v (free v) op x.text t e))

@@ -5,7 +5,7 @@ use Rattle.cc_library.specs.declared.fault.LibraryFault.TheVariants.{Exists, Abs
 use Rattle.cc_library.specs.Apply.{Units}
 use Rattle.cc_copy.specs.Copy.{room_for}
 
--- 34 only if they do not fit the area, 35 if the device failed, else memory ran out
+-- 34 only if the records do not fit in the area, 35 if the device failed, else memory ran out
 abbrev pub WriteFaults : (area : ℕ) → Units → (before after : ℕ) → LibraryFault → Type 0
 WriteFaults area units before after Full = (area < room_for units) × (after ≡ before)
 WriteFaults area units before after DiskFault = (room_for units ≤ area) × (after ≡ before + 1)

@@ -1,4 +1,4 @@
--- What opening a disk finds, and what a run begins with there.
+-- What is found when a disk is opened, and what a run begins with there.
 use Rattle.std.specs.Prelude.{◌≡◌, ℕ, List, length}
 use Rattle.cc_disk.specs.Model.{bytes_of, IsImage}
 use Rattle.cc_disk.specs.Images.{LeavesAlone}
@@ -14,7 +14,7 @@ pub record IsFound (image : List ℕ) (area : ℕ) (bodies : List (List ℕ)) (l
   pub stand : StandFor bodies library
   pub used_is : used ≡ length (records bodies)
 
--- the disk has these bytes, all settled, and the rest follows from them
+-- the disk has these bytes, all of them settled; the rest of what was opened follows from these bytes
 pub record IsOpenedAt (image : List ℕ) (opened : Opened) : Type 0 where
   pub bytes : bytes_of opened.store.cells ≡ image
   pub alone : LeavesAlone (bytes_of opened.store.cells) (IsImage opened.store.cells)

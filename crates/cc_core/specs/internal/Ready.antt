@@ -5,8 +5,8 @@ use Rattle.cc_disk.specs.Model.{bytes_of, IsImage}
 use Rattle.cc_disk.specs.Images.{LeavesAlone}
 use Rattle.cc_journal.specs.Commit.{Commit}
 use Rattle.cc_journal.specs.Format.{HoldsAlone, room_of}
-use Rattle.cc_library.specs.declared.command.LibraryCommand.{LibraryCommand}
-use Rattle.cc_library.specs.declared.command.LibraryCommand.TheVariants.{Add, Replace, Withdraw}
+use Rattle.cc_library.specs.Change.{LibraryCommand}
+use Rattle.cc_library.specs.declared.command.Change.TheVariants.{Add, Replace, Withdraw}
 use Rattle.cc_library.specs.Apply.{Units, AreAccepted, library_of}
 use Rattle.cc_library.specs.Body.{body_of}
 use Rattle.cc_library.specs.Compact.{compacted}
@@ -21,7 +21,7 @@ use Rattle.cc_core.specs.Step.{commands}
 use Rattle.cc_core.specs.StoreState.{StoreState}
 use Rattle.cc_core.specs.Store.{room_taken}
 
--- the record of this command fits the area
+-- the record of this command fits in the area
 abbrev pub IsFitting : StoreState → LibraryCommand → Type 0
 IsFitting store command = (room_taken store (body_of command) ≤ store.area) × (store.area ≤ 2 ^ 30)
 
@@ -33,7 +33,7 @@ HasRoom WriteGate store command = IsFitting store command
 HasRoom SyncGate store command = IsFitting store command
 HasRoom Acknowledge store command = Unit {0}
 
--- this library is that of the order, or of the order without its last command
+-- this is the library of the order, or of the order without its last command
 abbrev pub IsOfOrder : Units → List Numbered → Type 0
 IsOfOrder library order =
     (library ≡ library_of (commands order))
@@ -54,13 +54,13 @@ pub record IsWithin (commit : Commit) (store : StoreState) : Type 0 where
   pub first : commit.offset + length commit.bytes ≤ length store.cells
   pub second : commit.deciding_offset + 1 ≤ length store.cells
 
--- both writes of a rewrite do, it writes at least a closed gate, and everything fits an area
+-- both writes of a rewrite lie within the disk, the first one has at least a closed gate, and everything fits in an area
 pub record IsRewrite (commit : Commit) (store : StoreState) : Type 0 where
   pub within : IsWithin commit store
   pub some : 1 ≤ length commit.bytes
   pub room : length commit.bytes ≤ store.area
 
--- what the phase needs of the other parts
+-- what each phase needs of the other parts of the state
 abbrev pub IsReadyIn : Phase → Units → StoreState → List Numbered → Type 0
 IsReadyIn Idle library store order = room_of (compacted library) ≤ store.area
 IsReadyIn (Committing client numbered due) library store order = HasRoom due store numbered.command
@@ -68,17 +68,17 @@ IsReadyIn (Rewriting commit due) library store order = IsRewrite commit store
 IsReadyIn (Failed failed) library store order = Unit {0}
 IsReadyIn Crashed library store order = IsRecoverable store order
 
--- what a step needs
+-- what a step needs of the state
 abbrev pub IsReady : Core → Type 0
 IsReady s = IsReadyIn s.phase s.library s.store s.order
 
--- the library is as the command leaves it
+-- the command is in effect: the library is as the command leaves it
 abbrev pub IsInEffect : Units → LibraryCommand → Type 0
 IsInEffect library (Add name unit) = get library name ≡ Some unit
 IsInEffect library (Replace name unit) = get library name ≡ Some unit
 IsInEffect library (Withdraw name) = get library name ≡ None
 
--- the order is kept if its last command is in effect, or if it is empty; else all but the last command are kept
+-- the whole order is kept if it is empty or its last command is in effect; else all but the last command are kept
 abbrev pub IsPrefixKept : Units → List Numbered → List Numbered → Type 0
 IsPrefixKept library old new =
     ((new ≡ old) × ((prefix : List Numbered) (last : Numbered) → old ≡ prefix ++ last ∷ [] → IsInEffect library last.command))

@@ -1,11 +1,11 @@
--- One commit on a new disk, computed: each state is the one that its step names. Then what a crash in the middle of the gate's write leaves
--- of the disk: the record if the gate was opened, and no record before that.
+-- One commit on a new disk, computed; each state is the one that its step names. The last two show what a crash during the gate's
+-- write leaves on the disk: the record if the gate was opened, otherwise no record.
 use Rattle.std.specs.Prelude.{◌≡◌, [], ◌∷◌, ◌++◌, drop, map, replicate, Some, None, Ok, refl}
 use Rattle.std.specs.FinMap.{empty}
 use Rattle.cc_disk.specs.Model.{bytes_of, settled}
 use Rattle.cc_journal.specs.Format.{header, records}
-use Rattle.cc_library.specs.declared.command.LibraryCommand.{LibraryCommand}
-use Rattle.cc_library.specs.declared.command.LibraryCommand.TheVariants as command
+use Rattle.cc_library.specs.Change.{LibraryCommand}
+use Rattle.cc_library.specs.declared.command.Change.TheVariants as command
 use Rattle.cc_library.specs.Apply.{after}
 use Rattle.cc_library.specs.Body.{body_of}
 use Rattle.cc_core.specs.declared.command.Numbered.{Numbered}
@@ -24,7 +24,7 @@ client = record { number = 2 }
 abbrev pub adds : LibraryCommand
 adds = command.Add (0x61 ∷ []) (record { source = 0x74 ∷ 0x77 ∷ 0x6f ∷ []; image = record { code = 19 ∷ []; globals = [] }; certificate = None })
 
--- on a new disk with areas of 64 bytes
+-- the beginning: a new disk with areas of 64 bytes
 abbrev pub start : Core
 start = record {
   library = empty;
@@ -68,11 +68,11 @@ one_commit = (
   record { numbered = first; committing = refl; done = refl; new_is = refl },
 )
 
--- the record takes 28 bytes, and a closed gate is after it
+-- the record takes 28 bytes, and is followed by a closed gate
 pub on_disk : (bytes_of done.store.cells ≡ header 0 64 ++ (records (body_of adds ∷ []) ++ (0 ∷ replicate 99 0))) × (done.store.used ≡ 28)
 on_disk = (refl, refl)
 
--- a crash within the write of the gate that leaves it open, and one that leaves it closed
+-- what is on the disk if a crash during the write of the gate leaves it open, and if it leaves it closed
 pub behind_the_gate : bytes_of (crashed_store (replicate 144 0xa5) gate_written.store).cells ≡ header 0 64 ++ (records (body_of adds ∷ []) ++ (0 ∷ replicate 99 0))
 behind_the_gate = refl
 

@@ -1,5 +1,5 @@
--- The device steps of a rewrite after one commit, computed: the bytes that the disk has then, and what a crash within the write of the area
--- byte leaves.
+-- The device steps of a rewrite after one commit, computed: the bytes that are then on the disk, and what a crash during the
+-- write of the area byte leaves.
 use Rattle.std.specs.Prelude.{◌≡◌, List, ℕ, [], ◌∷◌, ◌++◌, replicate, refl}
 use Rattle.cc_disk.specs.Model.{bytes_of}
 use Rattle.cc_journal.specs.Commit.{Commit, rewrite_commit}
@@ -34,7 +34,7 @@ area_of_one = records (body_of adds ∷ []) ++ replicate 36 0
 pub on_disk : (bytes_of ended.cells ≡ header 1 64 ++ (area_of_one ++ area_of_one)) × (ended.area_byte ≡ 1) × (ended.used ≡ 28)
 on_disk = (refl, refl, refl)
 
--- a crash within the write of the area byte leaves any byte there, so either area may be in use; both have the record
+-- a crash during the write of the area byte leaves any byte there, so either area may be in use; both have the record
 pub the_second_area : bytes_of (crashed_store (0xa5 ∷ []) byte_written).cells ≡ header 0xa5 64 ++ (area_of_one ++ area_of_one)
 the_second_area = refl
 

@@ -1,4 +1,4 @@
-// Expressions and actions.
+// The walk over expressions and actions.
 
 use super::{Use, Walk};
 use crate::code::{Element, Instruction, TypedOperator};
@@ -29,14 +29,14 @@ struct Goal<'a> {
     scalar: Scalar,
 }
 
-/// An operator that an assignment applies, and its offset.
+/// An operator that an assignment applies, and the operator's offset.
 #[derive(Clone, Copy)]
 struct Applied {
     operator: BinaryOperator,
     at: usize,
 }
 
-// The type of the value of what a name denotes; `int` if it has none.
+// The type of the value of what a name denotes; `int` if the name denotes nothing or a `void` function.
 fn scalar_of(standing: Option<Standing<'_>>) -> Scalar {
     match standing {
         None => Scalar::Int,
@@ -48,7 +48,7 @@ fn scalar_of(standing: Option<Standing<'_>>) -> Scalar {
     }
 }
 
-// The extent of the words that a name refers to, empty if it refers to none.
+// The extent of the words that a name refers to; empty if it refers to none.
 fn extent_of(standing: Option<Standing<'_>>) -> Extent {
     let nowhere = Extent {
         offset: 0,
@@ -64,7 +64,7 @@ fn extent_of(standing: Option<Standing<'_>>) -> Extent {
     }
 }
 
-// What a name denotes, as something to write to.
+// What is written to when a name is assigned to.
 fn slot_of<'a>(standing: Option<Standing<'_>>) -> Slot<'a> {
     match standing {
         None => Slot::Nothing,
@@ -85,7 +85,7 @@ fn load(standing: Option<Standing<'_>>) -> Instruction<'_> {
     }
 }
 
-// The instruction that calls a name whose arguments are pushed.
+// The instruction that calls a name, once its arguments have been pushed.
 fn call_of<'a>(standing: Option<Standing<'_>>, name: &'a Identifier) -> Instruction<'a> {
     match standing {
         None => Instruction::Constant(0),
@@ -102,7 +102,7 @@ fn call_of<'a>(standing: Option<Standing<'_>>, name: &'a Identifier) -> Instruct
 }
 
 impl<'a> Walk<'a> {
-    // The offset of an operator whose token comes next; 0 for one that cannot go wrong.
+    // The offset of an operator whose token comes next; 0 if the operator cannot go wrong.
     fn place_of(&mut self, operator: BinaryOperator) -> usize {
         match operator {
             BinaryOperator::Divide
@@ -193,7 +193,8 @@ impl<'a> Walk<'a> {
         }
     }
 
-    // Between the operands of a binary operator: the jump of `&&` or `||`, or the offset of the operator.
+    // Writes what belongs between the operands of a binary operator. Returns the jump of `&&` or `||`, or the offset of the
+    // operator.
     fn begin_binary(&mut self, operator: BinaryOperator) -> usize {
         match operator {
             BinaryOperator::LogicalAnd | BinaryOperator::LogicalOr => self.open_jump(),
@@ -201,7 +202,7 @@ impl<'a> Walk<'a> {
         }
     }
 
-    // After the operands of a binary operator, which have these types. Returns the operator's type.
+    // Writes what belongs after the operands of a binary operator, which have these types. Returns the type of its value.
     fn end_binary(
         &mut self,
         operator: BinaryOperator,
@@ -273,7 +274,7 @@ impl<'a> Walk<'a> {
         self.store(goal, applied, Scalar::Int)
     }
 
-    // What a target is. The index of an element is pushed.
+    // What a target is. If it is an element, its index is pushed.
     fn goal(&mut self, target: &'a Target) -> Goal<'a> {
         match target {
             Target::Variable(name) => {
@@ -293,7 +294,8 @@ impl<'a> Walk<'a> {
         }
     }
 
-    // Stores a word of a type in the goal, or an operator's value for the old value there and the word.
+    // Stores the newest word, whose type is `right`, in the goal. If an operator is applied, it stores the operator's value for
+    // the old value there and that word.
     fn store(&mut self, goal: Goal<'a>, applied: Option<Applied>, right: Scalar) {
         if let Some(Applied { operator, at }) = applied {
             self.old_value(goal.slot);
@@ -312,7 +314,7 @@ impl<'a> Walk<'a> {
         })
     }
 
-    // Puts the old value of what is written below the newest word.
+    // Puts the old value of a slot below the newest word.
     fn old_value(&mut self, slot: Slot<'a>) {
         match slot {
             Slot::Local(number) => self.emit(Instruction::Local(number)),

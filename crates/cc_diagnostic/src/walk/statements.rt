@@ -1,4 +1,4 @@
-// Statements.
+// The walk over statements.
 
 use super::{Use, Walk};
 use crate::code::Instruction;
@@ -7,7 +7,7 @@ use cc_syntax::{Action, Beginning, Declarator, Expression, Statement};
 use cc_tokens::Scalar;
 use cc_types::Entity;
 
-/// How many jumps out of loops were open before a loop.
+/// How many jumps out of loops were waiting for their targets before a loop began.
 #[derive(Clone, Copy)]
 struct Mark {
     breaks: usize,
@@ -82,7 +82,7 @@ impl<'a> Walk<'a> {
         }
     }
 
-    // Writes the instructions that push a condition, and returns the number of the instruction that jumps if it does not hold.
+    // Writes the instructions that push a condition and jump if it does not hold. Returns the number of the jump.
     fn condition_of(&mut self, test: &'a Expression) -> usize {
         self.expression(test);
         self.open_jump()

@@ -1,4 +1,4 @@
-// External declarations.
+// The walk over external declarations.
 
 use super::{Use, Walk};
 use crate::code::{Function, Instruction};
@@ -19,7 +19,7 @@ fn is_main(name: &Identifier) -> bool {
 }
 
 impl<'a> Walk<'a> {
-    // Declares a function if its name is new, and returns its number if the name denotes a function.
+    // Declares a function if its name is new in this scope. Returns its number if the name denotes a function.
     fn declare_function(&mut self, signature: &'a Signature) -> Option<usize> {
         let name = &signature.name;
         let standing = self.names.find_inner(name.bytes.as_slice());
@@ -109,7 +109,7 @@ impl<'a> Walk<'a> {
         self.note(tree.at, Use::Constant, None);
     }
 
-    // Declares an object, whose elements get the next words.
+    // Declares an object, whose elements get the next words of the objects.
     fn declare_object(
         &mut self,
         name: &'a Identifier,
@@ -180,7 +180,7 @@ impl<'a> Walk<'a> {
         }
     }
 
-    /// Visits all external declarations of a unit. `AllocError` if memory was refused on the way.
+    /// Visits all external declarations of a unit. Fails with `AllocError` if memory was refused on the way.
     pub fn externals(&mut self, trees: &'a [External]) -> Result<(), AllocError> {
         for tree in trees {
             self.external(tree);

@@ -12,7 +12,7 @@ abbrev pub bases_from : (address : ℕ) → List Object → List ℕ
 bases_from address [] = []
 bases_from address (o ∷ rest) = address ∷ bases_from (address + 4 * object_words o) rest
 
--- the address after them
+-- the address after these objects
 abbrev pub address_behind : (address : ℕ) → List Object → ℕ
 address_behind address [] = address
 address_behind address (o ∷ rest) = address_behind (address + 4 * object_words o) rest

@@ -1,5 +1,5 @@
--- The same places counted from the end: the tables are filled from the back, since the distance of a place from the end is known as soon as
--- everything after it is.
+-- The places of labels, counted from the end: the tables are filled from the back, since the distance of a place from the end is known as
+-- soon as everything after it is known.
 use Rattle.std.specs.Prelude.{◌≡◌, ℕ, ◌+◌, ◌-◌, ◌<◌, Bool, false, ◌&&◌, if◌then◌else◌, nat_le, nat_lt, Option, Some, None, List, [], ◌∷◌, length, get_or}
 use Rattle.cc_linear_language.specs.declared.item.LinearItem.TheVariants.{Jump, IfNonzero, IfZero}
 use Rattle.cc_select.specs.declared.step.Step.{Step}
@@ -17,7 +17,8 @@ abbrev pub long_behind : Frame → List Addressed → ℕ
 long_behind f [] = 0
 long_behind f (s ∷ steps) = long_size f s + long_behind f steps
 
--- whether a branch is near that has `here` items from it on; `first` says how many items each label has from it on, if it knows the label
+-- whether a branch is near, if there are `here` items from it to the end; `first` says how many items there are from each label to the end,
+-- if it knows the label
 abbrev pub near_behind : (first : List ℕ) → (here label : ℕ) → Bool
 near_behind first here label = if nat_lt label (length first) then is_close (get_or first label 0) here else false
 
@@ -26,7 +27,7 @@ abbrev pub behind : Frame → (first : List ℕ) → List Addressed → ℕ
 behind f first [] = 0
 behind f first (s ∷ steps) = size f (near_behind first (long_behind f (s ∷ steps))) s + behind f first steps
 
--- the number of items from a label on
+-- the number of items from a label to the end
 abbrev pub label_behind : Frame → (first : List ℕ) → List Addressed → (label : ℕ) → ℕ
 label_behind f first [] label = 0
 label_behind f first (s ∷ steps) label = if is_label label s then behind f first (s ∷ steps) else label_behind f first steps label
@@ -46,7 +47,7 @@ branched_to_step step = None
 abbrev pub branched_to : Addressed → Option ℕ
 branched_to s = branched_to_step s.step
 
--- a table of these numbers, for the labels below its length
+-- a table that has, for the labels below its length, the number of items from each label to the end
 pub record IsTable (f : Frame) (first : List ℕ) (steps : List Addressed) (count : ℕ) (table : List ℕ) : Type 0 where
   pub long : length table ≡ count
   pub each : (label : ℕ) → label < count → get_or table label 0 ≡ label_behind f first steps label

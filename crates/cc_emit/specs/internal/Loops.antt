@@ -1,4 +1,4 @@
--- Which steps are in loops, by the last step that leads to each label.
+-- Which steps are in loops, given the last step that leads to each label.
 use Rattle.std.specs.Prelude.{◌≡◌, ℕ, ◌<◌, ◌==◌, Bool, if◌then◌else◌, nat_lt, Option, Some, None, List, length, get_or, drop}
 use Rattle.cc_select.specs.declared.step.Step.{Step}
 use Rattle.cc_emit.specs.Scratch.{lead_to}

@@ -1,10 +1,10 @@
--- What the instruction of a recipe has to hold in addition to registers.
+-- What a recipe's instruction has to hold in addition to registers.
 use Rattle.std.specs.Prelude.{◌<◌}
 use Rattle.cc_rv32.specs.Fields.{IsImmediate}
 use Rattle.cc_emit.specs.declared.recipe.WordRecipe.{WordRecipe}
 use Rattle.cc_emit.specs.declared.recipe.WordRecipe.TheVariants.{WithImmediate, ShiftBy, OnZero, ZeroOfImmediate, NonzeroOfImmediate}
 
--- a word for which the instruction has room, if the recipe has a word
+-- the instruction has room for the recipe's word, if the recipe has one
 abbrev pub HasRoom : WordRecipe → Type 0
 HasRoom (WithImmediate i n) = IsImmediate n
 HasRoom (ShiftBy i n) = n < 32

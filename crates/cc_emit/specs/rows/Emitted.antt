@@ -75,7 +75,7 @@ called = record { pc = 0x10000; registers = λ r. if r == 2 then 0x700000 else i
 seen : State → List ℕ
 seen s = s.pc ∷ s.registers 18 ∷ s.registers 19 ∷ s.registers 2 ∷ s.registers 10 ∷ s.memory 0x200c04 ∷ s.output
 
--- it comes back with x2, x18 and x19 as they were, the sum in x10, in the object and written
+-- the run comes back with x2, x18 and x19 as they were; the sum is in x10 and in the object, and was written
 ran : seen (steps 24 called) ≡ 0x20004 ∷ 1018 ∷ 1019 ∷ 0x700000 ∷ 1 ∷ 1 ∷ 1 ∷ []
 unfolding seen
 ran = refl
@@ -110,8 +110,8 @@ one_more_step :
     ∷ load_word 1 2 4 ∷ addi 2 2 8 ∷ Plain (Jalr 0 1 0) ∷ []
 one_more_step = refl
 
--- an operation that changes a register which the function must leave as it found it stays in the frame, and so does the test after it; so
--- do a test that leads to more than a return, and all of a function without a frame
+-- nothing comes before the frame if an operation before the test changes a register that the function must leave as it found it, if such an
+-- operation comes before the return, or if the function has no frame
 saved_before : function_items (λ g. 0) 0 (One (Copy (Between 8 10)) ∷ One (IfZero 10 7) ∷ One (Call 3) ∷ One (Label 7) ∷ One Return ∷ [])
     ≡ whole_items (λ g. 0) 0 (One (Copy (Between 8 10)) ∷ One (IfZero 10 7) ∷ One (Call 3) ∷ One (Label 7) ∷ One Return ∷ [])
 saved_before = refl
@@ -124,7 +124,8 @@ no_frame = refl
 
 -- ---- words and numbers within an operation
 
--- the word as an immediate, its negative, and as a number of bits; also into the register that is read
+-- the word as an immediate, its negative as an immediate, and the word as a number of bits; the result also goes into the register that is
+-- read
 words : function_items (λ g. 0) 0 (Immediate immediate.Add 7 10 5 ∷ Immediate immediate.Sub 7 10 5 ∷ Immediate immediate.ShrS 7 10 31 ∷ Immediate immediate.Sub 10 10 2048 ∷ Immediate immediate.And 7 10 0xfffff800 ∷ [])
     ≡ addi 7 10 5 ∷ addi 7 10 0xfffffffb ∷ Plain (Shift Srai 7 10 31) ∷ addi 10 10 0xfffff800 ∷ Plain (OpImm Andi 7 10 0xfffff800) ∷ []
 words = refl
@@ -133,7 +134,7 @@ words = refl
 elements : function_items (λ g. 0x200000 + 2048 * g) 0 (LoadAt Word 1 7 1 ∷ StoreAt Word 1 1 7 ∷ []) ≡ Plain (Lui 6 0x201) ∷ load_word 7 6 0xfffff804 ∷ store_word 6 7 0xfffff804 ∷ []
 elements = refl
 
--- bytes: an element by its number in a register, stored and loaded, and by a number that is known
+-- bytes: an element whose number is in a register, stored and loaded, and elements whose numbers are known
 bytes : function_items (object_address (record { width = Byte; elements = 5 } ∷ record { width = Byte; elements = 3 } ∷ [])) 0 (One (Store Byte 1 7 10) ∷ One (Load Byte 1 10 7) ∷ LoadAt Byte 1 7 2 ∷ StoreAt Byte 1 2 10 ∷ [])
     ≡ Plain (Lui 6 0x200) ∷ Plain (Op operation.Add 5 7 6) ∷ store_element Byte 5 10 8 ∷ load_element Byte 10 5 8 ∷ load_element Byte 7 6 10 ∷ store_element Byte 6 10 10 ∷ []
 bytes = refl
@@ -187,15 +188,15 @@ far_by_x3 : function_items near_by 0 (One (Load Word 0 10 7) ∷ LoadNear Word 0
     ≡ Plain (Lui 3 0x201) ∷ addi 3 3 0xfffff800 ∷ Plain (Shift Slli 5 7 2) ∷ Plain (Op operation.Add 5 5 3) ∷ load_word 10 5 0xfffff800 ∷ load_word 11 5 0 ∷ []
 far_by_x3 = refl
 
--- its number has changed then; x6 still holds the upper part
+-- the element's number has changed then; x6 still holds the upper part
 number_written : function_items near_by 0 (One (Load Word 0 10 7) ∷ Immediate immediate.Add 7 7 1 ∷ One (Load Word 0 11 7) ∷ []) ≡ whole (load_word 10 5 0) (addi 7 7 1 ∷ with_upper (load_word 11 5 0) [])
 number_written = refl
 
--- it is the same if the load itself writes its number's register
+-- the same happens if the load itself writes the register of its number
 own_number : function_items near_by 0 (One (Load Word 0 7 7) ∷ One (Load Word 0 7 7) ∷ []) ≡ whole (load_word 7 5 0) (with_upper (load_word 7 5 0) [])
 own_number = refl
 
--- and if x5 is used, to ask whether a register's word is not 7
+-- and if x5 is used between the loads, here to ask whether a register's word is not 7
 between : function_items near_by 0 (One (Load Word 0 10 7) ∷ Immediate immediate.Ne 11 10 7 ∷ One (Load Word 0 12 7) ∷ []) ≡ whole (load_word 10 5 0) (addi 5 10 0xfffffff9 ∷ Plain (Op operation.Sltu 11 0 5) ∷ with_upper (load_word 12 5 0) [])
 between = refl
 
@@ -203,7 +204,7 @@ between = refl
 word_between : function_items near_by 0 (One (Load Word 0 10 7) ∷ One (Const 11 0x12345678) ∷ One (Load Word 0 12 7) ∷ []) ≡ whole (load_word 10 5 0) (Plain (Lui 11 0x12345) ∷ addi 11 11 0x678 ∷ load_word 12 5 0 ∷ [])
 word_between = refl
 
--- a label and a call forget both; a branch that is not taken leaves them
+-- a label and a call forget both registers; a branch that is not taken leaves them
 label_between : function_items near_by 0 (One (Load Word 0 10 7) ∷ One (Label 1) ∷ One (Load Word 0 11 7) ∷ []) ≡ whole (load_word 10 5 0) (whole (load_word 11 5 0) [])
 label_between = refl
 
@@ -228,7 +229,8 @@ byte_of_that_number = refl
 abbrev with_pointer : List PieceItem → List PieceItem
 with_pointer items = Plain (Lui 3 0x201) ∷ addi 3 3 0xfffff800 ∷ items
 
--- three accesses of one instruction each, where each would make an upper part: object 1 lies at 0x200010, 2032 bytes before the word in x3
+-- three accesses of one instruction each; without x3 each would make an upper part: object 1 lies at 0x200010, 2032 bytes before the word
+-- in x3
 known_by_x3 : function_items near_by 0 (LoadAt Word 1 10 0 ∷ One (Label 1) ∷ LoadAt Word 1 11 0 ∷ One (Label 2) ∷ StoreAt Word 1 2 11 ∷ One Return ∷ [])
     ≡ with_pointer (load_word 10 3 0xfffff810 ∷ load_word 11 3 0xfffff810 ∷ store_word 3 11 0xfffff818 ∷ Plain (Jalr 0 1 0) ∷ [])
 known_by_x3 = refl
@@ -255,7 +257,7 @@ other_uppers : function_items near_by 0 (One (Load Word 0 10 7) ∷ One (Load Wo
 other_uppers = refl
 
 -- objects 240 and 256 lie at 0x200f00, within the reach of x3, and at 0x201000, and have the same upper part: without x3 the second access
--- is one instruction, with it four, so the function does not gain
+-- takes one instruction, with it four, so the function does not gain
 abbrev from_one_upper : List PieceItem → List PieceItem
 from_one_upper items = Plain (Shift Slli 5 7 2) ∷ Plain (Lui 6 0x201) ∷ Plain (Op operation.Add 5 5 6) ∷ load_word 10 5 0xffffff00 ∷ load_word 11 5 0 ∷ items
 
@@ -264,20 +266,21 @@ one_upper : function_items near_by 0
     ≡ from_one_upper (from_one_upper (from_one_upper []))
 one_upper = refl
 
--- and if x5 holds that element's address by the upper part, x3 is not used
+-- and if x5 holds that element's address because of the upper part, x3 is not used
 by_upper_first : items_with near_by true 0 (One (Load Word 256 10 7) ∷ One (Load Word 240 11 7) ∷ [])
     ≡ with_pointer (Plain (Shift Slli 5 7 2) ∷ Plain (Lui 6 0x201) ∷ Plain (Op operation.Add 5 5 6) ∷ load_word 10 5 0 ∷ load_word 11 5 0xffffff00 ∷ [])
 by_upper_first = refl
 
--- the last byte within its reach, at 0x200fff, and the word after it, at 0x201000
+-- the last byte within the reach of x3, at 0x200fff, and the word after it, at 0x201000
 last_byte : items_with near_by true 0 (LoadAt Byte 255 10 15 ∷ LoadAt Word 255 10 4 ∷ []) ≡ with_pointer (load_element Byte 10 3 2047 ∷ Plain (Lui 6 0x201) ∷ load_word 10 6 0 ∷ [])
 last_byte = refl
 
--- an object at 0x200ff0 begins within the reach of x3 and goes on beyond it: its elements by a register all use its distance from x3
+-- an object at 0x200ff0 begins within the reach of x3 and goes on beyond it: accesses to its elements by a register all use the object's
+-- distance from x3
 beyond : items_with near_by true 0 (One (Load Word 255 10 7) ∷ []) ≡ with_pointer (Plain (Shift Slli 5 7 2) ∷ Plain (Op operation.Add 5 5 3) ∷ load_word 10 5 2032 ∷ [])
 beyond = refl
 
--- the last word within its reach, at 0x200ffc; object 256 lies at 0x201000, and its upper part stays in x6
+-- the last word within the reach of x3, at 0x200ffc; object 256 lies at 0x201000, and its upper part stays in x6
 farthest : items_with near_by true 0 (LoadAt Word 255 10 3 ∷ LoadAt Word 256 11 0 ∷ LoadAt Word 255 12 0 ∷ LoadAt Word 256 13 1 ∷ [])
     ≡ with_pointer (load_word 10 3 2044 ∷ Plain (Lui 6 0x201) ∷ load_word 11 6 0 ∷ load_word 12 3 2032 ∷ load_word 13 6 4 ∷ [])
 farthest = refl
@@ -315,7 +318,7 @@ against_zero : function_items (λ g. 0) 0
     ∷ branch Beq 10 0 0xffffffdc ∷ branch Beq 10 0 0xffffffd8 ∷ []
 against_zero = refl
 
--- others: an instruction into x5 before the branch: equal to 5; less than 5; at least 5; not different from 5
+-- other comparisons take an instruction into x5 before the branch: equal to 5; less than 5; at least 5; not different from 5
 on_words : function_items (λ g. 0) 0 (One (Label 1) ∷ BranchImmediate immediate.Eq true 10 5 1 ∷ BranchImmediate immediate.LtS true 10 5 1 ∷ BranchImmediate immediate.GeS true 10 5 1 ∷ BranchImmediate immediate.Ne false 10 5 1 ∷ [])
     ≡ addi 5 10 0xfffffffb ∷ branch Beq 5 0 0xfffffffc ∷ Plain (OpImm Slti 5 10 5) ∷ branch Bne 5 0 0xfffffff4 ∷ Plain (OpImm Slti 5 10 5) ∷ branch Beq 5 0 0xffffffec ∷ addi 5 10 0xfffffffb ∷ branch Beq 5 0 0xffffffe4 ∷ []
 on_words = refl

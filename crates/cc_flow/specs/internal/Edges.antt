@@ -2,7 +2,7 @@
 use Rattle.std.specs.Prelude.{◌≡◌, ℕ, ◌<◌, List, All, Contains, length}
 use Rattle.cc_flow.specs.Flow.{IsGraph, successors_of}
 
--- one row for each node in each direction; each end of an edge is a node; a node that leads to another is in the other's row of
+-- each direction has one row for each node; each end of an edge is a node; a node that leads to another is in the other's row of
 -- predecessors
 pub record AreEdges (successors predecessors : List (List ℕ)) : Type 0 where
   pub rows : length predecessors ≡ length successors

@@ -14,6 +14,6 @@ how_many (b ∷ flags) = (if b then 1 else 0) + how_many flags
 abbrev pub times : (node : ℕ) → List ℕ → ℕ
 times node nodes = sum_by (λ x. if x == node then 1 else 0) nodes
 
--- a node that waits occurs in the list once, any other not at all
+-- a node that waits occurs in the list once, any other node not at all
 abbrev pub IsQueued : List ℕ → List Bool → Type 0
 IsQueued nodes flags = (node : ℕ) → times node nodes ≡ (if waits flags node then 1 else 0)

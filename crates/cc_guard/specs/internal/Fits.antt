@@ -1,5 +1,5 @@
--- Code into which guards can be put: it reads and sets only variables below a number, and each exit leaves blocks that exist. The
--- variables that get the results of calls and reads are not limited, since nothing is known of them.
+-- Code into which guards can be put: it reads, and sets by `Set`, only variables below a number, and each exit leaves blocks that
+-- exist. The variables that get the results of calls and reads are not limited, since nothing is known about those results.
 use Rattle.std.specs.Prelude.{◌≡◌, ℕ, suc, ◌<◌, List, [], ◌∷◌, map}
 use Rattle.cc_simulation.specs.World.{World, Answer, Gives, size_of}
 use Rattle.cc_simulation.specs.Meaning.{Meaning}
@@ -17,7 +17,7 @@ abbrev pub AllUnder : ℕ → List Expression → Type 0
 AllUnder n [] = Unit {0}
 AllUnder n (e ∷ es) = Under n e × AllUnder n es
 
--- a statement in so many blocks
+-- a statement in b blocks fits: guards that set variables from n on can be put into it
 abbrev pub Fits : (n blocks : ℕ) → Statement → Type 0
 Fits n b Skip = Unit {0}
 Fits n b (Set x e) = (x < n) × Under n e
@@ -32,7 +32,7 @@ Fits n b (Block s) = Fits n (suc b) s
 Fits n b (Exit k) = k < b
 Fits n b (Return e) = Under n e
 
--- the answer to a call leaves each object its size
+-- a call that gives an answer leaves each object its size
 abbrev pub KeepsSizes : Meaning → Type 0
 KeepsSizes meaning =
     (n opened f : ℕ) (ws : List ℕ) (h : World) (a : Answer) (left : ℕ) → meaning.call n opened f ws h ≡ Gives a left

@@ -7,8 +7,8 @@ use Rattle.cc_cminor.specs.Breaks.{TracksOrBreaks}
 use Rattle.cc_guard.specs.Guard.{guarded_function}
 use Rattle.cc_guard.specs.internal.Fits.{Fits, KeepsSizes}
 
--- Code that keeps up with a meaning, or breaks while the meaning is not finished, keeps up with it, at the same rate, once it is
--- guarded. The code reads only variables below n, and the guards set those from n on.
+-- If code keeps up with a meaning, or breaks while the meaning is not finished, then once it is guarded it keeps up with the
+-- meaning, at the same rate. The code reads only variables below n, and the guards set variables from n on.
 abbrev pub GuardedKeepsUp : Type 0
 GuardedKeepsUp =
     (meaning : Meaning) → KeepsSizes meaning → (f rate n : ℕ) (s : Statement) → Fits n 0 s

@@ -5,7 +5,7 @@ use Rattle.cc_cminor.specs.Cminor.{Statement, Exit, Continuation, Ends, Then, Ag
 use Rattle.cc_guard.specs.declared.known.Limit.{Limit}
 use Rattle.cc_guard.specs.Guard.{forever, code_after}
 
--- a continuation with what is known; for a block, that is what is known after it, on each way out
+-- a continuation, with what is known at the start of each part; for a block, that is what is known after it, on every way out
 pub data Noted : Type 0 where
   Last : Noted
   AndThen : List Limit → Statement → Noted → Noted
@@ -18,7 +18,7 @@ plain_next (AndThen ks s ν) = Then s (plain_next ν)
 plain_next (InLoop ks s ν) = Again s (plain_next ν)
 plain_next (InBlock ks ν) = Leaving (plain_next ν)
 
--- how many blocks the statement is in, and what is known after each of them, from the innermost outwards
+-- how many blocks the statement is in; and what is known after each of them, from the innermost outwards
 abbrev pub blocks_of : Noted → ℕ
 blocks_of Last = 0
 blocks_of (AndThen ks s ν) = blocks_of ν
@@ -31,7 +31,7 @@ exits_of (AndThen ks s ν) = exits_of ν
 exits_of (InLoop ks s ν) = exits_of ν
 exits_of (InBlock ks ν) = ks ∷ exits_of ν
 
--- after the function's own code the run leaves both blocks, around the loop
+-- what the guarded code has left to do; after the function's own code, the run leaves both blocks around the loop
 abbrev pub guarded_next : List Size → (n : ℕ) → Noted → Continuation
 guarded_next objects n Last = Then (Exit 1) (Leaving (Then forever (Leaving Ends)))
 guarded_next objects n (AndThen ks s ν) = Then (code_after objects n ks (blocks_of ν) s) (guarded_next objects n ν)

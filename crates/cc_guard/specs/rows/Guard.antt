@@ -1,4 +1,4 @@
--- Worked guards, by computation, for two objects: three words, and four bytes. The code's variables are those below 4.
+-- Worked guards, computed, for two objects: three words, and four bytes. The code's own variables are those below 4.
 use Rattle.std.specs.Prelude.{◌≡◌, refl, ◌-◌, ◌^◌, false, List, [], ◌∷◌, Some}
 use Rattle.cc_words.specs.declared.operators.Width.TheVariants.{Byte, Word}
 use Rattle.cc_words.specs.declared.operators.Unary.TheVariants.{IsZero}
@@ -14,7 +14,7 @@ objects = record { width = Word; elements = 3 } ∷ record { width = Byte; eleme
 abbrev stop_from : Expression → Expression → Statement
 stop_from n i = If (Binary LeU n i) (Exit 0) Skip
 
--- `a[i] += b[i]`: one test for both elements, since b has no fewer than a
+-- `a[i] += b[i]`: one test is enough for both elements, since b has no fewer than a
 two_arrays : guarded_code objects 4 0 (Store Word 0 (Local 0) (Binary Add (Load Word 0 (Local 0)) (Load Byte 1 (Local 0))))
     ≡ Sequence (stop_from (Constant 3) (Local 0)) (Store Word 0 (Local 0) (Binary Add (Load Word 0 (Local 0)) (Load Byte 1 (Local 0))))
 two_arrays = refl
@@ -35,7 +35,7 @@ no_guard = refl
 remainder : guarded_code objects 4 0 (Set 0 (Binary DivS (Load Word 0 (Binary RemU (Local 1) (Constant 3))) (Constant 10))) ≡ Set 0 (Binary DivS (Load Word 0 (Binary RemU (Local 1) (Constant 3))) (Constant 10))
 remainder = refl
 
--- an index that is evidently outside, and an object of the other width: the run always stops
+-- an index that is evidently outside its object, and an object of the other width: the run always stops
 outside : guarded_code objects 4 0 (Set 0 (Load Word 0 (Constant 3))) ≡ Sequence (stop_from (Constant 3) (Constant 3)) (Set 0 (Load Word 0 (Constant 3)))
 outside = refl
 
@@ -52,17 +52,17 @@ waiting_operand : guarded_code objects 4 0 (Set 0 (Binary DivU (Binary Add (Loca
     ≡ Sequence (Set 4 (Binary Add (Local 2) (Local 3))) (Sequence (If (Unary IsZero (Local 4)) (Exit 0) Skip) (Set 0 (Binary DivU (Binary Add (Local 1) (Local 1)) (Local 4))))
 waiting_operand = refl
 
--- a function with a guard in a block: the exit leaves that block too, to the loop at the end
+-- a function with a guard in a block: the exit leaves that block too, and goes to the loop at the end
 whole : guarded_function objects 4 (Block (Set 0 (Load Word 0 (Local 1))))
     ≡ Block (Sequence (Block (Sequence (Block (Sequence (If (Binary LeU (Constant 3) (Local 1)) (Exit 1) Skip) (Set 0 (Load Word 0 (Local 1))))) (Exit 1))) (Loop Skip))
 whole = refl
 
--- and a function without a guard: as it was
+-- a function without a guard stays as it was
 as_it_was : guarded_function objects 4 (Block (Set 0 (Load Word 0 (Constant 2)))) ≡ Block (Set 0 (Load Word 0 (Constant 2)))
 as_it_was = refl
 
--- bounds are passed on: to a store whose index was masked into its variable, and to one whose index was tested before; after a
--- call nothing is known of its result
+-- bounds stay known: for a store whose index was masked into its variable, and for one whose index was tested before; after a
+-- call nothing is known about its result
 masked_store : guarded_code objects 4 0 (Sequence (Set 2 (Binary And (Local 1) (Constant 1))) (Store Word 0 (Local 2) (Local 0))) ≡ Sequence (Set 2 (Binary And (Local 1) (Constant 1))) (Store Word 0 (Local 2) (Local 0))
 masked_store = refl
 
@@ -74,7 +74,7 @@ set_again : guarded_code objects 4 0 (Sequence (Set 1 (Constant 2)) (Sequence (C
     ≡ Sequence (Set 1 (Constant 2)) (Sequence (Call (Some 1) 0 []) (Sequence (stop_from (Constant 3) (Local 1)) (Set 0 (Load Word 0 (Local 1)))))
 set_again = refl
 
--- in a loop the bounds of variables that no turn sets are known
+-- in a loop, the bounds of variables that no turn sets are known
 kept_in_loop : guarded_code objects 4 0 (Sequence (Set 1 (Constant 2)) (Sequence (Set 2 (Constant 2)) (Loop (Sequence (Set 0 (Load Word 0 (Local 1))) (Set 2 (Load Word 0 (Local 2)))))))
     ≡ Sequence (Set 1 (Constant 2)) (Sequence (Set 2 (Constant 2)) (Loop (Sequence (Set 0 (Load Word 0 (Local 1))) (Sequence (stop_from (Constant 3) (Local 2)) (Set 2 (Load Word 0 (Local 2)))))))
 kept_in_loop = refl
@@ -86,16 +86,16 @@ counted : guarded_code objects 4 0
     ≡ Sequence (Set 1 (Constant 0)) (Block (Loop (If (Binary LtS (Local 1) (Constant 3)) (Sequence (Set 0 (Load Word 0 (Local 1))) (Set 1 (Binary Add (Local 1) (Constant 1)))) (Exit 0))))
 counted = refl
 
--- a loop that counts one too far, and one whose body is a block that an exit leaves: nothing is known of the counter after the
--- block
+-- a loop that counts one too far; and a loop whose body is a block that an exit leaves: nothing is known about the counter after
+-- the block
 too_far : guarded_code objects 4 0
     (Sequence (Set 1 (Constant 0)) (Block (Loop (If (Binary LeS (Local 1) (Constant 3)) (Sequence (Set 0 (Load Word 0 (Local 1))) (Set 1 (Binary Add (Local 1) (Constant 1)))) (Exit 0)))))
     ≡ Sequence (Set 1 (Constant 0)) (Block (Loop (If (Binary LeS (Local 1) (Constant 3))
     (Sequence (Sequence (If (Binary LeU (Constant 3) (Local 1)) (Exit 1) Skip) (Set 0 (Load Word 0 (Local 1)))) (Set 1 (Binary Add (Local 1) (Constant 1)))) (Exit 0))))
 too_far = refl
 
--- a way that goes on elsewhere, so that the other way's bound is known afterwards: `if (x < 3) ; else return`, and a way that
--- corrects the value: `if (2 < x) x = 2`
+-- one way goes on elsewhere, so the other way's bound is known afterwards: `if (x < 3) ; else return`; and one way corrects the
+-- value: `if (2 < x) x = 2`
 one_way : guarded_code objects 4 0 (Sequence (If (Binary LtU (Local 1) (Constant 3)) Skip (Return (Constant 0))) (Set 0 (Load Word 0 (Local 1))))
     ≡ Sequence (If (Binary LtU (Local 1) (Constant 3)) Skip (Return (Constant 0))) (Set 0 (Load Word 0 (Local 1)))
 one_way = refl

@@ -1,4 +1,4 @@
--- The laws that the trait asks of a build: each source has a plan, and a unit that all pieces of a source give is right.
+-- The laws that the trait requires of a build: each source has a plan, and a unit made from all pieces of a source is right.
 use Rattle.std.specs.Prelude.{ℕ, ◌≡◌, Bool, true, false, List, [], ◌∷◌, Result, Ok, Err, All, refl}
 use Rattle.std.proofs.Common.{sym, subst, ◌∙◌, cond, arith}
 use Rattle.cc_ast.specs.Source.{source}
@@ -28,7 +28,7 @@ chosen : (b : Bool) (r : Result StoredUnit ℕ) (u : StoredUnit) → cond {A = R
 chosen true r u is = is
 chosen false r u is = absurd (cc)
 
--- the unit is linked for its first piece's unit, which is of the source
+-- a unit made from all pieces is linked for the unit of the first one, which is of the source
 pub whole_units_agree : (text : List ℕ) (pieces : List Piece) (unit : StoredUnit) → AreWhole compiling text pieces → All Keeps pieces → unit_of text pieces ≡ Ok unit → (unit.source ≡ text) × is_right unit
 whole_units_agree text [] unit whole kept is = absurd (cc)
 whole_units_agree text (piece ∷ pieces) unit whole kept is =

@@ -4,25 +4,25 @@ use Rattle.cc_journal.specs.declared.fault.JournalFault.{JournalFault}
 use Rattle.cc_journal.specs.declared.fault.JournalFault.TheVariants.{Full, DiskFault, Closed, Damaged, NotALibrary, OutOfMemory}
 use Rattle.cc_journal.specs.Format.{header, records, record_bytes, open_gate}
 
--- these are bytes of those, from that offset on
+-- `bytes` are those of `seen` from that offset on, as far as they go
 abbrev pub Shows : ℕ → (bytes seen : List ℕ) → Type 0
 Shows offset bytes seen = bytes ≡ take (length bytes) (drop offset seen)
 
--- a header at the start of these bytes, of an area of that size that begins at that offset
+-- these bytes begin with a header, for an area of that size that begins at that offset
 pub record BeginsWith (bytes : List ℕ) (start area : ℕ) : Type 0 where
   pub area_byte : ℕ
   pub rest : List ℕ
   pub is : bytes ≡ header area_byte area ++ rest
   pub begins : start ≡ 16 + area_byte % 2 * area
 
--- these records at the start of these bytes, and then a closed gate
+-- these bytes begin with these records, followed by a closed gate
 pub record EndsClosed (bytes : List ℕ) (bodies : List (List ℕ)) : Type 0 where
   pub gate : ℕ
   pub behind : List ℕ
   pub is : bytes ≡ records bodies ++ gate ∷ behind
   pub closed : gate ≢ open_gate
 
--- what reading one record finds at the start of these bytes, where this many bytes of the area are left
+-- what reading one record finds at the start of these bytes, if this many bytes of the area are left
 abbrev pub FindsRecord : List ℕ → ℕ → Result (Option (List ℕ)) JournalFault → Type 0
 FindsRecord bytes left (Ok None) = (gate : ℕ) × (rest : List ℕ) × (bytes ≡ gate ∷ rest) × (gate ≢ open_gate)
 FindsRecord bytes left (Ok (Some body)) = (rest : List ℕ) × (bytes ≡ record_bytes body ++ rest)
@@ -34,7 +34,7 @@ FindsRecord bytes left (Err Closed) = ⊥
 FindsRecord bytes left (Err DiskFault) = Unit {0}
 FindsRecord bytes left (Err OutOfMemory) = Unit {0}
 
--- the faults that reading bytes has: the device failed, or memory ran out
+-- the faults with which reading bytes can fail: the device failed, or memory ran out
 abbrev pub IsBytesFault : JournalFault → Type 0
 IsBytesFault DiskFault = Unit {0}
 IsBytesFault OutOfMemory = Unit {0}
@@ -43,7 +43,7 @@ IsBytesFault Full = ⊥
 IsBytesFault Closed = ⊥
 IsBytesFault NotALibrary = ⊥
 
--- the faults that reading records has
+-- the faults with which reading records can fail
 abbrev pub IsReadingFault : JournalFault → Type 0
 IsReadingFault DiskFault = Unit {0}
 IsReadingFault Damaged = Unit {0}
@@ -62,6 +62,6 @@ is_fault_of_disk (Err Damaged) = false
 is_fault_of_disk (Err NotALibrary) = false
 is_fault_of_disk (Err OutOfMemory) = false
 
--- how many failures the disk has counted behind a call, of how many before it
+-- how many failures the disk has counted after a call, given how many it had counted before
 abbrev pub counted : {T : Type 0} → Result T JournalFault → ℕ → ℕ
 counted result before = if is_fault_of_disk result then before + 1 else before

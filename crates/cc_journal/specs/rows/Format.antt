@@ -1,4 +1,4 @@
--- Bytes of a journal, and what fits its smallest area, computed.
+-- Bytes of a journal, and what fits in its smallest area, computed.
 use Rattle.std.specs.Prelude.{◌≡◌, [], ◌∷◌, ◌++◌, replicate, refl}
 use Rattle.cc_journal.specs.Format.{header, records, room_of}
 
@@ -12,10 +12,10 @@ one_record = refl
 pub body_of_58 : room_of (replicate 58 7 ∷ []) ≡ 64
 body_of_58 = refl
 
--- one of 59 bytes does not fit it
+-- a body of 59 bytes does not fit in it
 pub body_of_59 : room_of (replicate 59 7 ∷ []) ≡ 65
 body_of_59 = refl
 
--- and after one of 58 bytes not even an empty one does
+-- and after a body of 58 bytes not even an empty one fits
 pub bodies_of_58_and_0 : room_of (replicate 58 7 ∷ [] ∷ []) ≡ 69
 bodies_of_58_and_0 = refl

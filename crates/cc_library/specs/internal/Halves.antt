@@ -2,8 +2,8 @@
 -- `proofs/Changing` shows that the halves together are the whole change, or nothing.
 use Rattle.std.specs.Prelude.{if◌then◌else◌}
 use Rattle.std.specs.FinMap.{contains_key, insert, remove}
-use Rattle.cc_library.specs.declared.command.LibraryCommand.{LibraryCommand}
-use Rattle.cc_library.specs.declared.command.LibraryCommand.TheVariants.{Add, Replace, Withdraw}
+use Rattle.cc_library.specs.Change.{LibraryCommand}
+use Rattle.cc_library.specs.declared.command.Change.TheVariants.{Add, Replace, Withdraw}
 use Rattle.cc_library.specs.Apply.{Units}
 
 -- the map with the memory that a command needs already taken: Add has set its name

@@ -1,7 +1,7 @@
 -- The results of the steps of a replay and of a change.
 use Rattle.std.specs.Prelude.{◌≡◌, ◌⊎◌, ℕ, IsOk, List, Result, Ok, Err}
 use Rattle.cc_journal.specs.Format.{HoldsAlone}
-use Rattle.cc_library.specs.declared.command.LibraryCommand.{LibraryCommand}
+use Rattle.cc_library.specs.Change.{LibraryCommand}
 use Rattle.cc_library.specs.declared.fault.LibraryFault.{LibraryFault}
 use Rattle.cc_library.specs.declared.fault.LibraryFault.TheVariants.{Exists, Absent, Full, DiskFault, Closed, Damaged, NotALibrary, OutOfMemory}
 use Rattle.cc_library.specs.Apply.{Units, apply, after}
@@ -22,11 +22,12 @@ ReplaysBody old body (Err Absent) = ⊥
 ReplaysBody old body (Err Full) = ⊥
 ReplaysBody old body (Err Closed) = ⊥
 
--- the image has the old records and recovers to the old map alone, or has the new records and recovers to the new map alone
+-- either the image has the old records and recovers only to the old map, or it has the new records and recovers only to the new
+-- map
 abbrev pub IsOldOrNew : ℕ → List (List ℕ) → Units → List (List ℕ) → Units → List ℕ → Type 0
 IsOldOrNew area bodies old made new image =
     (HoldsAlone image area bodies × RecoversAlone image old) ⊎ (HoldsAlone image area made × RecoversAlone image new)
 
--- in the middle of an edit with this number: the map before it, or, if it was done, the map after it
+-- what a crash in the middle of an edit with this number leaves: the map before it, or, if it was done, the map after it
 abbrev pub IsMidEdit : Units → Edit → ℕ → List ℕ → Type 0
 IsMidEdit units edit number image = RecoversAlone image units ⊎ (((number ≡ 0) ⊎ (number ≡ 35)) × RecoversAlone image (after_edit units edit))

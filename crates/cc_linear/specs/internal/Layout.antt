@@ -15,7 +15,7 @@ abbrev pub is_next : ℕ → List ℕ → Bool
 is_next e [] = false
 is_next e (x ∷ xs) = x == e
 
--- on to the label: it falls through if that comes next
+-- the code goes on to the label: it falls through if the label comes next, and jumps if not
 abbrev pub leads : ℕ → List ℕ → List LinearItem → List LinearItem
 leads e order items = if is_next e order then items else Jump e ∷ items
 
@@ -60,7 +60,7 @@ HasSuccessors end order (Branch from taken other) = Contains order (end taken) �
 HasSuccessors end order Return = Unit {0}
 HasSuccessors end order op = Contains order (end (next op))
 
--- an order of labels, each once, with all labels that the entry reaches
+-- an order of labels: each occurs only once, and all labels that the entry reaches are there
 pub record IsOrder (ltl : Ltl) (end : ℕ → ℕ) (order : List ℕ) : Type 0 where
   pub distinct : AllPairs (λ a b. a ≡ b → ⊥) order
   pub entry : Contains order (end ltl.entry)

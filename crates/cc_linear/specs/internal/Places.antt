@@ -44,7 +44,7 @@ graph_of labels ends blocks = map (λ (b : Block). ways_of labels ends b.operati
 abbrev pub labels_at : List ℕ → List ℕ → List ℕ
 labels_at labels order = map (λ p. get_or labels p 0) order
 
--- what comes next, as an order
+-- the order of the label that comes next, if there is one
 abbrev pub listed : Option ℕ → List ℕ
 listed None = []
 listed (Some l) = l ∷ []
@@ -53,12 +53,12 @@ abbrev pub listed_first : List ℕ → List ℕ
 listed_first [] = []
 listed_first (l ∷ ls) = l ∷ []
 
--- an item, if there is one
+-- the list of an item, if there is one
 abbrev pub listed_items : Option LinearItem → List LinearItem
 listed_items None = []
 listed_items (Some item) = item ∷ []
 
--- labels as the list of a function's blocks has them: each is at its own place, and they do not fall
+-- the labels of a function's blocks as they are listed: they do not decrease, and each is at its own place
 pub record AreLabels (labels : List ℕ) : Type 0 where
   pub rising : (i j : ℕ) → i ≤ j → j < length labels → get_or labels i 0 ≤ get_or labels j 0
   pub first : (i : ℕ) → i < length labels → place_in labels (get_or labels i 0) ≡ i

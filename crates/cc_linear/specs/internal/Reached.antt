@@ -17,7 +17,7 @@ HasWays found (Two a b) = Contains found a × Contains found b
 abbrev pub InGraph : List Ways → Type 0
 InGraph graph = All (WaysBelow (length graph)) graph
 
--- the targets of the first i labels were found too
+-- the labels to which the first i found labels lead were found too
 abbrev pub ClosedTo : List Ways → List ℕ → ℕ → Type 0
 ClosedTo graph found i = (k : ℕ) → k < i → HasWays found (get_or graph (get_or found k 0) Leaves)
 

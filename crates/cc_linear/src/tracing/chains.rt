@@ -2,11 +2,11 @@
 //
 // Blocks are joined into chains, in which each block falls through to the next. Places are in the order of labels, and labels in the order
 // of the source. So a way to a place that does not come later leads back to the head of a loop. Blocks are joined in this order:
-// 1. the blocks that only lead back, the last one of a loop first (others come from `continue`): so the head, with the loop's test, is
-//    after the loop's body, and a turn needs no jump;
+// 1. the blocks that only lead back, the last one of a loop first (others come from `continue`), so that the head, with the loop's test,
+//    comes after the loop's body, and a turn needs no jump;
 // 2. the blocks that have one way, unless it leads into a loop;
-// 3. the branches: to the way for a word that is 0, which leads out of a loop or past an `if`; if the block there already follows another
-//    one, to the other way;
+// 3. the branches: each is joined to its way for a word that is 0, which leads out of a loop or past an `if`, or to its other way if the
+//    block there already follows another one;
 // 4. the blocks that lead into a loop.
 
 ghost use Rattle.std.specs.Prelude.{◌≡◌, ◌<◌, length, vec_len, IfOk, All};
@@ -15,7 +15,7 @@ ghost use Rattle.cc_linear.specs.internal.Reached.{InGraph};
 use super::ways::Ways;
 use std::alloc::{AllocError, Global};
 
-/// Chains of labels that follow one another. The number of labels means none.
+/// Chains of labels that follow one another. The number of labels in place of a label means that there is none.
 #[derive(Drop)]
 struct Chains {
     behind: Vec<usize>,
@@ -27,7 +27,7 @@ struct Chains {
     ghost last_long: { vec_len last ≡ vec_len behind },
 }
 
-/// Each label alone.
+/// Chains of one label each.
 fn alone(alloc: Global, count: usize) -> Result<Chains, AllocError>
     ensures { IfOk result (λ chains. vec_len chains.behind ≡ count) }
 {
@@ -127,7 +127,7 @@ fn join_branches(chains: &mut Chains, graph: &[Ways], is_found: &[bool])
     }
 }
 
-/// The labels that are heads of loops: a block that was found leads back to them.
+/// Which labels are heads of loops: a block that was found leads back to them.
 fn heads(alloc: Global, graph: &[Ways], is_found: &[bool]) -> Result<Vec<bool>, AllocError>
     requires graph { InGraph graph.now }
     requires found { length is_found.now ≡ length graph.now }

@@ -46,7 +46,7 @@ pub fn chain_ends(alloc: Global, next: &[usize]) -> Result<Vec<usize>, AllocErro
             path.push(at)?;
             at = next[at];
         }
-        // a known chain, or a cycle, which keeps this label
+        // the path has come to a known chain, or to a cycle, which keeps this label
         known[at] = true;
         while let Some(label) = path.pop() {
             settle(next, &mut known, &mut ends, label);

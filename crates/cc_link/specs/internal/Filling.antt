@@ -9,7 +9,7 @@ use Rattle.cc_emit.specs.Contract.{IsPlace}
 abbrev pub lent : List (Bor (List PieceItem)) → List (List PieceItem)
 lent bodies = map (λ (b : Bor (List PieceItem)). b.now) bodies
 
--- an item of a function of this many items leads to one of this many functions, or to an item or the end of its own
+-- an item of a function with `long` items leads to one of the `functions` functions, or to an item or the end of its own function
 abbrev pub StaysIn : (functions long : ℕ) → PieceItem → Type 0
 StaysIn functions long (Plain i) = Unit {0}
 StaysIn functions long (Call f) = f < functions
@@ -27,24 +27,24 @@ AllStayIn functions (f ∷ fs) = StayIn functions (length f) f × AllStayIn func
 abbrev pub ArePlaces : List ℕ → Type 0
 ArePlaces places = (f : ℕ) → f < length places → IsPlace (slice_index places f)
 
--- where an item leads is a place
+-- an item leads to a place
 abbrev pub Leads : (places : List ℕ) (place : ℕ) → PieceItem → Type 0
 Leads places place (Plain i) = Unit {0}
 Leads places place (Call f) = (f < length places) × IsPlace (slice_index places f)
 Leads places place (Go n) = IsPlace (place + 4 * n)
 
--- items at a place, with a place after the last
+-- items can be at a place: that is a valid place, and so is the one after the last item
 pub record CanStand (functions place : ℕ) (items : List PieceItem) : Type 0 where
   pub from : IsPlace place
   pub to : IsPlace (place + 4 * length items)
   pub stay : StayIn functions (length items) items
 
--- where functions stand, the first at the address a
+-- the places of functions, the first at the address a
 abbrev pub places_from : (a : ℕ) → List (List PieceItem) → List ℕ
 places_from a [] = []
 places_from a (f ∷ fs) = a ∷ places_from (a + 4 * length f) fs
 
--- each of some functions can stand there
+-- the functions can all be there, one after the other, the first at the address a
 abbrev pub CanAllStand : (functions a : ℕ) → List (List PieceItem) → Type 0
 CanAllStand functions a [] = Unit {0}
 CanAllStand functions a (f ∷ fs) = CanStand functions a f × CanAllStand functions (a + 4 * length f) fs

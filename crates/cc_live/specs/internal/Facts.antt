@@ -5,20 +5,20 @@ use Rattle.cc_rtl_language.specs.Rtl.{Labelled, Node, node_at}
 use Rattle.cc_rtl_language.specs.Live.{Sets, reads, result, pure_result, live_behind, is_dead}
 use Rattle.cc_bits.specs.Rows.{holds}
 
--- the second holds all that the first holds
+-- the second row holds all that the first one holds
 abbrev pub Below : List ℕ → List ℕ → Type 0
 Below a b = (r : ℕ) → IsTrue (holds a r) → IsTrue (holds b r)
 
 abbrev pub nothing : List ℕ
 nothing = []
 
--- what either holds
+-- the row that holds what either row holds
 abbrev pub either : List ℕ → List ℕ → List ℕ
 either [] b = b
 either (x ∷ a) [] = x ∷ a
 either (x ∷ a) (y ∷ b) = bit_or x y ∷ either a b
 
--- one register alone, and some more
+-- a row with only one register, and a row with some more
 abbrev pub single : (register : ℕ) → List ℕ
 single r = replicate (r / 64) 0 ++ 2 ^ (r % 64) ∷ []
 
@@ -26,7 +26,7 @@ abbrev pub with_all : List ℕ → (row : List ℕ) → List ℕ
 with_all [] row = row
 with_all (r ∷ rs) row = either (single r) (with_all rs row)
 
--- the registers of a row that are below n and pass a test; all of the row's that pass it
+-- the registers of a row that are below n and pass a test; then all registers of the row that pass it
 abbrev pub chosen : (test : ℕ → Bool) → (row : List ℕ) → (n : ℕ) → List ℕ
 chosen test row zero = []
 chosen test row (suc n) = if holds row n && test n then n ∷ chosen test row n else chosen test row n
@@ -56,7 +56,7 @@ carries strong [] i behind = nothing
 carries strong (n ∷ ns) zero behind = live_before strong n.node behind
 carries strong (n ∷ ns) (suc i) behind = carries strong ns i behind
 
--- ---- both kinds of live sets in one
+-- ---- both kinds of live sets in one definition
 
 pub record CarriesAs (strong : Bool) (live : Sets) (node : Node) (own : ℕ → Bool) : Type 0 where
   pub needed : (strong && is_dead live node) ≡ false → (r : ℕ) → Contains (reads node) r → IsTrue (own r)

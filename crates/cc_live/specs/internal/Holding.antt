@@ -66,7 +66,7 @@ holds-with_all (s ∷ rs) row r =
     regroup true b c = refl
     regroup false b c = refl
 
--- a register is chosen exactly if the row holds it and it passes
+-- a register is chosen exactly if the row holds it and it passes the test
 in_chosen : (test : ℕ → Bool) (row : List ℕ) (n r : ℕ) → IsTrue (among (chosen test row n) r) → IsTrue (holds row r) × IsTrue (test r)
 in_chosen test row zero r h = absurd cc
 in_chosen test row (suc n) r h = go (holds row n && test n) refl h (in_chosen test row n r)
@@ -141,7 +141,7 @@ but_for_in : (o : Option ℕ) (row : List ℕ) (r : ℕ) → IsTrue (holds row r
 but_for_in None row r h d = h
 but_for_in (Some to) row r h d = those_in (λ x. not (to == x)) row r h (some_apart to r d)
 
--- a result that is unread is not held; and the result of a pure node is its result
+-- a register that is held is not the unread result; and the result of a pure node is its result
 other : (to r : ℕ) (row : List ℕ) → IsTrue (not (holds row to)) → IsTrue (holds row r) → Some to ≢ Some r
 other to r row u h e =
     let z : Some to ≡ Some r = e in
@@ -167,7 +167,7 @@ module _ (strong : Bool) (n : Node) (row : List ℕ) where
   abbrev pub drops : Bool
   drops = strong && is_unread row (pure_result n)
 
-  -- what is live before was read by a node that is not left out, or was live after it
+  -- what is live before a node was read by the node, if that is not left out, or was live after it and is not its result
   pub live_before_cases : (r : ℕ) → IsTrue (holds (live_before strong n row) r) → ((drops ≡ false) × Contains (reads n) r) ⊎ (IsTrue (holds row r) × (result n ≢ Some r))
   live_before_cases r h = go drops refl h
     where
@@ -185,7 +185,7 @@ module _ (strong : Bool) (n : Node) (row : List ℕ) where
       go true = h
       go false = with_all_rest (reads n) (but_for (result n) row) r (but_for_in (result n) row r h d)
 
--- a result that is read stays read if more is held
+-- a result that is read is still read if more is held
 unread_less : (x y : List ℕ) (o : Option ℕ) → Below x y → is_unread x o ≡ false → is_unread y o ≡ false
 unread_less x y None h e = refl
 unread_less x y (Some to) h e = held (holds x to) refl e
@@ -205,7 +205,7 @@ live_before_up strong n x y h r i = elim (live_before_cases strong n x r i) [
   | inr (behind, d) ↦ behind_live_before strong n y r (h r behind) d
 ]
 
--- ---- as the code makes it
+-- ---- the step as the code makes it
 
 pub result_apart : (o : Option ℕ) (r : ℕ) → IsTrue (not (is_result o r)) → o ≢ Some r
 result_apart None r h e = absurd (let z : None ≡ Some r = e in cc)
@@ -234,7 +234,7 @@ live_before_made strong n row r made stays is = (
 pub live_before_stays : (strong : Bool) (n : Node) (row : List ℕ) → (strong && is_unread row (pure_result n)) ≡ true → live_before strong n row ≡ row
 live_before_stays strong n row e = ap (λ b. if b then row else with_all (reads n) (but_for (result n) row)) e
 
--- one more register among some
+-- what a list holds with one more register at the end
 pub among-push : (rs : List ℕ) (x r : ℕ) → among (rs ++ x ∷ []) r ≡ (x == r || among rs r)
 among-push [] x r = refl
 among-push (s ∷ rs) x r = ap (λ b. (s == r) || b) (among-push rs x r) ∙ swap (s == r) (x == r) (among rs r)

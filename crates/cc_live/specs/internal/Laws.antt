@@ -27,7 +27,7 @@ laws = record { reflexive = λ x r h. h; transitive = λ x y z h i r k. i r (h r
     within : (x y z : List ℕ) → Below x z → Below y z → Below (either x y) z
     within x y z h i r k = one_of (holds x r) (holds y r) (holds z r) (h r) (i r) (sym (holds-either x y r) ∙ k)
 
--- rows that hold the same
+-- rows that hold the same are equivalent
 pub same_rows : (a b : List ℕ) → ((r : ℕ) → holds a r ≡ holds b r) → Equivalent Below a b
 same_rows a b h = (λ r i. sym (h r) ∙ i, λ r i. h r ∙ i)
 

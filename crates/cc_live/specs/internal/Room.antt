@@ -5,7 +5,7 @@ use Rattle.std.proofs.lemmas.Bool.{cases_eq}
 use Rattle.cc_bits.specs.Rows.{holds}
 use Rattle.cc_live.specs.internal.Facts.{Below, nothing}
 
--- the most words of a row: as many as the numbers of registers need
+-- a row has at most this many words: as many as all register numbers need
 abbrev pub most_words : ℕ
 most_words = 2 ^ 26
 
@@ -32,7 +32,7 @@ pub bounded : room nothing ≤ height
 unfolding room
 bounded = missing_le nothing (2 ^ 32)
 
--- of two rows, the one that holds more lacks no more than the other, and less if it holds one register more
+-- if one of two rows holds more, it lacks no more than the other, and less if it holds one register more
 no_more : (a b : List ℕ) (n : ℕ) → Below a b → missing b n ≤ missing a n
 no_more a b zero h = omega arith
 no_more a b (suc n) h = go (holds a n) (holds b n) refl refl (no_more a b n h)

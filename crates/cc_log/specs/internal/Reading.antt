@@ -1,11 +1,11 @@
 -- Why commands could not be read.
 use Rattle.std.specs.Prelude.{ℕ, List}
-use Rattle.cc_library.specs.declared.command.LibraryCommand.{LibraryCommand}
+use Rattle.cc_library.specs.Change.{LibraryCommand}
 use Rattle.cc_library.specs.declared.fault.LibraryFault.{LibraryFault}
 use Rattle.cc_library.specs.declared.fault.LibraryFault.TheVariants.{Exists, Absent, Full, DiskFault, Closed, Damaged, NotALibrary, OutOfMemory}
 use Rattle.cc_library.specs.Recovered.{AreSpelled}
 
--- 37 only if the bodies spell no commands; else memory ran out
+-- 37 comes only if the bodies spell no commands; otherwise memory ran out
 abbrev pub IsUnread : List (List ℕ) → LibraryFault → Type 0
 IsUnread bodies Damaged = (commands : List LibraryCommand) → AreSpelled bodies commands → ⊥
 IsUnread bodies OutOfMemory = Unit {0}

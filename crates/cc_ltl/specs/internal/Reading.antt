@@ -23,21 +23,21 @@ abbrev pub ◌>>=◌ : {A B : Type 0} → Option A → (A → Option B) → Opti
 (Some x) >>= f = f x
 None >>= f = None
 
--- what a function returned, by its view, is what the definition reads; if memory ran out, nothing is claimed
+-- what a function returned, seen through `view`, is what the definition reads; if memory ran out, nothing is claimed
 abbrev pub Gives : {X Y : Type 0} → (X → Y) → Result X LtlFault → Option Y → Type 0
 Gives view (Ok x) read = read ≡ Some (view x)
 Gives view (Err Damaged) read = read ≡ None
 Gives view (Err OutOfMemory) read = Unit {0}
 
--- what a step of a cursor returned, and the bytes that it left, are what the definition reads
+-- what a step of a cursor returned, together with the bytes that it left, is what the definition reads
 abbrev pub Reads : {A : Type 0} → Option (A × List ℕ) → Option A → List ℕ → Type 0
 Reads read result after = option_map (λ x. (x, after)) result ≡ read
 
--- a reader of a value: the value, and the bytes after it
+-- a reader of a value gives the value and the bytes after it, or nothing
 abbrev pub Reader : Type 0 → Type 0
 Reader A = List ℕ → Option (A × List ℕ)
 
--- one after the other
+-- two values, read one after the other
 abbrev pub both : {A B : Type 0} → Reader A → Reader B → Reader (A × B)
 both f g bytes = f bytes >>= λ a. g a.1 >>= λ b. Some ((a.0, b.0), b.1)
 
@@ -45,12 +45,12 @@ both f g bytes = f bytes >>= λ a. g a.1 >>= λ b. Some ((a.0, b.0), b.1)
 abbrev pub mapped : {A B : Type 0} → (A → B) → Reader A → Reader B
 mapped make f bytes = f bytes >>= λ a. Some (make a.0, a.1)
 
--- this many values, one after the other
+-- n values, read one after the other
 unfoldable pub times : {A : Type 0} → Reader A → ℕ → Reader (List A)
 times f zero bytes = Some ([], bytes)
 times f (suc n) bytes = f bytes >>= λ first. times f n first.1 >>= λ others. Some (first.0 ∷ others.0, others.1)
 
--- reading nothing, one byte, a number of two bytes, a number of four bytes
+-- reads nothing; one byte; a number of two bytes; a number of four bytes
 abbrev pub nothing_in : Reader (Unit {0})
 nothing_in bytes = Some (tt, bytes)
 
@@ -64,7 +64,7 @@ half_in bytes = if nat_lt (length bytes) 2 then None else Some (from_le_bytes w1
 abbrev pub word_in : Reader ℕ
 word_in bytes = if nat_lt (length bytes) 4 then None else Some (from_le_bytes w32 (take 4 bytes), drop 4 bytes)
 
--- a register, a slot
+-- reads a register; a slot
 unfoldable pub register_in : Reader ℕ
 register_in bytes = byte_in bytes >>= λ b. if nat_le 7 b.0 && nat_lt b.0 32 then Some b else None
 
@@ -80,7 +80,7 @@ unary_operators = Neg ∷ Complement ∷ IsZero ∷ []
 abbrev pub binary_operators : List BinaryOperator
 binary_operators = Add ∷ Sub ∷ Mul ∷ DivS ∷ DivU ∷ RemS ∷ RemU ∷ Shl ∷ ShrS ∷ ShrU ∷ And ∷ Or ∷ Xor ∷ Eq ∷ Ne ∷ LtS ∷ LtU ∷ LeS ∷ LeU ∷ []
 
--- one of a list, by its position as one byte
+-- reads the position of an element in a list, as one byte, and gives the element
 abbrev pub one_of : {A : Type 0} → List A → Reader A
 one_of xs bytes = byte_in bytes >>= λ b. slice_get xs b.0 >>= λ x. Some (x, b.1)
 
@@ -90,14 +90,14 @@ unary_in bytes = one_of unary_operators bytes
 unfoldable pub binary_in : Reader BinaryOperator
 binary_in bytes = one_of binary_operators bytes
 
--- the width of an element that has this many bytes
+-- the width of elements that have this many bytes
 abbrev pub width_of : ℕ → Option Width
 width_of n = if n == 1 then Some Byte else (if n == 4 then Some Word else None)
 
 unfoldable pub width_in : Reader Width
 width_in bytes = byte_in bytes >>= λ b. width_of b.0 >>= λ w. Some (w, b.1)
 
--- the reader that belongs to the number in front
+-- the reader that belongs to the number that was read first
 abbrev pub chosen : {A : Type 0} → List (ℕ × Reader A) → (number : ℕ) → Reader A
 chosen [] number bytes = None
 chosen (kind ∷ kinds) number bytes = if number == kind.0 then kind.1 bytes else chosen kinds number bytes
@@ -181,7 +181,7 @@ blocks_in bytes = word_in bytes >>= λ n. times block_in n.0 n.1
 unfoldable pub slots_in : Reader ℕ
 slots_in bytes = word_in bytes >>= λ n. if nat_le n.0 most_slots then Some n else None
 
--- the parts of the function that all these bytes spell; whether they fit each other is not asked
+-- the parts of the function that all these bytes spell; whether the parts go together is not asked
 unfoldable pub parts_in : List ℕ → Option Ltl
 parts_in bytes =
     mapped (λ x. record { slots = x.0; entry = x.1.0; blocks = x.1.1 }) (both slots_in (both word_in blocks_in)) bytes

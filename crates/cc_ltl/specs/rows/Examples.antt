@@ -1,4 +1,4 @@
--- Worked examples of bytes, runs and text, each by computation.
+-- Worked examples of bytes, runs and text, computed.
 use Rattle.std.specs.Prelude.{◌≡◌, ℕ, refl, List, [], ◌∷◌, codes}
 use Rattle.std.specs.Fmt.{digits}
 use Rattle.cc_words.specs.declared.operators.Binary.TheVariants.{Sub}
@@ -11,7 +11,7 @@ use Rattle.cc_ltl.specs.Ltl.{Ltl, ltl_move, ltl_output, ltl_start}
 use Rattle.cc_ltl.specs.Bytes.{ltl_bytes}
 use Rattle.cc_ltl.specs.Listing.{block_text, ltl_text}
 
--- one block that returns, no slots
+-- one block, which returns, and no slots
 abbrev returns : Ltl
 returns = record { slots = 0; entry = 0; blocks = record { label = 0; before = []; operation = Return; after = [] } ∷ [] }
 
@@ -38,7 +38,7 @@ difference_text = refl
 abbrev nothing : World
 nothing = record { globals = []; input = []; output = [] }
 
--- each call answers 9 and takes no step
+-- each call answers 9 and takes no steps
 abbrev nine : ℕ → Question → Effect
 nine j q = Gives (record { value = 9; world = q.world }) j
 
@@ -52,7 +52,7 @@ ends value = record { stop = Ended (record { value = value; world = nothing }); 
 difference_ends : outcome difference (77 ∷ 78 ∷ []) (7 ∷ 5 ∷ []) 3 ≡ ends 2
 difference_ends = refl
 
--- a call's result is in x10
+-- the result of a call is in x10
 abbrev calls : Ltl
 calls = record {
   slots = 0;
@@ -63,7 +63,7 @@ calls = record {
 calls_ends : outcome calls [] (1 ∷ []) 2 ≡ ends 9
 calls_ends = refl
 
--- the parameter is kept in a register over a call
+-- the parameter is kept in a register while a function is called
 abbrev keeps_in : ℕ → Ltl
 keeps_in register = record {
   slots = 0;
@@ -74,7 +74,7 @@ keeps_in register = record {
       ∷ [];
 }
 
--- x18 survives; x28 holds word 28 of the 32 that come after the entry's words
+-- x18 survives the call; x28 then holds word 28 of the 32 that come after the entry's words
 survives_ends : outcome (keeps_in 18) [] (6 ∷ []) 2 ≡ ends 6
 survives_ends = refl
 

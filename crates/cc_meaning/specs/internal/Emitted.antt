@@ -9,7 +9,7 @@ use Rattle.cc_resolve.specs.declared.operations.BinaryOperation.{BinaryOperation
 use Rattle.cc_meaning.specs.declared.form.Instruction.{Instruction}
 use Rattle.cc_meaning.specs.declared.form.Instruction.TheVariants.{Binary, AndThen, OrElse}
 
--- the instruction that skips a right operand of this many instructions, if the operator may not need it
+-- the instruction that skips a right operand of this many instructions, for an operator that does not always need it
 abbrev pub short_cut : BinaryOperator → ℕ → Option Instruction
 short_cut LogicalAnd n = Some (AndThen n)
 short_cut LogicalOr n = Some (OrElse n)

@@ -5,7 +5,7 @@ use Rattle.cc_meaning.specs.declared.form.Instruction.{Instruction}
 use Rattle.cc_meaning.specs.declared.form.Instruction.TheVariants.{JumpIfZero}
 use Rattle.cc_meaning.specs.declared.writer.statements.Exits.{Exits}
 
--- the targets of a break and a continue: each is kept as how many instructions follow it, out of this many
+-- the targets of a break and a continue; the code keeps each as how many of the n written instructions follow it
 abbrev pub exits_of : ℕ → Exits → form.Exits
 exits_of n e = record { breaks = n - e.breaks; continues = n - e.continues }
 

@@ -35,7 +35,8 @@ pub fn store(names: &Environment<'_>, applied: Option<BinaryOperation>, name: &[
     }
 }
 
-/// The same for an element of an array, whose index is below the word.
+/// The instruction that stores a word in an element of an array, or applies an operation as `store` does; the index is below the
+/// word.
 pub fn store_element(
     names: &Environment<'_>,
     applied: Option<BinaryOperation>,
@@ -50,7 +51,7 @@ pub fn store_element(
     }
 }
 
-/// The instruction that calls a function whose arguments are pushed.
+/// The instruction that calls a function whose arguments have already been pushed.
 pub fn call_instruction(names: &Environment<'_>, name: &[u8]) -> Instruction
     ensures { result ≡ call_of names.now name.now }
 {

@@ -33,7 +33,7 @@ fn unary(code: &mut Emitter, operator: UnaryOperator) -> Result<(), AllocError>
     }
 }
 
-// The instruction that skips a right operand of this many instructions, if the operator may not need it.
+// The instruction that skips a right operand of `skip` instructions, for an operator that does not always need it.
 fn short_cut(operator: BinaryOperator, skip: usize) -> Option<Instruction>
     ensures { result ≡ short_cut operator skip }
 {
@@ -69,7 +69,7 @@ fn element(
     Ok(names.element_type(name.bytes.as_slice()))
 }
 
-// Writes a call whose arguments are pushed.
+// Writes a call whose arguments have already been pushed.
 fn call(
     names: &Environment<'_>,
     code: &mut Emitter,
@@ -82,8 +82,8 @@ fn call(
     Ok(names.call_type(name.bytes.as_slice()))
 }
 
-// Writes the instruction that skips the right operand, if the operator may not need it. `behind` is how many instructions follow
-// that operand.
+// Writes the instruction that skips the right operand, for an operator that does not always need it. `behind` is how many
+// instructions follow that operand.
 fn skip_right(code: &mut Emitter, operator: BinaryOperator, behind: usize) -> Result<(), AllocError>
     requires { behind ≤ length code.old }
     ensures { OnOk result (code.new ≡ some_code (short_cut operator (length code.old - behind)) ++ code.old) }

@@ -1,7 +1,7 @@
 // Statements, each written before the instructions of those that follow it.
 //
-// The names of a list are in scope before its statements are written, from last to first, and each declaration removes its own
-// names. The recursion is as deep as the tree: at most 64 levels.
+// The statements of a list are written from last to first. All names that they declare are in scope before that, and each
+// declaration removes its own names. The recursion is as deep as the tree: at most 64 levels.
 
 ghost use Rattle.std.specs.Prelude.{◌≡◌, ◌≤◌, ◌<◌, ◌-◌, ◌∷◌, ◌++◌, List, length, OnOk};
 ghost use Rattle.cc_ast.specs.Erase.{expression_tree, optional_tree, optional_action, beginning_tree, statement_tree, statements_of};
@@ -114,7 +114,8 @@ fn conditional<'a>(
     Ok(())
 }
 
-// Writes the turns of a loop, once what follows its body, its condition, and the backward jump without its distance are written.
+// Writes the turns of a loop. What follows its body, its condition, and the backward jump without its distance are already
+// written.
 #[cycle(resolved_statements)]
 fn turns<'a>(
     names: &mut Environment<'a>,
@@ -215,7 +216,7 @@ fn block<'a>(
     Ok(())
 }
 
-/// Writes the statements of a list, in its scope.
+/// Writes the statements of a list, in the scope of the list.
 #[cycle(resolved_statements)]
 pub fn statements<'a>(
     names: &mut Environment<'a>,

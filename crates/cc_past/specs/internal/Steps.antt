@@ -1,6 +1,6 @@
--- The same for commands and images, before it is stated for a disk.
+-- What is stated for a disk, here for commands and images.
 use Rattle.std.specs.Prelude.{◌≡◌, ◌⊎◌, ℕ, false, List}
-use Rattle.cc_library.specs.declared.command.LibraryCommand.{LibraryCommand}
+use Rattle.cc_library.specs.Change.{LibraryCommand}
 use Rattle.cc_library.specs.Name.{is_name}
 use Rattle.cc_library.specs.Apply.{Units}
 use Rattle.cc_library.specs.Recovered.{RecoversOneOf}
@@ -8,7 +8,8 @@ use Rattle.cc_tasks.specs.declared.part.PartFault.{PartFault}
 use Rattle.cc_tasks.specs.declared.part.PartFault.TheVariants.{BadName, Absent, Library, OutOfMemory}
 use Rattle.cc_past.specs.Past.{StoresNone}
 
--- why there is no such unit: 33 exactly if the bytes are not a name, 32 exactly if they are a name with which that command stored nothing
+-- why there is no such unit: 33 exactly if the bytes are not a name, 32 exactly if they are a name under which that command stored
+-- nothing
 abbrev pub IsNotStored : List LibraryCommand → (name : List ℕ) (number : ℕ) → PartFault → Type 0
 IsNotStored commands name number BadName = is_name name ≡ false
 IsNotStored commands name number Absent = StoresNone commands name number

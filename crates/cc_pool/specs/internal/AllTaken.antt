@@ -3,6 +3,6 @@ use Rattle.std.specs.Prelude.{◌≡◌, IsPermutation}
 use Rattle.cc_pool.specs.declared.rule.Role.TheVariants.{Owner}
 use Rattle.cc_pool.specs.declared.rule.Hand.{Hand}
 
--- if it has as many joins as splits and nothing is queued, all that was sent is all that was taken, each item as often
+-- if the pool's own pass has as many joins as splits, what was sent is a permutation of what was taken
 abbrev pub AllTaken : Hand → Type 0
 AllTaken v = v.role ≡ Owner → v.splits ≡ v.joins → IsPermutation v.sent v.taken

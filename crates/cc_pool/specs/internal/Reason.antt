@@ -1,13 +1,13 @@
--- Which piece is a function's, and the fault for a function whose piece did not come.
+-- Which piece belongs to a function, and the fault for a function whose piece did not come.
 use Rattle.std.specs.Prelude.{◌≡◌, ℕ, List}
 use Rattle.cc_ast.specs.Source.{source}
-use Rattle.cc_c_laws.specs.declared.mode.Mode.{Mode}
+use Rattle.cc_c_semantics.specs.declared.mode.Mode.{Mode}
 use Rattle.cc_emit.specs.Piece as emit
 use Rattle.cc_pool.specs.Fault.{IsRefusedAt}
 use Rattle.cc_pool.specs.declared.fault.PoolFault.{PoolFault}
 use Rattle.cc_pool.specs.declared.fault.PoolFault.TheVariants.{Piece, WorkersGone, OutOfMemory}
 
--- the piece is in this mode, and of this function of the text
+-- the piece was made in this mode, for this function of the text
 abbrev pub IsOf : Mode → List ℕ → (function : ℕ) → emit.Piece → Type 0
 IsOf mode text function p = ((p.mode ≡ mode) × ((source p.unit).text ≡ text)) × (p.function ≡ function)
 

@@ -1,8 +1,8 @@
 // A graph that grows: each node has a place, which is its label until the order is reversed.
 //
 // Nodes are made from the end of the code to its beginning, so each comes before all others: the list has them in the code's
-// order, while places ascend in the order in which they are made. At the end they are moved, in the code's order, to a list whose
-// labels ascend along it.
+// order, while places ascend in the order in which they are made. At the end they are moved, in the code's order, to a list in
+// which labels ascend.
 
 ghost use Rattle.std.specs.Prelude.{◌≡◌, ◌+◌, ◌-◌, ◌<◌, ◌≤◌, [], ◌∷◌, ◌++◌, length, set, Some, None, IfOk, OnOk, option_map};
 ghost use Rattle.cc_rtl_language.specs.Rtl as rtl;

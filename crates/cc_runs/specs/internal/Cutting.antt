@@ -4,7 +4,7 @@ use Rattle.std.specs.Borrow.{Bor}
 use Rattle.cc_script.specs.Line.{words}
 use Rattle.cc_runs.specs.Words.{all_of, word_in}
 
--- the words of a line with this first word, and with this rest after the space that ends it, if there is one
+-- the words of a line with this first word and, if a space ends it, this rest after the space
 abbrev pub words_behind : (word : List ℕ) → Option (Bor (List ℕ)) → List (List ℕ)
 words_behind word None = word ∷ []
 words_behind word (Some rest) = word ∷ words rest.now

@@ -1,7 +1,7 @@
--- How a terminal is shown the bytes that are printed: a question mark for each control byte.
+-- How a terminal is shown the bytes that are printed: with a question mark for each control byte.
 use Rattle.std.specs.Prelude.{ℕ, Bool, ◌&&◌, ◌||◌, ◌==◌, not, nat_le, nat_lt, if◌then◌else◌, List, [], ◌∷◌}
 
--- 0 to 31 except tab and newline, 127, and 128 to 159 unless the byte before makes it part of another character
+-- a control byte is 0 to 31 except tab and newline, 127, or 128 to 159 unless the byte before makes it part of another character
 abbrev pub is_control : (before byte : ℕ) → Bool
 is_control before byte =
     ((nat_lt byte 32 && not ((byte == 9) || (byte == 10))) || (byte == 127))
@@ -10,7 +10,7 @@ is_control before byte =
 abbrev pub shown_byte : (before byte : ℕ) → ℕ
 shown_byte before byte = if is_control before byte then 63 else byte
 
--- the bytes as they are shown after this one
+-- how the bytes are shown after the byte `before`
 abbrev pub shown : (before : ℕ) → List ℕ → List ℕ
 shown before [] = []
 shown before (byte ∷ bytes) = shown_byte before byte ∷ shown byte bytes

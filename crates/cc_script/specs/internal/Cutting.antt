@@ -3,7 +3,7 @@ use Rattle.std.specs.Prelude.{ℕ, List, [], ◌∷◌, Option, Some, None}
 use Rattle.std.specs.Borrow.{Bor}
 use Rattle.cc_script.specs.Line.{words}
 
--- the words of a line with this first word, and with this behind the space that ends it, if one does
+-- the words of a line: its first word, and the words of what comes after the space that ends it, if a space does
 abbrev pub words_behind : (word : List ℕ) → Option (Bor (List ℕ)) → List (List ℕ)
 words_behind word None = word ∷ []
 words_behind word (Some rest) = word ∷ words rest.now

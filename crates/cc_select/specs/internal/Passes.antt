@@ -64,12 +64,12 @@ branch_on step v = None
 abbrev pub is_last : Table → Test → (steps : List Step) → Bool
 is_last t v steps = not (live t (behind steps) v.register) && not (t v.to v.register)
 
--- the one branch for a step and the steps after it, the first of which may be a test
+-- the one branch that replaces a step and the step after it, if that is a test
 abbrev pub branch_of : Table → Step → Option Test → (steps : List Step) → Option Step
 branch_of t step None steps = None
 branch_of t step (Some v) steps = if is_last t v steps then branch_on step v else None
 
--- the same for the step that a list begins with
+-- the one branch for the step that a list begins with, and the steps after it
 abbrev pub first_branch : Table → List Step → Option Step
 first_branch t [] = None
 first_branch t (step ∷ []) = None

@@ -44,7 +44,7 @@ Same s t = (r : ℕ) → r < 32 → s r ≡ t r
 abbrev pub known_in : found.Known → Known
 known_in k r = if holds k.some r then Some (get_or k.words r 0) else None
 
--- after a call
+-- what is still known after a call
 abbrev pub kept_by_call : Known → Known
 kept_by_call k r = if survives r then k r else None
 

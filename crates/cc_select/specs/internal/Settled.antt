@@ -4,6 +4,6 @@ use Rattle.cc_select.specs.declared.step.Step.{Step}
 use Rattle.cc_select.specs.Selected.{place}
 use Rattle.cc_select.specs.Live.{Registers, live}
 
--- at each label everything is live that is live at its place
+-- what the table has at each label includes everything that is live at the label's place
 abbrev pub IsSettled : (at_label : ℕ → Registers) → (code : List Step) → Type 0
 IsSettled at code = (label r : ℕ) → live at (place code label) r ≡ true → at label r ≡ true

@@ -250,7 +250,7 @@ argument = refl
 
 -- ---- branches on constants
 
--- after a test: 0; at its label: 1
+-- the code at the end: after the test it returns 0, at its label 1
 abbrev ends : List LinearItem
 ends = Const 10 0 ∷ Return ∷ Label 1 ∷ Const 10 1 ∷ Return ∷ []
 
@@ -280,7 +280,7 @@ branch_on_another : selected (Const 7 1 ∷ IfNonzero 8 1 ∷ ends) ≡ One (IfN
 unfolding table
 branch_on_another = refl
 
--- after it, what the items say is known, though no run comes there
+-- after a branch that is taken, the items' words stay known, though no run comes there
 behind_a_taken_one : selected (Const 7 3 ∷ IfNonzero 7 1 ∷ Load Word 0 10 7 ∷ Return ∷ Label 1 ∷ Return ∷ []) ≡ One (Jump 1) ∷ LoadAt Word 0 10 3 ∷ One Return ∷ One (Label 1) ∷ One Return ∷ []
 unfolding table
 behind_a_taken_one = refl
@@ -366,11 +366,11 @@ world = record { globals = []; input = []; output = [] }
 abbrev code : List Step
 code = BranchImmediate immediate.LtS true 10 0 1 ∷ One Return ∷ One (Label 1) ∷ Branch operators.LeU false 10 11 1 ∷ One Return ∷ []
 
--- -1 is less than 0: on at the label
+-- -1 is less than 0: the run goes on at the label
 less_leads : does (λ f. 0) code code locations world [] ≡ Goes (at_steps (One (Label 1) ∷ Branch operators.LeU false 10 11 1 ∷ One Return ∷ []) locations world [])
 less_leads = refl
 
--- 2^32 - 1 is not at most 6: on at the label too
+-- 2^32 - 1 is not at most 6: the run goes on at the label too
 not_at_most_leads : does (λ f. 0) code (One (Label 1) ∷ Branch operators.LeU false 10 11 1 ∷ One Return ∷ []) locations world [] ≡ Goes (at_steps (One (Label 1) ∷ Branch operators.LeU false 10 11 1 ∷ One Return ∷ []) locations world [])
 not_at_most_leads = refl
 

@@ -10,7 +10,7 @@ use Rattle.cc_select.specs.Threading.{tests, threaded}
 use Rattle.cc_select.specs.Table.{table}
 use Rattle.cc_select.specs.Selection.{selected}
 
--- where two ways meet, x7 is tested: on at label 3 if it is not 0
+-- where two ways meet, x7 is tested: the run goes on at label 3 if it is not 0
 abbrev meeting : List LinearItem
 meeting = Label 2 ∷ IfNonzero 7 3 ∷ Return ∷ Label 3 ∷ Write ∷ Return ∷ []
 
@@ -39,7 +39,7 @@ conjunction_selected : selected conjunction
 unfolding table
 conjunction_selected = refl
 
--- ---- known words: a jump to where the test leads, past the test, or to its label
+-- ---- known words: the test becomes a jump to where it leads, past it, or to its label
 
 jump_there : threaded (Const 7 5 ∷ Jump 2 ∷ meeting) ≡ Const 7 5 ∷ Jump 3 ∷ IfNonzero 7 3 ∷ Label 2 ∷ Return ∷ Label 3 ∷ Write ∷ Return ∷ []
 jump_there = refl

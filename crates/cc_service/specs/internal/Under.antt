@@ -2,9 +2,8 @@
 use Rattle.std.specs.Prelude.{◌≡◌, ◌≢◌, ◌⊎◌, ℕ, List, Result, Ok, Err}
 use Rattle.cc_disk.specs.declared.disk.Disk.{Ghosts}
 use Rattle.cc_library.specs.Apply.{Units}
-use Rattle.cc_history.specs.Calls.{reply_of}
 use Rattle.cc_history.specs.declared.command.Asked.{Asked}
-use Rattle.cc_history.specs.declared.command.Command.{Command}
+use Rattle.cc_history.specs.Calls.{Command, reply_of}
 use Rattle.cc_history.specs.declared.entry.Receipt.{Receipt}
 use Rattle.cc_history.specs.declared.reply.Reply.TheVariants as reply
 use Rattle.cc_history.specs.History.{MemberView, IsAnswered}
@@ -36,7 +35,7 @@ MakesAnswers command old new (Err ImageTooLarge) = ⊥
 MakesAnswers command old new (Err OutOfMemory) = ⊥
 MakesAnswers command old new (Err (Changed receipt)) = ⊥
 
--- a look-up was answered by some map, and the receipt is the client's last
+-- a look-up was answered from some map, and the receipt is the client's last
 pub record IsSeen (asked : Asked) (old new : MemberView) (receipt : Receipt) : Type 0 where
   pub units : Units
   pub replied : receipt.entry.reply ≡ reply_of units asked
@@ -55,7 +54,7 @@ abbrev pub answer_of : Result Receipt BookFault → Result Receipt ServiceFault
 answer_of (Ok receipt) = Ok receipt
 answer_of (Err fault) = Err (Book fault)
 
--- what comes after the look-up: 32 or 60, or the change
+-- what comes after the look-up: a refusal with 32 or 60, or the change
 module _ {Disk : Type 0} (D : Ghosts Disk) where
   abbrev pub UpdatesSeen : (between : BookView Disk) (heard : MemberView) (expected : List ℕ) → Command → (seen : Receipt) (after : BookView Disk) (new : MemberView) → Result Receipt ServiceFault → Type 0
   UpdatesSeen between heard expected command seen after new result =
@@ -64,7 +63,7 @@ module _ {Disk : Type 0} (D : Ghosts Disk) where
       ⊎ (HasCompared seen.entry.reply expected compared.Same
       × (answer : Result Receipt BookFault) × (result ≡ answer_of answer) × (IsBookChanged D between heard command after new answer ⊎ IsCompactedFor D between heard command after new answer)))
 
--- the answer to an update by this change
+-- the answer to an update that makes this change
 abbrev pub UpdatesBy : Command → (name expected : List ℕ) (old new : MemberView) → Result Receipt ServiceFault → Type 0
 UpdatesBy command name expected old new (Ok receipt) = IsUpdated (λ c. c ≡ command) name expected old new receipt
 UpdatesBy command name expected old new (Err (Book f)) = IsNotUpdated name expected old new f

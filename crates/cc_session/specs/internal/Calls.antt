@@ -6,7 +6,7 @@ use Rattle.cc_script.specs.declared.fault.ScriptFault.{ScriptFault}
 use Rattle.cc_script.specs.declared.fault.ScriptFault.TheVariants.{WriteFault, Stopped}
 use Rattle.cc_history.specs.declared.entry.Receipt.{Receipt}
 use Rattle.cc_history.specs.History.{MemberView}
-use Rattle.cc_c_laws.specs.declared.mode.Mode.{Mode}
+use Rattle.cc_c_semantics.specs.declared.mode.Mode.{Mode}
 use Rattle.cc_service.specs.Serving.{GetAnswers}
 use Rattle.cc_service.specs.declared.fault.ServiceFault.{ServiceFault}
 use Rattle.cc_rv32.specs.declared.image.Image.{Image}
@@ -16,27 +16,28 @@ use Rattle.cc_service.specs.Updating.{UpdateAnswers}
 use Rattle.cc_session.specs.Telling.{IsCutOff, IsCutRun, SaysAudit, SaysChange, SaysRun, no_memory_text}
 use Rattle.cc_session.specs.Playing.{AuditsEach, CallsAndWrites, CutsRun, IsBounded, Talk, Writes, talk}
 
--- this was done, and what is to be written of it was; or that could not be written, 54, and the client is as if it had been
+-- this was done, and its text was written; or the text could not be written, 54, and the client is as if it had been written
 abbrev pub DoesAndTells : {T : Type 0} → (Does : Talk → Talk → Type 0) (old new : Talk) → Result T ScriptFault → Type 0
 DoesAndTells Does old new (Ok done) = Does old new
 DoesAndTells Does old new (Err fault) = (fault ≡ WriteFault) × (written : Option (List ℕ)) × Does old (talk new.client written)
 
--- the client called, and what is to be written of the answer was; or it could not be: 54
+-- the client called, and the text of the answer was written, or could not be written: 54
 abbrev pub CallsAndTells : {T : Type 0} → (Answers : MemberView → MemberView → Result Receipt ServiceFault → Type 0) (Says : Result Receipt ServiceFault → List ℕ → Type 0)
     (old new : Talk) → Result T ScriptFault → Type 0
 CallsAndTells Answers Says old new result =
     (answer : Result Receipt ServiceFault) × Answers old.client new.client answer × (text : List ℕ) × Says answer text × Tells old.written new.written text result
 
--- the line of an audit was written for this answer, and whether it says anything is answered; or the line could not be written: 54
+-- the line of an audit was written for this answer, and the result is whether the audit says anything; or the line could not be
+-- written: 54
 abbrev pub TellsAudit : Mode → (name : List ℕ) → Result Receipt ServiceFault → (old new : Option (List ℕ)) → Result Bool ScriptFault → Type 0
 TellsAudit mode name answer old new (Ok is_said) = (text : List ℕ) × SaysAudit mode name is_said answer text × Appends old new text
 TellsAudit mode name answer old new (Err fault) = fault ≡ WriteFault
 
--- the unit of a name was fetched and audited
+-- the unit under a name was fetched and audited
 abbrev pub AuditsName : Mode → (name : List ℕ) (old new : Talk) → Result Bool ScriptFault → Type 0
 AuditsName mode name old new result = (answer : Result Receipt ServiceFault) × GetAnswers name old.client new.client answer × TellsAudit mode name answer old.written new.written result
 
--- so the units of these names, up to the first of which an audit does not say anything
+-- the same for the units under these names, up to the first one whose audit does not say anything
 abbrev pub AuditsNames : Mode → (names : List (List ℕ)) (old new : Talk) → Result Bool ScriptFault → Type 0
 AuditsNames mode names old new (Ok all) = AuditsEach mode names all old new
 AuditsNames mode names old new (Err fault) = (fault ≡ WriteFault) × (written : Option (List ℕ)) × AuditsEach mode names false old (talk new.client written)
@@ -47,29 +48,29 @@ AuditsNames mode names old new (Err fault) = (fault ≡ WriteFault) × (written 
 abbrev pub DoesOr : (Does : Talk → Talk → Type 0) (old new : Talk) → Type 0
 DoesOr Does old new = Does old new ⊎ Writes no_memory_text old new
 
--- an update, if there was room for the source that is expected
+-- an update, if there was room for the expected source
 abbrev pub UpdatesIf : Mode → (name : List ℕ) → (expected : Option (List ℕ)) → (source : List ℕ) (old new : Talk) → Type 0
 UpdatesIf mode name (Some expected) source old new = CallsAndWrites (UpdateAnswers mode name expected source) (SaysChange source) old new
 UpdatesIf mode name None source old new = ⊥
 
 -- ---- runs
 
--- what an image does within the steps; or it was cut, which may be, and is not at its end
+-- what an image does within the steps; or it was cut off, which is possible only if `may_stop`, and is not at its end
 abbrev pub IsRunOrCut : (may_stop : Bool) → Image → (steps : ℕ) → Option ImageRun → Type 0
 IsRunOrCut may_stop image steps (Some run) = IsRunOf image steps [] run
 IsRunOrCut may_stop image steps None = (may_stop ≡ true) × IsCutOff image steps
 
--- the run of the unit that was found was not written: it was cut, 61; or it could not be, 54
+-- the run of the unit that was found was not written: either it was cut off, 61, or it could not be written, 54
 abbrev pub TellsRunNot : (most : Option ℕ) (steps : ℕ) → Receipt → (old new : Option (List ℕ)) → ScriptFault → Type 0
 TellsRunNot most steps receipt old new Stopped = IsBounded most × IsCutRun steps receipt.entry.reply × (new ≡ old)
 TellsRunNot most steps receipt old new fault = (fault ≡ WriteFault) × (text : List ℕ) × SaysRun steps (Ok receipt) text
 
--- it was, if it was answered
+-- the run was written, if the result is Ok
 abbrev pub TellsRun : {T : Type 0} → (most : Option ℕ) (steps : ℕ) → Receipt → (old new : Option (List ℕ)) → Result T ScriptFault → Type 0
 TellsRun most steps receipt old new (Ok done) = (text : List ℕ) × SaysRun steps (Ok receipt) text × Appends old new text
 TellsRun most steps receipt old new (Err fault) = TellsRunNot most steps receipt old new fault
 
--- the unit of the name was fetched, and so of its run
+-- the unit under the name was fetched, and its run was not written
 abbrev pub RunsNot : (most : Option ℕ) (name : List ℕ) (steps : ℕ) (old new : Talk) → ScriptFault → Type 0
 RunsNot most name steps old new Stopped = IsBounded most × CutsRun name steps old new
 RunsNot most name steps old new fault = (fault ≡ WriteFault) × (written : Option (List ℕ)) × CallsAndWrites (GetAnswers name) (SaysRun steps) old (talk new.client written)

@@ -1,11 +1,11 @@
--- How a script from a spool ended, and a service that was given up.
+-- How a script from a spool ended, and how a service ends that was given up.
 use Rattle.std.specs.Prelude.{◌≡◌, ℕ, Bool, true, false, Option, Some, None, Result, Ok, Err}
 use Rattle.cc_script.specs.Fault.{fault_number}
 use Rattle.cc_script.specs.declared.fault.ScriptFault.{ScriptFault}
 use Rattle.cc_session.specs.declared.end.SessionEnd.{SessionEnd}
 use Rattle.cc_session.specs.declared.end.SessionEnd.TheVariants.{Finished, Fault}
 
--- by the number of this fault, where one ended it
+-- the script ended with the number of this fault, if a fault ended it
 abbrev pub EndOf : {T : Type 0} → Result T ScriptFault → Option ℕ → Type 0
 EndOf (Ok done) end = end ≡ None
 EndOf (Err fault) end = end ≡ Some (fault_number fault)

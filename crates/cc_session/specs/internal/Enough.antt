@@ -3,8 +3,8 @@ use Rattle.std.specs.Prelude.{◌≡◌, ◌⊎◌, ◌≤◌}
 use Rattle.cc_session.specs.declared.bounds.Bounds.{Bounds}
 use Rattle.cc_session.specs.declared.bounds.Counts.{Counts}
 
--- No client is to take a further script: one was taken, and the bytes came to `ends` and none is being done, or they came to `most`, or as many
--- were taken as may be.
+-- No client is to take a further script: at least one was taken, and either the bytes reached `ends` and no script is being done,
+-- or the bytes reached `most`, or the number of scripts reached its bound.
 abbrev pub IsEnough : Bounds → Counts → Type 0
 IsEnough bounds counts =
     (1 ≤ counts.scripts)

@@ -1,4 +1,4 @@
--- By recursion on the shorter cut, with the facts of the meaning at each call.
+-- Proved by recursion on the shorter cut, with the facts of the meaning at each call.
 use Rattle.cc_simulation.specs.Meaning.{call_effect}
 use Rattle.cc_simulation.proofs.Cuts.{comparable}
 use Rattle.cc_simulation.proofs.Following.{effects_of}

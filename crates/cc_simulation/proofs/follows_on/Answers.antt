@@ -1,4 +1,4 @@
--- One bound after another.
+-- One bound is found after another.
 use Rattle.cc_simulation.proofs.Behaving.{follows_trans, follows_on_for_all}
 use Rattle.cc_simulation.proofs.follows_on.Goals as goal
 

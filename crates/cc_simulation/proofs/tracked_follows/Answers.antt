@@ -1,4 +1,4 @@
--- What the source shows at a bound beyond the work done is what the cut shows, or continues it.
+-- The source at a bound beyond the work done shows what the cut shows, or continues it.
 use Rattle.cc_simulation.proofs.Following.{tracks_follow, all_follow}
 use Rattle.cc_simulation.proofs.tracked_follows.Goals as goal
 

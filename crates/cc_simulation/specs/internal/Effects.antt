@@ -1,4 +1,4 @@
--- What a layer's moves satisfy together with the effects of its calls: `IsLayer` with the meaning's facts applied.
+-- What a layer's moves satisfy together with the effects of its calls: `IsLayer`, with the facts of the meaning applied to it.
 use Rattle.std.specs.Prelude.{◌≡◌, ℕ, ◌+◌, ◌≤◌, List}
 use Rattle.cc_simulation.specs.Behavior.{IsPrefixOf}
 use Rattle.cc_simulation.specs.World.{Question, Answer, Effect, Gives, Unfinished, Failed}
@@ -22,7 +22,7 @@ LaterAt output resume (Gives a left) d e = e ≡ Gives a (left + d)
 LaterAt output resume (Unfinished o) d e = UnfinishedThen output resume o d e
 LaterAt output resume (Failed o) d e = e ≡ Failed o
 
--- no more steps are left than there were
+-- the effect leaves no more steps than there were
 abbrev pub Within : ℕ → Effect → Type 0
 Within j (Gives a left) = left ≤ j
 Within j (Unfinished o) = Unit {0}

@@ -10,7 +10,7 @@ Way {D} move output zero d e = (move d ≡ move e) × (output d ≡ output e)
 Way {D} move output (suc n) d e = (u : D) × (move d ≡ Goes u) × Way move output n u e
 
 module _ {C D : Type 0} (old : C → Move C) (old_output : C → List ℕ) (new : D → Move D) (new_output : D → List ℕ) where
-  -- one or more moves of the new language, at most `suc wide`, lead to a related configuration
+  -- one or more moves of the new language, but at most `suc wide`, lead to a related configuration
   pub record Advances (Related : C → D → Type 0) (wide : ℕ) (c : C) (d : D) : Type 0 where
     pub moves : ℕ
     pub to : D
@@ -38,9 +38,9 @@ module _ {C D : Type 0} (old : C → Move C) (old_output : C → List ℕ) (new 
     pub returns : new to ≡ Returns r
     pub output : new_output to ≡ o
 
-  -- Each move of the old language is matched by one to `suc wide` of the new one, or by none while a measure of at most `deep`
-  -- decreases; an end by an end after at most `wide` moves. So the new run ends if the old one does, and a loop that does nothing
-  -- remains a loop. If the old run fails nothing is required.
+  -- Each move of the old language is matched by one or more moves of the new one, but at most `suc wide`; or by none, while a
+  -- measure of at most `deep` decreases. An end is matched by an end after at most `wide` moves. So the new run ends if the old
+  -- one does, and a loop that does nothing remains a loop. If the old run fails nothing is required.
   pub record Simulation (Related : C → D → Type 0) (measure : C → ℕ) (deep wide : ℕ) : Type 0 where
     pub low : (c : C) (d : D) → Related c d → measure c ≤ deep
     pub outputs : (c : C) (d : D) → Related c d → new_output d ≡ old_output c
@@ -48,7 +48,7 @@ module _ {C D : Type 0} (old : C → Move C) (old_output : C → List ℕ) (new 
     pub asks : (c : C) (q : Question) (resume : Answer → C) (d : D) → Related c d → old c ≡ Calls q resume → Asks Related wide q resume d
     pub ends : (c : C) (r : Answer) (d : D) → Related c d → old c ≡ Returns r → Ending wide r (old_output c) d
 
--- two moves are of one kind, and lead to the same
+-- two moves are of one kind, and lead to related configurations
 abbrev pub Alike : {C D : Type 0} → (C → D → Type 0) → Move C → Move D → Type 0
 Alike Same (Goes c) (Goes d) = Same c d
 Alike Same (Calls q f) (Calls p g) = (q ≡ p) × ((a : Answer) → Same (f a) (g a))

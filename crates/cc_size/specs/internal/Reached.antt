@@ -1,4 +1,4 @@
--- From which functions calls lead to one, as the code finds it.
+-- The functions from which calls lead to a function, as the code finds them.
 use Rattle.std.specs.Prelude.{◌≡◌, ℕ, zero, suc, ◌<◌, ◌≤◌, ◌⊎◌, Bool, true, false, ◌||◌, ◌==◌, List, [], ◌∷◌, Contains, length, get_or}
 use Rattle.cc_emit.specs.declared.item.PieceItem.{PieceItem}
 use Rattle.cc_emit.specs.declared.item.PieceItem.TheVariants.{Plain, Call, Go}
@@ -11,28 +11,29 @@ item_calls is (Plain i) = false
 item_calls is (Call g) = is g
 item_calls is (Go k) = false
 
--- one of the items does
+-- one of the items calls such a function
 abbrev pub items_call : (is : ℕ → Bool) → List PieceItem → Bool
 items_call is [] = false
 items_call is (item ∷ items) = item_calls is item || items_call is items
 
--- calls lead from a function to the target, at most so many
+-- at most this many calls lead from a function to the target
 unfoldable pub reaches : (bodies : List (List PieceItem)) (target : ℕ) → (calls f : ℕ) → Bool
 reaches bodies target zero f = f == target
 reaches bodies target (suc calls) f = reaches bodies target calls f || items_call (reaches bodies target calls) (get_or bodies f [])
 
--- a table of functions, and those that call one of them
+-- the functions that are in the table, and those that call one that `is` names
 abbrev pub nearer : (is : ℕ → Bool) → (table : List Bool) → (bodies : List (List PieceItem)) → List Bool
 nearer is [] bodies = []
 nearer is (b ∷ bs) [] = []
 nearer is (b ∷ bs) (items ∷ rest) = (b || items_call is items) ∷ nearer is bs rest
 
--- the calls of functions before one, and its own of functions before another, as far as they are part of cycles
+-- `found` has only calls that are part of cycles, and has all of these among the calls of functions before `caller` and the
+-- calls of `caller` to functions before `called`
 pub record FoundUpTo (bodies : List (List PieceItem)) (caller called : ℕ) (found : List Recursion) : Type 0 where
   pub each : (it : Recursion) → Contains found it → IsCyclic bodies it
   pub all : (it : Recursion) (cycle : IsCyclic bodies it) → length cycle.way ≤ length bodies → (it.caller < caller) ⊎ ((it.caller ≡ caller) × (it.called < called)) → Contains found it
 
--- a call, if it is part of a cycle
+-- a list of this call, if it is part of a cycle; else the empty list
 abbrev pub added : (is : Bool) → (caller called : ℕ) → List Recursion
 added true f g = record { caller = f; called = g } ∷ []
 added false f g = []

@@ -6,7 +6,8 @@ use Rattle.cc_spool.specs.declared.lines.Lines.{Lines}
 use Rattle.cc_spool.specs.declared.submission.Side.{Side}
 use Rattle.cc_spool.specs.declared.submission.Side.TheVariants.{Reader, Writer}
 
--- the reader gave these bytes, so many, and the writer got them and no other; they were read; none only at the reader's end
+-- the reader gave these bytes, `count` of them, the writer got exactly these, and they were read; `count` is 0 only at the
+-- reader's end
 pub record HasPassed (held left old new : Option (List ℕ)) (before after : Lines) (count : ℕ) : Type 0 where
   pub bytes : List ℕ
   pub many : length bytes ≡ count
@@ -20,7 +21,8 @@ PassesOn held left old new before after (Ok count) = HasPassed held left old new
 PassesOn held left old new before after (Err (Reader why)) = new ≡ old
 PassesOn held left old new before after (Err (Writer why)) = Unit {0}
 
--- the reader gave these bytes, all that it had or as many as are asked for; the writer got them and no other, and they read so
+-- the reader gave these bytes, all that it had or as many as are asked for; the writer got exactly these, and reading them gives
+-- these lines
 pub record IsCopied (most : ℕ) (held left old new : Option (List ℕ)) (lines : Lines) : Type 0 where
   pub bytes : List ℕ
   pub given : Consumes held left bytes
@@ -28,7 +30,7 @@ pub record IsCopied (most : ℕ) (held left old new : Option (List ℕ)) (lines 
   pub written : Appends old new bytes
   pub read : lines ≡ read_bytes (between None) bytes
 
--- where the reader failed, the writer got some bytes
+-- if the reader failed, the writer got some bytes
 abbrev pub Copies : (most : ℕ) (held left old new : Option (List ℕ)) → Result Lines Side → Type 0
 Copies most held left old new (Ok lines) = IsCopied most held left old new lines
 Copies most held left old new (Err (Reader why)) = (begun : List ℕ) × Appends old new begun

@@ -1,21 +1,21 @@
--- Which fault an answer tells last.
+-- Which fault an answer reports last.
 use Rattle.std.specs.Prelude.{ℕ, Bool, true, false, if◌then◌else◌, List, Option, Some, None}
 use Rattle.cc_spool.specs.Answer.{between, read_bytes}
 use Rattle.cc_spool.specs.declared.lines.Place.{Place}
 use Rattle.cc_spool.specs.declared.lines.Place.TheVariants.{Within, Behind, Broken}
 use Rattle.cc_spool.specs.declared.lines.Lines.{Lines}
 
--- the next byte stands within a source, or behind one that no newline ended
+-- the next byte lies within a source, or after a source that no newline ended
 abbrev pub is_within : Place → Bool
 is_within (Within left) = true
 is_within Behind = true
 is_within Broken = true
 is_within place = false
 
--- which fault is told last, where an answer ends here: 55 where that is within a source
+-- the fault that is reported last if an answer ends here: 55 if it ends within a source
 abbrev pub last_told : Lines → Option ℕ
 last_told lines = if is_within lines.place then Some 55 else lines.last
 
--- which fault an answer tells last, if it tells one
+-- the fault that an answer reports last, if it reports one
 abbrev pub tells : (answer : List ℕ) → Option ℕ
 tells answer = last_told (read_bytes (between None) answer)

@@ -23,7 +23,7 @@ behind_a_source = refl
 empty : tells (codes "source 0\n\nfault 33 BadName\n") ≡ Some 33
 empty = refl
 
--- ---- answers that end within one
+-- ---- answers that end within a source
 
 cut_in_it : tells (codes "source 16\nint main(void){") ≡ Some 55
 cut_in_it = refl

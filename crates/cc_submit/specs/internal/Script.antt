@@ -1,4 +1,4 @@
--- What is sent of a line with bytes after it.
+-- What is sent for a line with bytes after it.
 use Rattle.std.specs.Prelude.{ℕ, List, ◌++◌, length, codes}
 use Rattle.std.specs.Fmt.{decimal}
 
@@ -6,11 +6,11 @@ use Rattle.std.specs.Fmt.{decimal}
 abbrev pub piece : (bytes : List ℕ) → List ℕ
 piece bytes = bytes ++ codes "\n"
 
--- a line, how many bytes follow it, and these
+-- a line, how many bytes follow it, and these bytes
 abbrev pub text_with : (line bytes : List ℕ) → List ℕ
 text_with line bytes = (line ++ (codes " " ++ (decimal (length bytes) ++ codes "\n"))) ++ piece bytes
 
--- a line, how many bytes the expected source has and how many the new one, the expected one, and the new one
+-- a line, the lengths of the expected source and of the new one, the expected source, and the new one
 abbrev pub update_text : (line expected source : List ℕ) → List ℕ
 update_text line expected source =
     (line ++ (codes " " ++ (decimal (length expected) ++ (codes " " ++ (decimal (length source) ++ codes "\n"))))) ++ (piece expected ++ piece source)

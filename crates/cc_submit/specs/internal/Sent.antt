@@ -1,4 +1,4 @@
--- What is sent of a line.
+-- What is sent for a line.
 use Rattle.std.specs.Prelude.{Bool, true, false}
 use Rattle.cc_submit.specs.declared.submitting.Sent.{Sent}
 use Rattle.cc_submit.specs.declared.submitting.Sent.TheVariants.{Fetch}

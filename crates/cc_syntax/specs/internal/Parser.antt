@@ -263,7 +263,7 @@ abbrev pub scalar_of : ObjectKind → Scalar
 scalar_of (Words t) = t
 scalar_of Bytes = scalar.Unsigned
 
--- an array of such elements
+-- an array whose elements are of this kind
 abbrev pub array_of : ObjectKind → Name → Option ConstantExpr → List ConstantExpr → Object
 array_of (Words t) = Array
 array_of Bytes = ByteArray
@@ -411,7 +411,7 @@ close_block b [] = Some (AtFile (b.externals ++ Definition b.signature b.finishe
 close_block b (InBlock ss ∷ os) = settle (inside_of b b.finished os) (Block ss)
 close_block b _ = None
 
--- a declaration may only be directly in a block
+-- a declaration is allowed only directly in a block
 abbrev pub declare : Inside → Stage → List Open → Option State
 declare b s [] = Some (InBody b s)
 declare b s (InBlock ss ∷ os) = Some (InBody b s)
@@ -553,7 +553,7 @@ result_sign_step es t role.Int x = file es (Typed (Some t))
 result_sign_step es t role.Char x = char_step es t
 result_sign_step es t r x = typed_step es (Some t) r x
 
--- a token after the name of an object that is not an array; `unsigned char` has only arrays
+-- a token after the name of an object that is not an array; of `unsigned char` there are only arrays
 abbrev pub single_step : List External → Naming → ObjectKind → Role → Option State
 single_step es n (Words t) (role.Assignment assignment.Plain) = file es (Initialising n)
 single_step es n (Words t) r = separated es n.kind (with_object n (Single n.name None)) r
@@ -684,7 +684,7 @@ abbrev pub item_level : ℕ → Role → ℕ
 item_level depth role.CloseBrace = 0
 item_level depth _ = suc (suc depth)
 
--- how many statements stay open once one is complete that no `else` follows; None if a `do` then awaits its `while`
+-- how many statements stay open after a complete one that no `else` follows; None if a `do` then awaits its `while`
 abbrev pub resting_depth : List Open → Option ℕ
 resting_depth [] = Some 0
 resting_depth (InBlock ss ∷ os) = Some (suc (length os))

@@ -1,5 +1,5 @@
--- The parser's state without its place in memory, and what its functions return, in terms of that. No public contract cites this
--- file.
+-- The parser's state as `Parser` defines it, without its place in memory, and what the parser's functions return, in terms of
+-- that state. No public contract cites this file.
 use Rattle.std.specs.Prelude.{◌≡◌, ◌<◌, ℕ, List, slice_range, reverse, map, Option, Some, None, Result, Ok, Err}
 use Rattle.cc_syntax.specs.declared.parser.state.Waiting as waiting
 use Rattle.cc_syntax.specs.declared.parser.state.Waiting.TheVariants as waitings
@@ -166,7 +166,7 @@ context_of p c = context_view (body_view p) p.body.spot p.body.locals p.naming p
 abbrev pub full_view : parser.Parser → Full
 full_view p = record { context = context_of p p.full.context; waiting = waiting_views p.full.waiting.items; count = p.full.count.tokens }
 
--- the parser's state, by what is being read
+-- the parser's state, depending on what is being read
 abbrev pub view_at : parser.Parser → reading.At → State
 view_at p readings.File = AtFile (external_trees p.externals.items) (outer_of p p.outer)
 view_at p readings.Body = InBody (body_view p) (stage_of p p.body.stage)
@@ -179,7 +179,7 @@ parser_view p = view_at p p.at
 abbrev pub name_at : cursor.Cursor → Name
 name_at c = record { text = slice_range c.text.now c.token.from c.token.to; at = c.token.from }
 
--- a full expression passes its limit
+-- a full expression exceeds its limit
 abbrev pub PassesCount : Option State → Type 0
 PassesCount None = ⊥
 PassesCount (Some m) = 512 < count_of m

@@ -2,7 +2,7 @@
 
 ghost use Rattle.std.specs.Prelude.{◌≡◌, ◌≤◌, suc, MatchOption};
 
-/// The most tokens that a full expression may have.
+/// The largest number of tokens that a full expression may have.
 pub const MOST_TOKENS: usize = 512;
 
 /// How many tokens of the full expression have been read; never more than the limit.
@@ -13,7 +13,7 @@ pub struct Count {
 }
 
 impl Count {
-    /// The count after one more token, or `None` if that passes the limit.
+    /// The count after one more token, or `None` if that exceeds the limit.
     pub fn next(self) -> Option<Count>
         ensures { MatchOption result (512 ≤ self.tokens) (λ more. more.tokens ≡ suc self.tokens) }
     {

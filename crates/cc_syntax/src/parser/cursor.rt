@@ -26,7 +26,7 @@ impl<'a> Cursor<'a> {
         self.token.from
     }
 
-    /// The identifier that the token is.
+    /// The token as an identifier.
     pub fn name(&self, alloc: Global) -> Result<Identifier, AllocError>
         ensures { IfOk result (λ n. name_tree n ≡ name_at self.now) }
     {

@@ -1,5 +1,5 @@
-// The declarations of objects, without the constant expressions in them. `naming` has the declaration so far, and `list` what
-// belongs to an array.
+// The declarations of objects, without the constant expressions in them. `naming` has the declaration so far, and `list` what has
+// been read of an array.
 
 ghost use Rattle.std.specs.Prelude.{◌≡◌, [], ◌∷◌, ◌++◌, IfOk, None};
 ghost use Rattle.cc_ast.specs.Erase.{name_tree, external_trees, object_tree, object_trees, optional_constant, constant_trees};
@@ -26,7 +26,7 @@ fn scalar_of(kind: ObjectKind) -> Scalar
     }
 }
 
-/// Makes an array of such elements.
+/// Makes an array whose elements are of this kind.
 fn array_of(
     kind: ObjectKind,
     name: Identifier,
@@ -115,7 +115,7 @@ impl Parser {
         }
     }
 
-    /// Reads a token after the name of an object that is not an array. `unsigned char` has only arrays.
+    /// Reads a token after the name of an object that is not an array. There are only arrays of `unsigned char`.
     fn step_single(&mut self, role: Role) -> Result<(), Stop>
         ensures { Gives (single_step (external_trees self.old.externals.items) (naming_view self.old.naming) self.old.naming.kind role) result self.new }
     {

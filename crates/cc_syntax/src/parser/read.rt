@@ -64,8 +64,8 @@ impl Parser {
         self.finished()
     }
 
-    /// Returns the external declarations that the tokens spell within the limits, or which token is the first that breaks the
-    /// grammar or a limit.
+    /// Returns the external declarations that the tokens spell within the limits, or says which token is the first that breaks
+    /// the grammar or a limit.
     pub fn read_tokens(&mut self, text: &[u8], tokens: &[Token]) -> Result<Vec<External>, Refusal>
         requires { AreInOrder 0 tokens.now (length text.now) }
         ensures { MatchResult result (λ es. SpellsWithin (lexemes text.now tokens.now) (external_trees es.items)) (λ e. Refuses (lexemes text.now tokens.now) e) }

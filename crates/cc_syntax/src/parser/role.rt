@@ -45,7 +45,7 @@ pub enum Role {
     Assignment(AssignmentOperator),
     /// `++` or `--`.
     Step(StepOperator),
-    /// A token that no unit has.
+    /// A token that occurs in no unit.
     Other,
 }
 

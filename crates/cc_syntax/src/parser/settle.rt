@@ -15,7 +15,7 @@ use cc_ast::{Action, Beginning, Expression, External, Statement};
 use std::alloc::{AllocError, Global};
 use std::mem::replace;
 
-/// Up to this many statements, a list takes room for exactly as many as it has.
+/// A list of at most this many statements takes room for exactly as many as it has.
 const SHORT: usize = 4;
 
 /// Makes a block of statements.
@@ -107,7 +107,7 @@ impl Parser {
         Ok(())
     }
 
-    /// Does the same for a statement that is not in a box yet.
+    /// Adds a complete statement that is not in a box yet to the body.
     pub fn settle(&mut self, statement: Statement) -> Result<(), Stop>
         ensures { Gives (settle (body_view self.old) (statement_tree statement)) result self.new }
     {
@@ -193,7 +193,7 @@ impl Parser {
         }
     }
 
-    /// Begins a declaration, which may only be directly in a block.
+    /// Begins a declaration, which is allowed only directly in a block.
     pub fn begin_declaration(&mut self, stage: Stage) -> Result<(), Stop>
         ensures { Gives (declare (body_view self.old) (stage_of self.old stage) (open_views self.old.body.open.items)) result self.new }
     {

@@ -31,7 +31,7 @@ pub enum Waiting {
     Otherwise(Box<Expression>, Box<Expression>),
 }
 
-/// A statement that has begun and is not complete: a block awaits its end, any other a statement.
+/// A statement that has begun and is not complete: a block awaits its end, and any other one awaits a statement.
 #[derive(Drop)]
 pub enum Open {
     Block(Vec<Statement>),

@@ -9,7 +9,7 @@ pub enum Stop {
     Memory,
     /// No unit continues with the token.
     Unexpected,
-    /// The token passes a limit.
+    /// The token exceeds a limit.
     TooDeep,
 }
 
@@ -18,9 +18,9 @@ pub enum Stop {
 pub enum Refusal {
     /// Memory ran out.
     Memory,
-    /// No unit continues with the token of this number. The end of the text counts as a last token.
+    /// No unit continues with the token with this number. The end of the text counts as a last token.
     Unexpected(usize),
-    /// The token of this number passes a limit.
+    /// The token with this number exceeds a limit.
     TooDeep(usize),
 }
 

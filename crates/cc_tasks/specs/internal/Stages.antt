@@ -1,4 +1,4 @@
--- The program's fault for one of the stages.
+-- The program's fault for a fault of the stages.
 use Rattle.cc_stages.specs.declared.fault.StagesFault.{StagesFault}
 use Rattle.cc_stages.specs.declared.fault.StagesFault.TheVariants as stages
 use Rattle.cc_tasks.specs.declared.fault.Fault.{Fault}

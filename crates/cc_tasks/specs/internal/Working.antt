@@ -10,13 +10,13 @@ use Rattle.cc_tasks.specs.declared.explain.Matter.TheVariants.{Text, Wrong, Goin
 use Rattle.cc_tasks.specs.declared.fault.Fault.{Fault}
 use Rattle.cc_tasks.specs.declared.fault.Fault.TheVariants.{Text as NoText, Meaning, Piece, Link, UnknownFunction, OutOfMemory, Read, Write}
 
--- the write succeeded, and nothing more was written after it; or one of the two failed: 54
+-- the write succeeded, and the flush wrote nothing more; or one of the two failed: 54
 abbrev pub Flushes : {T E U : Type 0} → Result T E → (old new : Option (List ℕ)) → Result U Fault → Type 0
 Flushes (Ok done) old new (Ok flushed) = Keeps old new
 Flushes (Err failed) old new (Ok flushed) = ⊥
 Flushes write old new (Err fault) = fault ≡ Write
 
--- the line of this fault was written; or it could not be: 54
+-- the line of this fault was written; or it could not be written: 54
 abbrev pub RefusesBy : (fault : Fault) (text : List ℕ) (old new : Option (List ℕ)) (told : Fault) → Type 0
 RefusesBy fault text old new told = (told ≡ Write) ⊎ ((told ≡ fault) × Appends old new (fault_text text fault))
 
@@ -26,11 +26,12 @@ pub record IsAnsweredFor (task : Task) (text : List ℕ) (old new : Option (List
   pub answers : Answers task text answer
   pub written : Appends old new (answer_text answer)
 
--- the text has this fault, and the fault's line was written; or it could not be: 54
+-- the text has this fault, and the fault's line was written; or it could not be written: 54
 abbrev pub IsRefusedFor : Task → (text : List ℕ) (old new : Option (List ℕ)) → Fault → Type 0
 IsRefusedFor task text old new fault = (fault ≡ Write) ⊎ (IsRefused task text fault × Appends old new (fault_text text fault))
 
--- why there is no answer: something could not be written, 54, and nothing is known of what was; or the line of the fault was written
+-- why there is no answer: something could not be written, 54, and nothing is known about what was written; or the line of the
+-- fault was written
 abbrev pub HasNoAnswer : Task → (input old new : Option (List ℕ)) → Fault → Type 0
 HasNoAnswer task input old new fault = (fault ≡ Write) ⊎ IsToldFault task input old new fault
 
@@ -56,7 +57,7 @@ abbrev pub status_of : Result Matter Fault → ℕ
 status_of (Ok matter) = matter_status matter
 status_of (Err fault) = 1
 
--- whether a fault is told by its line: all but 54
+-- whether a fault is reported by its line: all but 54
 abbrev pub is_told : Fault → Bool
 is_told (NoText f) = true
 is_told (Meaning f) = true
@@ -67,7 +68,7 @@ is_told OutOfMemory = true
 is_told Read = true
 is_told Write = false
 
--- whether all that was to be written is
+-- whether all that was to be written is written
 abbrev pub written_of : Result Matter Fault → Bool
 written_of (Ok matter) = true
 written_of (Err fault) = is_told fault

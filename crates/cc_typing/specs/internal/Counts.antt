@@ -1,4 +1,4 @@
--- How the code counts what is limited.
+-- How the code counts what has a limit.
 use Rattle.std.specs.Prelude.{ℕ, ◌+◌, List, [], ◌∷◌, ◌++◌, Option, Some, None, if◌then◌else◌, nat_lt, is_some}
 use Rattle.cc_ast.specs.Tree.{Object, External}
 use Rattle.cc_types.specs.Limits.{most_words, object_name}
@@ -8,12 +8,12 @@ use Rattle.cc_types.specs.declared.rule.Rule.TheVariants.{TooMany}
 use Rattle.cc_types.specs.internal.Externals.{defined_in}
 use Rattle.cc_typing.specs.declared.limits.Words.{Words}
 
--- the limit passed at an offset, if there is one
+-- the error of a limit that was exceeded at this offset, if there is one
 abbrev pub excess_of : Option ℕ → List RuleError
 excess_of None = []
 excess_of (Some at) = record { rule = TooMany; at = at } ∷ []
 
--- the words of the objects so far, and the offset of the object that passed their limit
+-- the words of the objects so far, and the offset of the object that exceeded the limit on them
 pub record WordCount : Type 0 where
   pub taken : ℕ
   pub past : Option ℕ
@@ -21,7 +21,7 @@ pub record WordCount : Type 0 where
 abbrev pub word_count : Words → WordCount
 word_count w = record { taken = w.taken; past = w.past }
 
--- the count after one more object; nothing is counted once the limit is passed
+-- the count after one more object; nothing is counted once the limit is exceeded
 abbrev pub with_words : WordCount → Object → WordCount
 with_words w o =
     if is_some w.past then w
@@ -31,7 +31,7 @@ abbrev pub words_after : WordCount → List Object → WordCount
 words_after w [] = w
 words_after w (o ∷ rest) = words_after (with_words w o) rest
 
--- the functions that some external declarations define, the last one first, before the earlier ones
+-- the functions that these external declarations define, the last one first, and then the functions d that were defined before
 abbrev pub all_defined : List External → List (List ℕ) → List (List ℕ)
 all_defined [] d = d
 all_defined (e ∷ rest) d = all_defined rest (defined_in e ++ d)

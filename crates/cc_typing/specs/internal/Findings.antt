@@ -10,16 +10,16 @@ use Rattle.cc_types.specs.declared.rule.Rule.TheVariants.{Redeclared}
 use Rattle.cc_types.specs.declared.rule.RuleError.{RuleError}
 use Rattle.cc_typing.specs.declared.around.Surroundings.{Surroundings}
 
--- one error comes before another
+-- the error o comes before the error p: by offset, then by number
 abbrev pub is_before : RuleError → RuleError → Bool
 is_before o p = nat_lt o.at p.at || (o.at == p.at && nat_lt (rule_number o.rule) (rule_number p.rule))
 
--- the earlier of an error, if there is one, and another
+-- the earlier of two errors; the first one may be absent
 abbrev pub earlier : Option RuleError → RuleError → RuleError
 earlier None o = o
 earlier (Some p) o = if is_before o p then o else p
 
--- the first error after some more
+-- the first error once these further errors were noted
 abbrev pub noted : Option RuleError → List RuleError → Option RuleError
 noted first [] = first
 noted first (o ∷ rest) = noted (Some (earlier first o)) rest
@@ -38,7 +38,7 @@ after f errors calls = record f { first = noted f.first errors; undefined = note
 abbrev pub nothing_found : Functions → Found
 nothing_found functions = record { first = None; undefined = None; functions = functions }
 
--- the same after more functions have been defined
+-- what has been found, once more functions have been defined
 abbrev pub with_before : Found → List (List ℕ) → Found
 with_before f names = record f { functions = record { defined = f.functions.defined; before = names ++ f.functions.before } }
 
@@ -51,14 +51,14 @@ abbrev pub declarator_errors : Scalar → Declarator → Visible → List RuleEr
 declarator_errors t d v =
     broken_if (is_declared v.inner d.name.text) Redeclared d.name.at ++ optional_errors (in_scope (declared d.name.text (Variable t) v)) d.initial
 
--- a return with a value in a void function, or without one in any other
+-- a return that has a value in a void function, or has none in another function
 abbrev pub is_bad_return : Option Scalar → Option Expr → Bool
 is_bad_return None None = false
 is_bad_return None (Some e) = true
 is_bad_return (Some t) None = true
 is_bad_return (Some t) (Some e) = false
 
--- an array without elements, or with fewer than its list has values
+-- an array has no elements, or has fewer than its list has values
 abbrev pub is_bad_length : Option ℕ → ℕ → Bool
 is_bad_length None given = false
 is_bad_length (Some n) given = n == 0 || nat_lt n given

@@ -6,16 +6,16 @@ use Rattle.cc_types.specs.Scope.{has_name}
 use Rattle.cc_types.specs.Entities.{names_in}
 use Rattle.cc_typing.specs.declared.functions.State.{State}
 
--- the functions that a unit defines, and those that are defined before a given place; the builtins are among both
+-- the functions that a unit defines, and those that are defined before a given place; both include the builtins
 pub record Functions : Type 0 where
   pub defined : List (List ℕ)
   pub before : List (List ℕ)
 
--- some names that the code keeps newest last, as the definitions see them
+-- names that the code keeps newest last, in the order of the definitions, newest first
 abbrev pub newest_first : List (Bor (List ℕ)) → List (List ℕ)
 newest_first keys = names_in (reverse keys)
 
--- what an entry says; without an entry neither holds
+-- what an entry says: defined, or defined before; without an entry neither holds
 abbrev pub is_defined : Option State → Bool
 is_defined None = false
 is_defined (Some s) = s.defined

@@ -1,4 +1,4 @@
--- Worked units and the rules that they break, shown by computation. An offset counts bytes from 0.
+-- Worked units and the rules that they break, computed. An offset counts bytes from 0.
 use Rattle.std.specs.Prelude.{◌≡◌, refl, ℕ, zero, suc, replicate, ◌+◌, ◌/◌, ◌%◌, true, false, List, [], ◌∷◌, ◌++◌, Some, None, codes}
 use Rattle.cc_ast.specs.Tree as tree
 use Rattle.cc_ast.specs.Tree.{Name, Stmt, External}
@@ -179,7 +179,7 @@ while_loop = tree.While (tree.Number Int 0) (tree.Perform None)
 abbrev h_called : Stmt
 h_called = tree.Perform (Some (tree.Evaluate (tree.Call (name (codes "h") 249) tree.none)))
 
--- int main(void){ and those seven }
+-- int main(void){ followed by those seven statements and }
 abbrev main_defined : External
 main_defined = tree.Definition (record { result = (Some Int); name = (name (codes "main") 129); parameters = [] }) (tree.next x_declared (tree.next write_word_hidden (tree.next do_loop (tree.next for_loop (tree.next element_added_to (tree.next while_loop (tree.next h_called tree.end)))))))
 
@@ -202,7 +202,7 @@ wrong_part_not_evaluated = refl
 unsigned_and_signed : errors (tree.Objects Int (tree.Array (name (codes "a") 4) (Some (record { at = 6; expr = (tree.Binary Less (tree.Number Int 1) (tree.Number Unsigned 2)) })) [] ∷ []) ∷ tree.Definition (record { result = (Some Int); name = (name (codes "main") 16); parameters = [] }) tree.end ∷ []) ≡ []
 unsigned_and_signed = refl
 
--- the same
+-- the same unit calls no function that is not defined
 none_is_undefined : undefined_calls each_statement ≡ []
 none_is_undefined = refl
 
@@ -246,7 +246,7 @@ one_word_more = refl
 large_length : excesses (tree.Objects Int (tree.Array (name (codes "a") 4) (Some (record { at = 6; expr = (tree.Number Unsigned 2147483648) })) [] ∷ []) ∷ tree.Definition (record { result = (Some Int); name = (name (codes "main") 22); parameters = [] }) tree.end ∷ []) ≡ broken TooMany 4
 large_length = refl
 
--- a body with this many blocks {int a;}, the first at this offset
+-- a body with this many blocks {int a;}, the first of them at this offset
 abbrev blocks : ℕ → ℕ → tree.Stmts
 blocks zero at = tree.end
 blocks (suc n) at = tree.next (tree.Block (tree.next (tree.Local Int (record { name = name (codes "a") (at + 5); initial = None } ∷ [])) tree.end)) (blocks n (at + 8))
@@ -261,7 +261,7 @@ locals_within = refl
 one_local_more : excesses (with_blocks 257) ≡ broken TooMany 2068
 one_local_more = refl
 
--- this many definitions int f10(){}, int f11(){}, .., the first at this offset, and then int main(void){}
+-- this many definitions int f10(){}, int f11(){}, .., the first of them at this offset, and then int main(void){}
 abbrev functions_from : ℕ → ℕ → ℕ → List External
 functions_from zero number at = tree.Definition (record { result = Some Int; name = name (codes "main") (at + 4); parameters = [] }) tree.end ∷ []
 functions_from (suc n) number at = tree.Definition (record { result = Some Int; name = name (102 ∷ (48 + number / 10) ∷ (48 + number % 10) ∷ []) (at + 4); parameters = [] }) tree.end ∷ functions_from n (number + 1) (at + 11)

@@ -67,7 +67,7 @@ quotient_by_negative = refl
 remainder_by_negative : rem_s 7 4294967294 ≡ Some 1
 remainder_by_negative = refl
 
--- no value: division by zero, and of -2147483648 by -1
+-- no value: division by zero, and division of -2147483648 by -1
 signed_by_zero : div_s 7 0 ≡ None
 signed_by_zero = refl
 

@@ -10,7 +10,7 @@ use tests_texts::verdict::{each_passes, passes};
 type Line = (&'static [u8], &'static str);
 
 static LINES: [Line; 9] = [
-    // the middle one of three lines, and lines with other ends
+    // the middle one of three lines, and lines with other line ends
     (
         b"int x;\nint main(void){y;}\nint z;\n",
         "-:2:16: 'y' is not declared\n    2 | int main(void){y;}\n      |                ^\n",
@@ -33,12 +33,12 @@ static LINES: [Line; 9] = [
         b"int main(void){\n\tint x;\ty;}",
         "-:2:9: 'y' is not declared\n    2 | \tint x;\ty;}\n      | \t      \t^\n",
     ),
-    // columns count bytes, the caret is placed by characters
+    // columns count bytes, but the caret is placed by counting characters
     (
         b"int main(void){/*\xc3\xa9*/y;}",
         "-:1:22: 'y' is not declared\n    1 | int main(void){/*\u{e9}*/y;}\n      |                     ^\n",
     ),
-    // bytes that are not UTF-8 are shown one by one, and a byte that would control a terminal as a question mark
+    // bytes that are not UTF-8 are shown one by one, and a byte that would control a terminal is shown as a question mark
     (
         b"int main(void){/*\xe9\x1b\x9b*/y;}",
         "-:1:23: 'y' is not declared\n    1 | int main(void){/*\u{e9}??*/y;}\n      |                       ^\n",
@@ -49,7 +49,7 @@ static LINES: [Line; 9] = [
     ),
     (
         b"int \xc3\xa9;",
-        "-:1:5: U+00E9 begins no token: names have letters, digits and _ alone in this C, and outside comments there is no other\n    1 | int \u{e9};\n      |     ^\n",
+        "-:1:5: U+00E9 begins no token: names have only letters, digits and _ in this C, and outside comments there is no other\n    1 | int \u{e9};\n      |     ^\n",
     ),
 ];
 
@@ -62,7 +62,7 @@ fn lines(rt: HostRuntime) -> Result<(), Fail> {
     each_passes(rt.alloc(), LINES.as_slice(), is_line)
 }
 
-// Whether an undeclared name of this many bytes is shown with this many of them, in quotes.
+// Whether an undeclared name of `length` bytes is shown in quotes with `shown` of its bytes.
 fn shows_name(alloc: Global, length: usize, shown: usize, end: &str) -> Result<bool, Fail> {
     let mut text = String::from_str(alloc, "int main(void){\n")?;
     let mut told = String::from_str(alloc, "-:2:1: '")?;
@@ -120,7 +120,7 @@ fn offsets(rt: HostRuntime) -> Result<(), Fail> {
     each_passes(rt.alloc(), OFFSETS.as_slice(), is_written)
 }
 
-// Whether the message about the name of this many bytes at an offset is these lines.
+// Whether the message about the name of `length` bytes at offset `at` has exactly these lines.
 fn names(alloc: Global, at: usize, length: usize, told: &str) -> Result<bool, Fail> {
     let text = b"int f(void){}".as_slice();
     let diagnostic = of_name(alloc, text, at, length, "is too large")?;

@@ -93,7 +93,7 @@ static SPELLING: [Row; 18] = [
     ),
     (
         "int x=0xe+1;",
-        "-:1:7: '0xe+1' is no decimal, octal or hexadecimal constant: it has decimal digits, or hexadecimal ones behind 0x, and then u or nothing
+        "-:1:7: '0xe+1' is no decimal, octal or hexadecimal constant: one has decimal digits, or hexadecimal ones after 0x, and then u or nothing
     1 | int x=0xe+1;
       |       ^
 ",
@@ -142,7 +142,7 @@ static SPELLING: [Row; 18] = [
     ),
 ];
 
-// Texts with a token that cannot come there, and the message about each: the token, and what could come instead.
+// Texts with a token that cannot come at its place, and the message about each: the token, and what could come instead.
 static GRAMMAR: [Row; 37] = [
     (
         "",
@@ -282,7 +282,7 @@ static GRAMMAR: [Row; 37] = [
     ),
     (
         "int main(void){else;}",
-        "-:1:16: unexpected 'else': it stands without an 'if', whose statement would have to end directly before it
+        "-:1:16: unexpected 'else': it has no 'if', whose statement would have to end directly before it
     1 | int main(void){else;}
       |                ^
 ",
@@ -571,7 +571,7 @@ static NAMES: [Row; 18] = [
     ),
 ];
 
-// Names that are used as something else than they are, and expressions that should be constant and are not.
+// Names that are used as something other than what they are, and expressions that should be constant but are not.
 static KINDS: [Row; 17] = [
     (
         "int x;int main(void){x();}",
@@ -694,7 +694,7 @@ static KINDS: [Row; 17] = [
     ),
 ];
 
-// Numbers of arguments and of initialisers that do not fit.
+// Wrong numbers of arguments and of initialisers.
 static COUNTS: [Row; 9] = [
     (
         "int add(int a,int b){return a+b;}\nint main(void){\n  add(1);\n}",
@@ -793,14 +793,14 @@ static OTHERS: [Row; 16] = [
     ),
     (
         "int main(void){break;}",
-        "-:1:16: 'break' stands outside a loop
+        "-:1:16: 'break' is outside a loop
     1 | int main(void){break;}
       |                ^
 ",
     ),
     (
         "int main(void){while(0);continue;}",
-        "-:1:25: 'continue' stands outside a loop
+        "-:1:25: 'continue' is outside a loop
     1 | int main(void){while(0);continue;}
       |                         ^
 ",

@@ -1,7 +1,7 @@
 // Faulty texts: the place on standard error, and key words of the message.
 //
-// The place is that of the first line; the key words may be anywhere after it. A row without them is a program for which nothing
-// is written.
+// The place is that of the first line; the key words may be anywhere after it. A row without a place is a program for which
+// nothing is written.
 
 use super::helpers::{has, told_of};
 use std::alloc::Global;
@@ -282,12 +282,12 @@ static FIRST_HOUR_3: [Row; 26] = [
     (
         "int main(void) {\n  else write_word(1);\n  return 0;\n}\n",
         "2:3",
-        "without an 'if'",
+        "it has no 'if'",
     ),
     (
         "int main(void) {\n  if (read_word() > 0);\n    write_word(1);\n  else\n    write_word(2);\n  return 0;\n}\n",
         "4:3",
-        "without an 'if'",
+        "it has no 'if'",
     ),
     (
         "int main(void) {\n  int x = 1;\n  int x = 2;\n  write_word(x);\n  return 0;\n}\n",
@@ -297,7 +297,7 @@ static FIRST_HOUR_3: [Row; 26] = [
     (
         "int main(void) {\n  break;\n  return 0;\n}\n",
         "2:3",
-        "'break' stands outside a loop",
+        "'break' is outside a loop",
     ),
     (
         "int a[3];\nint main(void) {\n  a = 1;\n  return a[0];\n}\n",
@@ -764,7 +764,7 @@ static OTHERS_3: [Row; 21] = [
     (
         "int main(void){\n  int x=1;\n  if(x)x=2;x=3;else x=4;\n}",
         "3:16",
-        "without an 'if'",
+        "it has no 'if'",
     ),
     (
         "int main(void){\n  while(1){\n    write_word(1);\n}",
@@ -774,7 +774,7 @@ static OTHERS_3: [Row; 21] = [
     (
         "int main(void){\n  int x=1;\n  (x)=2;\n}",
         "3:6",
-        "behind no variable",
+        "after no variable",
     ),
     (
         "int main(void){\n  int x;\n  x:=5;\n}",

@@ -81,9 +81,9 @@ static ROWS_1: [Row; 9] = [
     (
         "int main(void) {\n  int i = 0;\n  break;\n  if (i) continue;\n  while (i < 3) { i++; continue; }\n  break;\n  return i;\n}\n",
         &[
-            ("3:3", "'break' stands outside a loop"),
-            ("4:10", "'continue' stands outside a loop"),
-            ("6:3", "'break' stands outside a loop"),
+            ("3:3", "'break' is outside a loop"),
+            ("4:10", "'continue' is outside a loop"),
+            ("6:3", "'break' is outside a loop"),
         ],
     ),
     (
@@ -339,10 +339,10 @@ fn tells_at_last(alloc: Global, row: &Many) -> Result<bool, Fail> {
     Ok(found == told && lines.as_slice().starts_with(last))
 }
 
-const FURTHER: &[u8] = b"-: further errors are not told: correct these first\n";
+const FURTHER: &[u8] = b"-: further errors are not shown: correct these first\n";
 
 static MANY: [Many; 3] = [
-    (20, 20, b"-:21:1: 'break' stands outside a loop\n"),
+    (20, 20, b"-:21:1: 'break' is outside a loop\n"),
     (21, 21, FURTHER),
     (25, 21, FURTHER),
 ];
@@ -361,7 +361,7 @@ fn of_length(alloc: Global, length: usize) -> Result<Vec<u8>, AllocError> {
     Ok(text)
 }
 
-// How many errors are reported for such a text.
+// How many errors are reported for the text of `length` bytes.
 fn count_of(alloc: Global, length: usize) -> Option<usize> {
     let text = of_length(alloc, length).ok()?;
     let errors = errors_of(alloc, text.as_slice()).ok()?;

@@ -302,7 +302,7 @@ fn runs_that_go_wrong(rt: HostRuntime) -> Result<(), Fail> {
     each_passes(rt.alloc(), RUNS.as_slice(), is_told)
 }
 
-// The fourth turn of the loop goes wrong, which takes the step of `main` and those of four turns.
+// The fourth turn of the loop goes wrong. To get there takes the step of `main` and one step for each of four turns.
 const FOURTH: &str = "int a[3];int main(void){int i;for(i=0;i<9;i++)a[i]=1;}";
 
 #[test]

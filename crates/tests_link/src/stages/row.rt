@@ -1,5 +1,5 @@
-// The stages of the program with 24 locals that are alive over a call. Each stage was read by a script that knows the languages by
-// docs/INTERMEDIATE.md alone, and run by it on the words from 1 to 24: each writes 0 and 300.
+// The stages of the program with 24 locals that are alive over a call. Each stage was read by a script that was written from
+// docs/INTERMEDIATE.md only, which also ran it on the words from 1 to 24: each writes 0 and 300.
 
 /// `f` as RTL, which has no dead node.
 const F_RTL: &str = "parameters 1, entry 0

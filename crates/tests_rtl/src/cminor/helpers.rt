@@ -8,7 +8,7 @@ use std::sync::Arc;
 use std::test::Fail;
 use tests_texts::stages::Stage;
 
-// Whether the function with this number can be translated, and the pair names it.
+// Whether the function with this number can be translated, and whether the pair names it.
 fn goes_through(alloc: Global, unit: &Arc<TypedUnit>, function: usize) -> bool {
     if function >= unit.functions() {
         return false;

@@ -1,4 +1,4 @@
-// Definitions of some 64 KiB, each at one of the limits: whatever their form, they end within a test's time.
+// Definitions of some 64 KiB, each at one of the limits: whatever their form, their translation ends within a test's time.
 
 use super::helpers::all_go_through;
 use std::alloc::{AllocError, Global};

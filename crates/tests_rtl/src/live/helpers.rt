@@ -10,13 +10,13 @@ use std::test::Fail;
 /// What a test asks about a function.
 #[derive(Clone, Copy, PartialEq)]
 pub enum Asked {
-    /// Its live sets.
+    /// The function's live sets.
     Sets,
-    /// Its text.
+    /// The function's text.
     Text,
-    /// Its text without dead nodes.
+    /// The function's text without dead nodes.
     WithoutDead,
-    /// Its text without faint nodes.
+    /// The function's text without faint nodes.
     WithoutFaint,
 }
 

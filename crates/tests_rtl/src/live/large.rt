@@ -6,7 +6,7 @@ use std::fmt::Write;
 use std::test::Fail;
 use tests_texts::verdict::each_passes;
 
-// A function that reads 200 variables, moves each to the one before it this many times in a loop, and returns one value.
+// A function that reads 200 variables, moves each to the one before it `times` times in a loop, and returns one value.
 fn rotating(alloc: Global, times: usize, value: &str) -> Result<String, AllocError> {
     let mut text = String::new(alloc);
     text.push_str("int main(void){")?;

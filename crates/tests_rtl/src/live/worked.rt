@@ -96,7 +96,7 @@ static ANSWERS: [Row; 11] = [
 10: return r3
 ",
     ),
-    // and is dropped together with it
+    // the factor is dropped together with the product
     (
         "int main(void){int x=read_word();int y=x*7;write_word(x);}",
         Asked::WithoutFaint,
@@ -114,7 +114,7 @@ static ANSWERS: [Row; 11] = [
 10: return r3
 ",
     ),
-    // of a chain of products one is dropped at a time
+    // in a chain of products, one is dropped at a time
     (
         "int f(int x){int a=x*2;int b=a*3;int c=b*5;return x;}int main(void){}",
         Asked::WithoutDead,
@@ -134,7 +134,7 @@ static ANSWERS: [Row; 11] = [
 12: return r4
 ",
     ),
-    // or all at once
+    // or all are dropped at once
     (
         "int f(int x){int a=x*2;int b=a*3;int c=b*5;return x;}int main(void){}",
         Asked::WithoutFaint,
@@ -175,7 +175,7 @@ static ANSWERS: [Row; 11] = [
 13: return r3
 ",
     ),
-    // but not strongly live
+    // but they are not strongly live
     (
         "int f(int n){int a=1;int b=2;while(n){a=b;b=a;n=n-1;}return n;}int main(void){}",
         Asked::WithoutFaint,

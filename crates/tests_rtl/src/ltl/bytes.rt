@@ -73,7 +73,7 @@ fn shorter_and_longer_bytes_are_damaged(rt: HostRuntime) -> Result<(), Fail> {
     passes(is_damaged(rt.alloc(), &RETURNS[..20]))
 }
 
-// Each byte of the three blocks in turn, with each value: either another function or none.
+// Each byte of the three blocks in turn, with each value, gives either another function or none.
 #[test]
 fn each_byte_changed(rt: HostRuntime) -> Result<(), Fail> {
     let mut functions = 0u32;
@@ -87,7 +87,7 @@ fn each_byte_changed(rt: HostRuntime) -> Result<(), Fail> {
     passes(Ok(functions > 78))
 }
 
-// The index of a byte of the function with each operation, a new value of it, and whether the bytes are still a function.
+// The index of a byte of the function with each operation, a new value for it, and whether the bytes are still a function.
 type Limit = (usize, u8, bool);
 
 fn is_limit(alloc: Global, row: &Limit) -> Result<bool, Fail> {

@@ -1,4 +1,4 @@
-// A device that fails at each call of a script: what is answered then and later, and what a crash leaves.
+// A device that fails at each call of a script in turn: what is answered then and later, and what a crash leaves.
 
 use crate::book::playing::{State, play};
 use crate::helpers::{SIZE, formatted, opened};
@@ -13,7 +13,7 @@ const A: usize = 0;
 
 const B: usize = 1;
 
-// Five calls that change the disk, each by four device calls; then looks, which are answered by the map as it was.
+// Five calls that change the disk, with four device calls each; then looks, which are answered from the map as it was.
 const CALLS: [(bool, Call); 8] = [
     (true, Call::Make(Change::Add(A, 0))),
     (false, Call::Make(Change::Add(B, 1))),
@@ -25,7 +25,7 @@ const CALLS: [(bool, Call); 8] = [
     (true, Call::List),
 ];
 
-// The device calls of the two openings before the first call.
+// The number of device calls that the two openings make before the first call.
 const OPENING: u64 = 6;
 
 // Whether the library on a disk after a crash has what was acknowledged, with or without the change that failed.
@@ -34,8 +34,8 @@ fn is_promised(alloc: Global, disk: MemoryDisk, state: &State) -> Result<bool, F
     Ok(shows(alloc, &library, &state.model)? || shows(alloc, &library, &state.with)?)
 }
 
-// Plays the calls on a device that passes this many of its calls: the place of the one answered 35. An error where a crash leaves another
-// map than is promised.
+// Plays the calls on a device that fails after `passes` of its own calls. The result is the place of the call with the answer 35, if
+// there is one. It is an error if a crash leaves another map than was promised.
 fn failed_at<R: Threads + Wait + Copy + Send + 'static>(
     rt: &R,
     alloc: Global,

@@ -1,4 +1,4 @@
-// Plays the calls of two clients on a book, and looks at each answer by the model.
+// Plays the calls of two clients on a book, and compares each answer with the model.
 
 ghost use Rattle.std.specs.Prelude.{◌≡◌, ◌+◌, ℕ, IsTrue, List};
 ghost use Rattle.cc_library.specs.Apply.{Units};
@@ -24,9 +24,9 @@ use std::thread::Threads;
 pub struct State {
     /// The map with each change that was answered Ok.
     pub model: Model,
-    /// The place of the call that was answered 35, where one was.
+    /// The place of the call that was answered 35, if one was.
     pub failed: Option<usize>,
-    /// The map with that call's change too, where one was.
+    /// The map with the change of that call too, if there was one.
     pub with: Model,
     entries: usize,
 }
@@ -53,7 +53,7 @@ fn command_of(alloc: Global, change: Change) -> Result<Command, Fail> {
     }
 }
 
-// Makes a call: the number of its answer, and the receipt where there is one.
+// Makes a call: the number of its answer, and the receipt if there is one.
 fn made<N: Named, D: Disk>(
     alloc: Global,
     book: &mut Book<N, D>,
@@ -87,7 +87,7 @@ fn made<N: Named, D: Disk>(
     }
 }
 
-// Whether the receipt is of the client's last call, and of that entry, with the model's reply.
+// Whether this is the receipt of the client's last call, with the number of that entry and the model's reply.
 fn is_right<N: Named>(
     receipt: &Receipt,
     client: &Client<N>,
@@ -103,7 +103,7 @@ fn is_right<N: Named>(
         && is_reply(&entry.reply, model, call, number)
 }
 
-// The state after a call that was put into the history; none where its answer is not the model's.
+// The state after a call that was put into the history; none if its answer is not the model's.
 fn recorded<N: Named>(
     state: &State,
     client: &Client<N>,
@@ -141,7 +141,8 @@ fn recorded<N: Named>(
     })
 }
 
-// The state after a call that was not; none where it should have been, or is not refused as the device's failures say.
+// The state after a call that was not put into the history; none if it should have been, or is not refused as the device's
+// failures require.
 fn refused(state: &State, place: usize, call: Call, number: u32) -> Option<State> {
     let (compacts, looks) = match call {
         Call::Make(_) => (false, false),
@@ -172,7 +173,7 @@ fn refused(state: &State, place: usize, call: Call, number: u32) -> Option<State
     }
 }
 
-// Makes a call, whose answer has to be the model's: the state after it.
+// Makes a call, whose answer has to be the model's. The result is the state after it.
 fn step<N: Named, D: Disk>(
     alloc: Global,
     book: &mut Book<N, D>,
@@ -269,12 +270,12 @@ where
         let client = if *first { &mut one } else { &mut other };
         state = step(alloc, &mut book, client, &state, place, *call)?;
     }
-    // It answers 41, since the clients have its passes.
+    // `finish` answers 41, since the clients have passes of the pool.
     drop(pool.finish(rt, Vec::new(alloc)));
     ended(alloc, book, rest, one, other, state)
 }
 
-/// Plays the calls on a book over the disk: an error where an answer is not the model's.
+/// Plays the calls on a book over the disk. An error if an answer is not the model's.
 pub fn play<D, R>(rt: &R, alloc: Global, disk: D, calls: &[(bool, Call)]) -> Result<Played<D>, Fail>
 where
     D: Disk + Drop,

@@ -1,4 +1,4 @@
-// Twenty calls of two clients, with compactions between them, over a disk in memory and over one behind a fuse that holds.
+// Twenty calls of two clients, with compactions between them, over a disk in memory and over one with a fuse that holds.
 
 use crate::book::playing::{Played, play};
 use crate::helpers::{formatted, opened};

@@ -39,7 +39,8 @@ fn texts_before_their_turn(rt: HostRuntime) -> Result<(), Fail> {
     succeeds(&rt, rt.alloc(), ALL, 2, NoGate, Trial::BeforeTheirTurn)
 }
 
-/// Hands three texts in, puts two of them in another order, between looks, and lets one go; all calls of the client count.
+/// Hands three texts in, puts two of them in another order, with looks in between, and drops one; all calls of the client
+/// count.
 pub fn before_their_turn<N: Own, R: Wait>(
     rt: &R,
     alloc: Global,
@@ -67,7 +68,7 @@ fn texts_that_are_not_put(rt: HostRuntime) -> Result<(), Fail> {
     succeeds(&rt, rt.alloc(), ALL, 2, NoGate, Trial::NotPut)
 }
 
-/// The number of the answer to a put of a text that is handed in first; that of the handing in, where this is refused.
+/// The number of the answer to a put of a text that is handed in first, or of the answer to handing it in, if that is refused.
 pub fn put_number<N: Own, R: Wait>(
     rt: &R,
     alloc: Global,
@@ -87,7 +88,8 @@ pub fn put_number<N: Own, R: Wait>(
     }
 }
 
-/// Names and texts that are none, a function that is too long, a unit that has no room, and names that have a unit or none.
+/// Whether these are refused: names and texts that are not allowed, a function that is too long, a unit that has no room, and a
+/// change of a name that already has a unit, or has none.
 pub fn not_put<N: Own, R: Wait>(rt: &R, alloc: Global, service: Fused<N>) -> Result<bool, Fail> {
     let mut client = service.client(rt, alloc)?;
     let nodes = repeated(alloc, b"int main(void){", b"write_word(0);", 4097, b"}")?;
@@ -118,7 +120,8 @@ fn a_text_ahead_of_a_failed_device(rt: HostRuntime) -> Result<(), Fail> {
     succeeds(&rt, rt.alloc(), OPENING + 2, 1, NoGate, Trial::FailsAhead)
 }
 
-/// The device fails at the first of two texts that were handed in; the second is refused. A third is open as the service is given up.
+/// The device fails at the first of two texts that were handed in; the second is refused. A third is open when the service is
+/// given up.
 pub fn fails_ahead<N: Own, R: Wait>(
     rt: &R,
     alloc: Global,
@@ -146,7 +149,7 @@ fn a_text_ahead_that_is_held(rt: HostRuntime) -> Result<(), Fail> {
     succeeds(&rt, rt.alloc(), ALL, 2, gate, trial)
 }
 
-/// Whether a second text is put while the piece of the first, which was handed in, is held; then the first is.
+/// Whether a second text is put while the piece of the first, which was handed in, is held, and the first is put after that.
 pub fn held_ahead<N: Own, R: Wait>(
     rt: &R,
     alloc: Global,

@@ -1,4 +1,4 @@
-// What one client is answered: each call on its happy path, and each refusal of names, texts and the map.
+// The answers to one client: to each call on its happy path, and each refusal of names, texts and the map.
 
 use super::reading::{done_at, is_found, is_listed, number};
 use super::starting::{ALL, Fused, Own, ended};
@@ -22,7 +22,7 @@ fn one_client_makes_each_call(rt: HostRuntime) -> Result<(), Fail> {
     succeeds(&rt, rt.alloc(), ALL, 2, NoGate, Trial::EachCall)
 }
 
-/// Changes, looks and refusals, and the end.
+/// Makes changes, looks and calls that are refused, and ends.
 pub fn each_call<N: Own, R: Wait>(rt: &R, alloc: Global, service: Fused<N>) -> Result<bool, Fail> {
     let mut client = service.client(rt, alloc)?;
     let changed = are_changed(rt, alloc, &service, &mut client);
@@ -37,7 +37,7 @@ pub fn each_call<N: Own, R: Wait>(rt: &R, alloc: Global, service: Fused<N>) -> R
     Ok(right && is_whole(alloc, &closed)?)
 }
 
-// Looks at no names, adds two, the later one first, puts another unit in place of the other: entries 1 to 4.
+// Looks when there are no names, adds two, the later one first, and puts another unit in place of the other: entries 1 to 4.
 fn are_changed<N: Own, R: Wait>(
     rt: &R,
     alloc: Global,
@@ -63,7 +63,8 @@ fn are_seen<N: Own, R: Wait>(
         && is_listed(service.list(rt, alloc, client), 7, &AFTER)
 }
 
-// Names that are none, texts that are none, and names that have a unit or none: the last four are entries 8 to 11.
+// Calls with names that are not names, with texts that are not programs, and with names that have a unit or none; the last four
+// are entries 8 to 11.
 fn are_refused<N: Own, R: Wait>(
     rt: &R,
     alloc: Global,
@@ -84,7 +85,7 @@ fn are_refused<N: Own, R: Wait>(
     Ok(names && texts && counted && map)
 }
 
-// Whether an answer is the fault with this number, at this column of the first line, or nowhere where that is 0.
+// Whether an answer is the fault with this number, at this column of the first line, or without a place if `column` is 0.
 fn is_refused_at(answer: Result<Receipt, ServiceFault>, number: u32, column: usize) -> bool {
     match answer {
         Ok(receipt) => {
@@ -103,7 +104,7 @@ fn is_refused_at(answer: Result<Receipt, ServiceFault>, number: u32, column: usi
     }
 }
 
-// Texts with an unclosed comment, another token than is expected, and an unknown name; one that is too long for a text, one with too many
+// Texts with an unclosed comment, an unexpected token, and an unknown name; one that is too long for a text, one with too many
 // nodes for a function, and one that is too long for the area.
 fn are_texts_refused<N: Own, R: Wait>(
     rt: &R,
@@ -130,7 +131,8 @@ fn are_texts_refused<N: Own, R: Wait>(
     Ok(right)
 }
 
-// What the end hands out: the base without a name, the library with the map, and a history and receipts that the model makes too.
+// What the end returns: the base, which has no name, the library with the map, and a history and receipts that the model gives
+// too.
 fn is_whole<D: Disk>(alloc: Global, closed: &Closed<D>) -> Result<bool, Fail> {
     let replays = match replayed(closed.history.as_slice(), closed.receipts.as_slice()) {
         Some(model) => model == AFTER,

@@ -52,7 +52,7 @@ fn are_answered<N: Own, R: Wait>(
         && has_no_unit(service.space(rt))
 }
 
-// Whether there are records, which a compaction would leave out.
+// Whether there are records but no unit, so that a compaction would leave out every record.
 fn has_no_unit(answer: Result<SpaceUse, ServiceFault>) -> bool {
     match answer {
         Ok(space) => (space.compacted, space.units) == (0, 0) && 9 < space.used,
@@ -63,7 +63,7 @@ fn has_no_unit(answer: Result<SpaceUse, ServiceFault>) -> bool {
     }
 }
 
-// The service, whose end is refused without its client, and whether it is as it has to be.
+// Ends the service without its client, which is refused. Returns the service, and whether the refusal was as it has to be.
 fn ended_without<N: Own, R: Wait>(
     rt: &R,
     alloc: Global,
@@ -83,7 +83,7 @@ fn ended_without<N: Own, R: Wait>(
     }
 }
 
-// Whether it is 39 with this number and no entry.
+// Whether the fault is 39 with this number and no entry.
 fn is_estranged(fault: &ServiceFault, at: u64) -> bool {
     match fault {
         ServiceFault::Book(BookFault::Estranged { number, found }) => {
@@ -98,8 +98,8 @@ fn one_client_updates(rt: HostRuntime) -> Result<(), Fail> {
     succeeds(&rt, rt.alloc(), ALL, 1, NoGate, Trial::Updates)
 }
 
-/// Adds a unit, and updates it: an update whose expected source is another one has the entry of its look alone, one that is done that and the
-/// next, and one of a name without a unit that of its look.
+/// Adds a unit, and updates it. An update that expects another source makes only the entry of its look, one that is done makes
+/// that entry and the next, and one for a name without a unit makes only the entry of its look.
 pub fn updates<N: Own, R: Wait>(rt: &R, alloc: Global, service: Fused<N>) -> Result<bool, Fail> {
     let mut client = service.client(rt, alloc)?;
     let added = done_at(service.add(rt, alloc, &mut client, b"a", TEXTS[0]));
@@ -154,7 +154,7 @@ fn the_last_client(rt: HostRuntime) -> Result<(), Fail> {
     succeeds(&rt, rt.alloc(), ALL, 1, NoGate, Trial::AllMade)
 }
 
-/// Whether 1,024 clients are made and no more, and the service ends with all.
+/// Whether 1,024 clients are made and no more, and the service ends with all of them.
 pub fn all_made<N: Own, R: Wait>(rt: &R, alloc: Global, service: Fused<N>) -> Result<bool, Fail> {
     let mut clients = Vec::new(alloc);
     for _ in 0..MOST_CLIENTS {
@@ -189,7 +189,8 @@ fn given_up_without_its_client(rt: HostRuntime) -> Result<(), Fail> {
     )
 }
 
-/// Adds a unit and gives the service up, without its client where that is lost: whether it says so, and the disk has the unit.
+/// Adds a unit and gives the service up, without its client if that is lost. The result is whether the answer says so and the
+/// disk has the unit.
 pub fn gives_up<N: Own, R: Wait>(
     rt: &R,
     alloc: Global,

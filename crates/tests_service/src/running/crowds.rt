@@ -23,7 +23,7 @@ fn sixteen_clients(rt: HostRuntime) -> Result<(), Fail> {
     succeeds(&rt, rt.alloc(), ALL, 4, NoGate, Trial::SixteenClients)
 }
 
-/// Whether the calls of all clients stand in one history, which the model makes too, and the library is the model's at its end.
+/// Whether the calls of all clients are in one history that the model gives too, and the library is the model's at its end.
 pub fn are_replayed<N, R>(rt: &R, alloc: Global, service: Fused<N>) -> Result<bool, Fail>
 where
     N: Named + Send + Sync + 'static,
@@ -48,8 +48,8 @@ where
     }
 }
 
-// The client after its calls, and whether each was answered by a receipt, or refused for lack of room, after which the library is
-// written anew.
+// The client after its calls, and whether each was answered with a receipt, or refused for lack of room, after which the
+// library is compacted.
 fn calls<N, R>(
     rt: &R,
     alloc: Global,

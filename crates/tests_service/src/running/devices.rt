@@ -21,7 +21,8 @@ fn a_failed_add(rt: HostRuntime) -> Result<(), Fail> {
     succeeds(&rt, rt.alloc(), OPENING + 2, 1, NoGate, Trial::FailsOnce)
 }
 
-/// The first change fails, the next and a look at the space are refused, a look at a name is answered; the disk has nothing.
+/// The first change fails, the next one and a look at the space are refused, and a look at a name is answered; the disk has
+/// nothing.
 pub fn fails_once<N: Own, R: Wait>(rt: &R, alloc: Global, service: Fused<N>) -> Result<bool, Fail> {
     let mut client = service.client(rt, alloc)?;
     let right = number(service.add(rt, alloc, &mut client, b"a", SMALL)) == 35
@@ -64,7 +65,8 @@ fn map_at(place: usize) -> Model {
     if place < 6 { MAPS[place] } else { EMPTY }
 }
 
-// The place of the call that was answered 35, or 5; an error where one before it was not Ok, or one behind it not answered 36.
+// The place of the call that was answered 35, or 5 if there was none. It is an error if a call before it was not answered Ok,
+// or one after it was not answered 36.
 fn failed_at<N: Own, R: Wait>(
     rt: &R,
     alloc: Global,
@@ -83,8 +85,8 @@ fn failed_at<N: Own, R: Wait>(
     Ok(failed)
 }
 
-/// Makes the five calls, looks, and ends: whether the one at this place failed, or none where it is 5, and the look, the end, and the disk
-/// after crashes are as they should be.
+/// Makes the five calls, looks, and ends. The result is whether the call at place `wanted` failed (none of them, if that is 5),
+/// and whether the look, the end, and the disk after crashes are as they should be.
 pub fn five_calls<N: Own, R: Wait>(
     rt: &R,
     alloc: Global,
@@ -120,7 +122,7 @@ fn a_device_that_fails_once(rt: HostRuntime) -> Result<(), Fail> {
     Ok(())
 }
 
-// The device that a service does not open, with 35.
+// The device on which no service opens, with the fault 35.
 fn not_opened<N, R>(rt: &R, alloc: Global, begun: Begun) -> Result<Device, Fail>
 where
     N: Named + Send + Sync + 'static,

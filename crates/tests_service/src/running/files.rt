@@ -1,4 +1,4 @@
-// A service on a file: one that is let go without an end, and what the next one finds.
+// A service on a file that is dropped without an end, and what the next one finds.
 
 ghost use Rattle.tests_service.specs.internal.Named.{AreNamed};
 
@@ -32,7 +32,7 @@ fn a_service_that_is_let_go(rt: HostRuntime) -> Result<(), Fail> {
     Ok(())
 }
 
-// The disk that no service opens, with 38.
+// The disk on which no service opens, with the fault 38.
 fn not_a_library<N, R>(
     rt: &R,
     alloc: Global,
@@ -67,7 +67,7 @@ where
     Ok((service, client))
 }
 
-// Adds, and lets the service go once the receipt is there.
+// Adds a unit, and drops the service once the receipt is there.
 fn adds<N: Own, R>(rt: &R, alloc: Global, fresh: Fresh, disk: FileDisk) -> Result<bool, Fail>
 where
     R: Threads + Wait + Copy + Send + 'static,
@@ -77,7 +77,7 @@ where
     Ok(done_at(service.add(rt, alloc, &mut client, b"a", TEXTS[2])) == 1)
 }
 
-// Finds what the other one added: it is in the base, and in no entry of the new history.
+// Finds the unit that the other service added: it is in the base, and in no entry of the new history.
 fn finds<N: Own, R>(rt: &R, alloc: Global, fresh: Fresh, disk: FileDisk) -> Result<bool, Fail>
 where
     R: Threads + Wait + Copy + Send + 'static,

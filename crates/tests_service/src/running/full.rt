@@ -1,4 +1,4 @@
-// A library that is full, and what clients are answered whose changes compact, or do not.
+// A full library, and the answers to clients whose changes compact it, or do not.
 
 ghost use Rattle.tests_service.specs.internal.Named.{IsNamed};
 
@@ -18,10 +18,10 @@ use std::test::Fail;
 use std::thread::Threads;
 use tests_texts::lists::both;
 
-// How many device calls a change makes, and a compaction.
+// How many device calls a change makes, and also a compaction.
 const CALLS: u64 = 4;
 
-// Adds `a` and replaces it until there is no room: how many changes were made.
+// Adds `a` and replaces it until there is no room. The result is how many changes were made.
 fn refill<N, R>(rt: &R, alloc: Global, service: &Fused<N>, client: &mut Client<N>) -> u64
 where
     N: Named + Send + Sync + 'static,
@@ -44,8 +44,8 @@ const BEFORE: Model = [Some(0), None, None];
 
 const AFTER: Model = [Some(1), None, None];
 
-// A library full of old units of `a`: how many changes filled it; what a plain client is answered then; what one is answered whose changes
-// compact, and what after that; and the device.
+// A library that is full of old units of `a`: how many changes filled it; the answer to a plain client then, the answer to a
+// client whose changes compact, and the answer to the call after that; and the device.
 fn mended<N, R>(rt: &R, alloc: Global, begun: Begun) -> Result<(u64, [u32; 3], Device), Fail>
 where
     N: Named + Send + Sync + 'static,
@@ -74,7 +74,8 @@ fn a_compaction_makes_room(rt: HostRuntime) -> Result<(), Fail> {
     assert!(rt; answers == [34, 0, 32]);
     assert!(rt; device.failures() == 0);
     assert!(rt; holds(alloc, device, &AFTER, &AFTER)?);
-    // Each call of the compaction fails, and each of the change behind it: 34 of what was not begun, 35 of what was, and then 36.
+    // The device fails at each call of the compaction and of the change after it in turn: 34 if the change had not begun, 35 if
+    // it had, and 36 after that.
     let filled = OPENING.saturating_add(made.saturating_mul(CALLS));
     for passes in 0..9u64 {
         let begun = prepared(alloc, filled.saturating_add(passes))?;
@@ -96,7 +97,7 @@ fn a_compaction_makes_room(rt: HostRuntime) -> Result<(), Fail> {
     Ok(())
 }
 
-// Adds units under names of their own, `n` with one letter or two, until there is no room: how many were added.
+// Adds units under names of their own, `n` with one letter or two, until there is no room. The result is how many were added.
 fn fill<N, R>(rt: &R, alloc: Global, service: &Fused<N>, client: &mut Client<N>) -> u64
 where
     N: Named + Send + Sync + 'static,
@@ -112,7 +113,8 @@ where
     made
 }
 
-// A library full of units that are there: how many there are; how many adds behind them were answered 34; what a compaction is answered.
+// A library that is full of units that are in use: how many there are, how many adds after them were answered 34, and the
+// number of the answer to a compaction.
 fn crowded<N, R>(rt: &R, alloc: Global, begun: Begun) -> Result<(u64, u64, u32), Fail>
 where
     N: Named + Send + Sync + 'static,
@@ -135,7 +137,7 @@ where
     Ok((made, refused, compacted))
 }
 
-// No device call comes with a thousand adds: the one that fails is the next after that of the last unit.
+// A thousand adds make no device call: the call that fails is the next one after those of the last unit.
 #[test]
 fn units_that_are_there(rt: HostRuntime) -> Result<(), Fail> {
     let alloc = rt.alloc();

@@ -1,4 +1,4 @@
-// A worker that a gate holds: the other one works, and other clients are answered.
+// A gate that holds a worker: the other worker goes on, and other clients are answered.
 
 use super::reading::number;
 use super::starting::{ALL, Fused, Own, adds, ended};
@@ -14,22 +14,22 @@ use std::thread::Threads;
 use tests_texts::lists::{alone, both};
 use tests_texts::worked::LONG;
 
-// How often a gate that holds lets others go on, at most.
+// The number of times that a gate lets other threads go on while it holds, at most.
 const TURNS: u64 = 20_000_000;
 
-/// What a gate and its test tell each other.
+/// What a gate and its test report to each other.
 pub struct Signs {
     // How many calls the gate has had.
     calls: AtomicU64,
-    // At how many of these, or of other signs, the first call is let go.
+    // How many signs have to come before the first call may go on.
     wanted: u64,
     pub signs: AtomicU64,
-    // 1 where the hold ended below its limit.
+    // 1 if the hold ended below its limit.
     pub ended: AtomicU64,
 }
 
 impl Signs {
-    /// Waits until the gate has had a call, for so long at most.
+    /// Waits until the gate has had a call, for a limited time.
     pub fn wait_for_a_call(&self) {
         for _ in 0..TURNS {
             if self.calls.load(Ordering::SeqCst) > 0 {
@@ -44,7 +44,7 @@ impl Signs {
 #[derive(Drop)]
 pub struct Holds {
     signs: Arc<Signs>,
-    // Whether each call is a sign.
+    // Whether each call of the gate is a sign too.
     calls_count: bool,
 }
 
@@ -78,7 +78,8 @@ impl Drop for Signs {
     }
 }
 
-/// What a gate tells that holds until this many signs have come, of which each of its calls is one or is none; and the gate.
+/// A gate that holds until `wanted` signs have come, and what it reports. Each of its calls counts as a sign if `calls_count`
+/// says so.
 pub fn held_until(
     alloc: Global,
     wanted: u64,
@@ -107,7 +108,8 @@ fn two_pieces_at_once(rt: HostRuntime) -> Result<(), Fail> {
     succeeds(&rt, rt.alloc(), ALL, 2, gate, trial)
 }
 
-/// Whether an `add` is answered with Ok whose first piece is held until the other one is begun, and the hold ended below its limit.
+/// Whether an `add` is answered with Ok although its first piece is held until the other one is begun, and whether the hold
+/// ended before its limit.
 pub fn held_by_a_piece<N: Own, R: Wait>(
     rt: &R,
     alloc: Global,
@@ -127,8 +129,8 @@ fn another_client_is_answered(rt: HostRuntime) -> Result<(), Fail> {
     succeeds(&rt, rt.alloc(), ALL, 2, gate, trial)
 }
 
-/// Whether two adds are answered with Ok, of which one is held and the other one is begun and answered during the hold, and that ended below
-/// its limit; and the service was busy meanwhile, and no longer then.
+/// Whether two adds are answered with Ok although one is held, and the other one is begun and answered during that hold, which
+/// ended before its limit; and whether the service was busy during the hold, but not after it.
 pub fn held_by_a_client<N, R>(
     rt: &R,
     alloc: Global,

@@ -1,5 +1,5 @@
-// An `add` of which a growth is refused, its text handed in first or not. `bench/memory.sh service` refuses each allocation of these tests in
-// turn, so one in all.
+// An `add` while an allocation is refused, with its text handed in first or not. `tests/outside/memory.sh service` refuses each
+// allocation of these tests in turn, so there is one test for all of them.
 
 use super::ahead::put_number;
 use super::reading::number;
@@ -46,8 +46,8 @@ fn is_out(number: u32) -> bool {
     number == 40 || number == 41
 }
 
-// Adds one unit twice, where the first call was refused by 40 or 41 as if it had not been made: how many entries there are, or none
-// where it was not so.
+// Adds one unit twice. A first call that is refused with 40 or 41 must be as if it had not been made. The result is how many
+// entries there are, or none if an answer was not as it should be.
 fn adds_twice<N: Own, R: Wait>(
     rt: &R,
     alloc: Global,
@@ -71,7 +71,7 @@ fn adds_twice<N: Own, R: Wait>(
     if right { Some(entries) } else { None }
 }
 
-/// Whether the unit is there at the end, and the calls that were answered are all that is in the history.
+/// Whether the unit is there at the end, and the history has exactly the calls that were answered.
 pub fn is_added<N: Own, R: Wait>(
     rt: &R,
     alloc: Global,
@@ -84,7 +84,7 @@ pub fn is_added<N: Own, R: Wait>(
     };
     let closed = match service.finish(rt, alloc, alone(alloc, client)?) {
         Ok(closed) => closed,
-        // The end is asked for again where memory ran out at it.
+        // If memory ran out while the service ended, it is ended again.
         Err((fault, service, clients)) => {
             let number = fault.number();
             drop(fault);

@@ -21,7 +21,7 @@ pub fn number<T: Drop>(answer: Result<T, ServiceFault>) -> u32 {
     }
 }
 
-/// The disk that an opening gives back with the fault of this number.
+/// The disk that an opening gives back with the fault that has this number.
 pub fn refused_with<N: Named, D: Disk + Drop>(
     answer: Result<Service<N, D>, (ServiceFault, D)>,
     wanted: u32,
@@ -68,7 +68,7 @@ pub fn absent_at<T: Drop>(answer: Result<T, ServiceFault>) -> u64 {
     number
 }
 
-/// Whether it is the entry with this number, and has the unit of this text.
+/// Whether the answer is the entry with this number, and has the unit of this text.
 pub fn is_found(answer: Result<Found, ServiceFault>, number: u64, text: &[u8]) -> bool {
     match answer {
         Ok(found) => {
@@ -84,7 +84,7 @@ pub fn is_found(answer: Result<Found, ServiceFault>, number: u64, text: &[u8]) -
     }
 }
 
-/// Whether it is the entry with this number, and has the model's names.
+/// Whether the answer is the entry with this number, and has the model's names.
 pub fn is_listed(answer: Result<Listing, ServiceFault>, number: u64, model: &Model) -> bool {
     match answer {
         Ok(listing) => {

@@ -25,12 +25,12 @@ pub type Device = FuseDisk<MemoryDisk>;
 /// A service on such a device.
 pub type Fused<N> = Service<N, Device>;
 
-/// The names of a test's own service.
+/// The parameter that names a test's own service.
 pub trait Own: Named + Send + Sync + 'static {}
 
 impl Own for Brand {}
 
-/// How many calls of a device pass where none is to fail.
+/// How many calls of a device pass if none is to fail.
 pub const ALL: u64 = 1 << 40;
 
 /// How many calls of its device an opening makes.
@@ -39,7 +39,7 @@ pub const OPENING: u64 = 3;
 /// A text with one function.
 pub const SMALL: &[u8] = b"int main(void){return 1;}";
 
-/// What a service begins with: a formatted device, its map, and what no type names yet.
+/// What a service begins with: a formatted device, its map, and the ledger and the queue, which no type names yet.
 #[derive(Drop)]
 pub struct Begun {
     pub device: Device,
@@ -48,7 +48,7 @@ pub struct Begun {
     ghost base_is: { (units : Units) → Recovers (bytes_of device.disk.cells) units → units ≡ base },
 }
 
-/// On a formatted device, of which this many calls pass before one fails.
+/// Prepares a formatted device that passes this many calls before one fails.
 pub fn prepared(alloc: Global, passes: u64) -> Result<Begun, Fail> {
     let (disk, base) = found(alloc, formatted(alloc)?)?;
     let device = FuseDisk::new(disk, passes, FuseMode::Once);
@@ -60,7 +60,7 @@ pub fn prepared(alloc: Global, passes: u64) -> Result<Begun, Fail> {
     })
 }
 
-/// The service, open; or why it is not, and the device.
+/// The open service; or why it is not open, and the device.
 pub fn begin<N, R, G>(
     rt: &R,
     alloc: Global,
@@ -104,7 +104,7 @@ pub fn opened<N: Named, D: Disk + Drop>(
     }
 }
 
-/// The client once it has added the small text under a name, and the number of the answer.
+/// Adds the small text under a name: the client after that, and the number of the answer.
 pub fn adds<N, R>(
     rt: &R,
     alloc: Global,
@@ -140,7 +140,8 @@ where
     }
 }
 
-/// Whether the library on the disk has these units, after a crash that leaves 0x00, 0xa5 or 0xff wherever it may.
+/// Whether the library on the disk has the units of either model, after a crash that leaves 0x00, 0xa5 or 0xff wherever it may
+/// leave anything.
 pub fn holds(alloc: Global, device: Device, either: &Model, other: &Model) -> Result<bool, Fail> {
     let disk = device.into_disk();
     let mut right = true;

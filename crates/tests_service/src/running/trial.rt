@@ -1,4 +1,4 @@
-// What the tests do with a service on a formatted device, and whether it is answered as it should be.
+// What the tests do with a service on a formatted device, and whether its answers are as they should be.
 
 ghost use Rattle.std.specs.Prelude.{◌≤◌};
 ghost use Rattle.tests_service.specs.internal.Named.{IsNamed};
@@ -27,7 +27,7 @@ pub enum Trial<'a> {
     FourCalls,
     /// A unit is replaced if its source is the one that is expected.
     Updates,
-    /// As many clients are made as may be.
+    /// The largest number of clients is made.
     AllMade,
     /// The service is given up, with its client or without.
     GivesUp { is_lost: bool },
@@ -49,11 +49,11 @@ pub enum Trial<'a> {
     FailsAhead,
     /// A text that was handed in is held while another one is put.
     HeldAhead { signs: &'a Arc<Signs> },
-    /// An `add` is made twice, its text handed in first or not, of which a growth may be refused.
+    /// An `add` is made twice, with its text handed in first or not; one of its allocations may be refused.
     IsAdded { is_ahead: bool },
 }
 
-// Whether what it looks at is as it should be, on this service.
+// Whether what the trial looks at is as it should be, on this service.
 fn is_right_on<N, R>(rt: &R, alloc: Global, service: Fused<N>, trial: Trial) -> Result<bool, Fail>
 where
     N: Own,
@@ -78,7 +78,7 @@ where
     }
 }
 
-// The same on the service that begins with this.
+// The same as `is_right_on`, on the service that begins with `begun`.
 fn begins_right<N, R, G>(
     rt: &R,
     alloc: Global,
@@ -99,7 +99,8 @@ where
     is_right_on(rt, alloc, service, trial)
 }
 
-/// The same on a device of which this many calls pass before one fails, with this many workers, which pass this gate.
+/// The same as `begins_right`, on a device that passes this many calls before one fails, with this many workers, which pass
+/// this gate.
 pub fn is_right<R, G>(
     rt: &R,
     alloc: Global,
@@ -118,7 +119,7 @@ where
     begins_right::<Brand, R, G>(rt, alloc, begun, workers, gate, trial)
 }
 
-/// The failure of a test where it is not.
+/// Fails the test if `is_right` is false.
 pub fn succeeds<R, G>(
     rt: &R,
     alloc: Global,

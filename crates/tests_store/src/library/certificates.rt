@@ -1,4 +1,4 @@
-// Bodies of both versions on a disk: files that were written before certificates came, and units with one.
+// Bodies of both versions on a disk: files that were written before there were certificates, and units with one.
 
 use crate::library::helpers::{formatted, name, number, opened, refusal, unit};
 use cc_disk::MemoryDisk;
@@ -10,8 +10,8 @@ use std::sync::Arc;
 use std::test::Fail;
 use tests_texts::verdict::{each_passes, passes};
 
-// An Add of `a` with the source `int main(void){}` and one code word 0, as it is written: without a certificate, with one without a
-// byte, and with one of two bytes.
+// An Add of `a` with the source `int main(void){}` and one code word 0, as it is written: without a certificate, with a certificate
+// of no bytes, and with one of two bytes.
 static NONE: [u8; 36] =
     *b"\x01\x01\x01a\x10\x00\x00\x00int main(void){}\x01\x00\x00\x00\x00\x00\x00\x00\x00\x00\x00\x00";
 
@@ -54,7 +54,7 @@ fn has_records(alloc: Global, disk: MemoryDisk, bodies: &[&[u8]]) -> Result<bool
     )
 }
 
-// Whether `a` is the one unit, with that certificate.
+// Whether `a` is the only unit, and has that certificate.
 fn has_certificate(library: &Library<MemoryDisk>, wanted: Option<&[u8]>) -> Result<bool, Fail> {
     let Some(unit) = library.get(&name(b'a')?) else {
         return Ok(false);
@@ -66,7 +66,7 @@ fn has_certificate(library: &Library<MemoryDisk>, wanted: Option<&[u8]>) -> Resu
     })
 }
 
-// A record, and the certificate that `a` has by it.
+// A record, and the certificate that it gives `a`.
 type Row = (&'static [u8], Option<&'static [u8]>);
 
 // Whether a disk with this record has `a` with that certificate, and `compact` writes the same record.
@@ -90,7 +90,7 @@ fn compact_keeps_each_certificate(rt: HostRuntime) -> Result<(), Fail> {
     each_passes(rt.alloc(), &table, is_kept)
 }
 
-// These bytes with another first one.
+// These bytes with another first byte.
 fn of_version(alloc: Global, version: u8, body: &[u8]) -> Result<Vec<u8>, Fail> {
     let mut bytes = vec![in alloc; version; 1]?;
     for byte in body.iter().skip(1) {
@@ -106,18 +106,19 @@ fn is_refused(alloc: Global, row: &(u8, &'static [u8])) -> Result<bool, Fail> {
 
 #[test]
 fn records_that_are_no_commands(rt: HostRuntime) -> Result<(), Fail> {
-    // Version 2 without its last field, and with a certificate that ends early; version 1 with a certificate; no version.
+    // Version 2 without its last field, and with a certificate that ends early; version 1 with a certificate; a number that is no
+    // version.
     let table: [(u8, &[u8]); 4] = [(2, &NONE), (2, &TWO[..41]), (1, &EMPTY), (3, &TWO)];
     each_passes(rt.alloc(), &table, is_refused)
 }
 
-// Whether a disk with these records has `a` alone, without a certificate, or is empty.
+// Whether a disk with these records has only `a`, without a certificate, or is empty.
 fn opens(alloc: Global, bodies: &[&[u8]], has_a: bool) -> Result<bool, Fail> {
     let library = opened(alloc, disk_with(alloc, bodies)?)?;
     Ok(has_certificate(&library, None)? == has_a && library.get(&name(b'a')?).is_some() == has_a)
 }
 
-// Whether what is written to a file of version 1 goes on in version 2.
+// Whether a file of version 1 is continued in version 2.
 fn goes_on(alloc: Global) -> Result<bool, Fail> {
     let mut library = opened(alloc, disk_with(alloc, &[&NONE])?)?;
     library.withdraw(alloc, name(b'a')?)?;
@@ -140,7 +141,7 @@ fn certified(alloc: Global, count: usize) -> Result<Arc<StoredUnit>, Fail> {
     Ok(Arc::new(alloc, stored)?)
 }
 
-// Whether adding `a` with a certificate of so many bytes is answered with this number.
+// Whether adding `a` with a certificate of this many bytes is answered with this number.
 fn is_answered(alloc: Global, row: &(usize, u32)) -> Result<bool, Fail> {
     let unit = certified(alloc, row.0)?;
     let mut library = opened(alloc, formatted(alloc, 64)?)?;
@@ -149,6 +150,6 @@ fn is_answered(alloc: Global, row: &(usize, u32)) -> Result<bool, Fail> {
 
 #[test]
 fn a_certificate_that_has_no_room(rt: HostRuntime) -> Result<(), Fail> {
-    // A record of 45 bytes and its certificate, and the closed gate: 18 bytes are left in an area of 64.
+    // A record takes 45 bytes and its certificate, and there is the closed gate: 18 bytes are left in an area of 64.
     each_passes(rt.alloc(), &[(18, 0), (19, 34), (1000, 34)], is_answered)
 }

@@ -11,7 +11,7 @@ use std::alloc::Global;
 use std::sync::Arc;
 use std::test::Fail;
 
-/// What is done to a library: to the name of one letter, and with the unit of one word; or its journal is compacted.
+/// A step on a library: a change of the name of one letter, with the unit of one word; or a compaction of its journal.
 #[derive(Clone, Copy)]
 pub enum Step {
     Add(u8, u32),
@@ -45,7 +45,7 @@ pub fn word_unit(alloc: Global, word: u32) -> Result<Arc<StoredUnit>, Fail> {
     Ok(Arc::new(alloc, unit(alloc, &[], word)?)?)
 }
 
-/// The name with one letter.
+/// The name that consists of this letter.
 pub fn name(letter: u8) -> Result<Name, Fail> {
     Ok(Name::new(&[letter])?)
 }
@@ -92,7 +92,7 @@ pub fn number(answer: Result<(), LibraryFault>) -> u32 {
     }
 }
 
-/// Does one step: the number of the answer.
+/// Makes one step. The result is the number of the answer.
 pub fn does<D: Disk>(alloc: Global, library: &mut Library<D>, step: Step) -> Result<u32, Fail> {
     match step {
         Step::Add(letter, word) => {
@@ -108,7 +108,7 @@ pub fn does<D: Disk>(alloc: Global, library: &mut Library<D>, step: Step) -> Res
     }
 }
 
-/// Whether these steps, each done, are answered with these numbers.
+/// Whether these steps, made in turn, are answered with these numbers.
 pub fn answers<D: Disk>(
     alloc: Global,
     library: &mut Library<D>,
@@ -122,7 +122,7 @@ pub fn answers<D: Disk>(
     Ok(true)
 }
 
-/// Does these steps until one is refused: how many were done.
+/// Makes these steps until one is refused. The result is how many were made.
 pub fn steps_done<D: Disk>(
     alloc: Global,
     library: &mut Library<D>,
@@ -136,7 +136,7 @@ pub fn steps_done<D: Disk>(
     Ok(steps.len())
 }
 
-/// A formatted disk with areas of that many bytes.
+/// A formatted disk with areas of this many bytes.
 pub fn formatted(alloc: Global, area: u32) -> Result<MemoryDisk, Fail> {
     let mut disk = MemoryDisk::new(alloc, 16 + 2 * area as usize)?;
     format(&mut disk, area)?;
@@ -151,7 +151,7 @@ pub fn opened<D: Disk + Drop>(alloc: Global, disk: D) -> Result<Library<D>, Fail
     }
 }
 
-/// The first code word of the unit of that name, where it has one.
+/// The first code word of the unit under that name, if there is one.
 fn word_of<D: Disk>(library: &Library<D>, letter: u8) -> Result<Option<u32>, Fail> {
     Ok(
         library
@@ -160,7 +160,7 @@ fn word_of<D: Disk>(library: &Library<D>, letter: u8) -> Result<Option<u32>, Fai
     )
 }
 
-/// What a library holds under `a` and under `b`: the words of the units, where there are some.
+/// What a library holds under `a` and under `b`: the words of the units, if there are any.
 pub type Held = (Option<u32>, Option<u32>);
 
 /// Whether the library holds these units, and no others.

@@ -1,4 +1,4 @@
-// Disks that nobody formatted so. The record of the worked row is a Withdraw of `a`.
+// Disks that `format` did not make. The record of the worked row is a Withdraw of `a`.
 
 use crate::helpers::{SIZE, bytes_of, disk_of, row_disk};
 use crate::library::helpers::{Step, formatted, opened, recovers, refusal, steps_done};
@@ -28,7 +28,7 @@ fn each_change_of_the_row(rt: HostRuntime) -> Result<(), Fail> {
         (&[(22, 4)], 37),
         (&[(23, 0)], 37),
         (&[(24, 0x41)], 37),
-        // Lengths past the area.
+        // Lengths that go past the area.
         (&[(17, 0x3b)], 37),
         (&[(17, 0xff), (18, 0xff), (19, 0xff), (20, 0xff)], 37),
         // Wrong headers.
@@ -39,7 +39,7 @@ fn each_change_of_the_row(rt: HostRuntime) -> Result<(), Fail> {
     each_passes(rt.alloc(), &table, is_refused)
 }
 
-// Whether the row's disk with this gate is an empty library, or the gate is open.
+// Whether this gate is an open one, or the row's disk with it is an empty library.
 fn is_empty(alloc: Global, gate: u8) -> Result<bool, Fail> {
     let disk = row_disk(alloc, &[(16, gate)])?;
     Ok(gate == 0xa5 || recovers(alloc, disk, (None, None))?)
@@ -53,7 +53,7 @@ fn each_closed_gate_is_an_empty_library(rt: HostRuntime) -> Result<(), Fail> {
     Ok(())
 }
 
-// The bytes of a disk with three records, in area B where the empty library was compacted first.
+// The bytes of a disk with three records, in area B if the empty library was compacted first.
 fn three_records(alloc: Global, moved: bool) -> Result<Vec<u8>, Fail> {
     let mut library: Library<MemoryDisk> = opened(alloc, formatted(alloc, 64)?)?;
     let steps = [
@@ -89,7 +89,7 @@ fn refusal_of(alloc: Global, bytes: &[u8]) -> Result<u32, Fail> {
     Ok(refusal(alloc, disk_of(alloc, bytes)?))
 }
 
-// Whether the disk with three records is opened, and none that is shorter is.
+// Whether the disk with three records is opened, and no shorter one is.
 fn has_no_prefix(alloc: Global, moved: &bool) -> Result<bool, Fail> {
     let bytes = three_records(alloc, *moved)?;
     let mut right = bytes.len() == SIZE && refusal_of(alloc, &bytes)? == 0;
@@ -104,7 +104,7 @@ fn every_prefix_is_refused(rt: HostRuntime) -> Result<(), Fail> {
     each_passes(rt.alloc(), &[false, true], has_no_prefix)
 }
 
-// The number of the fault with which the disk with one byte changed is refused, or 0.
+// The number of the fault with which this disk is refused after one byte was changed, or 0.
 fn refusal_with(alloc: Global, bytes: &[u8], offset: usize, byte: u8) -> Result<u32, Fail> {
     let mut changed = Vec::from_slice(alloc, bytes)?;
     if offset < changed.len() {
@@ -113,7 +113,7 @@ fn refusal_with(alloc: Global, bytes: &[u8], offset: usize, byte: u8) -> Result<
     refusal_of(alloc, &changed)
 }
 
-// Whether the disk with any byte in this place is opened, or refused with 37 or 38.
+// Whether this disk, with any byte in this place, is opened, or refused with 37 or 38.
 fn are_opened_or_refused(alloc: Global, bytes: &[u8], offset: usize) -> Result<bool, Fail> {
     for byte in 0..=255u8 {
         let number = refusal_with(alloc, bytes, offset, byte)?;

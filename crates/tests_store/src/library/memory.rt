@@ -1,4 +1,4 @@
-// Want of memory. With memory for all, each change below meets a device that fails; `rt try --test --fail-alloc N` refuses
+// Lack of memory. If there is enough memory, each change below meets a device that fails; `rt try --test --fail-alloc N` refuses
 // growth number N, and then no device call is made.
 
 use crate::library::helpers::{Step, does, formatted, holds, opened, steps_done};

@@ -13,7 +13,7 @@ use tests_texts::verdict::{each_passes, passes};
 static ADD: [u8; 36] =
     *b"\x01\x01\x01a\x10\x00\x00\x00int main(void){}\x01\x00\x00\x00\x00\x00\x00\x00\x00\x00\x00\x00";
 
-// The same in version 2, with a certificate of no byte.
+// The same in version 2, with a certificate of no bytes.
 static CERTIFIED: [u8; 40] =
     *b"\x02\x01\x01a\x10\x00\x00\x00int main(void){}\x01\x00\x00\x00\x00\x00\x00\x00\x00\x00\x00\x00\x00\x00\x00\x00";
 
@@ -21,7 +21,7 @@ static CERTIFIED: [u8; 40] =
 static REPLACE: [u8; 27] =
     *b"\x02\x02\x01a\x00\x00\x00\x00\x01\x00\x00\x00\x07\x00\x00\x00\x00\x00\x00\x00\x03\x00\x00\x00xyz";
 
-// The body of Withdraw of `a`, as it is written, and as it is read as well.
+// The body of a Withdraw of `a`, as it is written, and in the other form that is read too.
 static WITHDRAW: [u8; 4] = *b"\x02\x03\x01a";
 
 static WITHDRAW_1: [u8; 4] = *b"\x01\x03\x01a";
@@ -42,7 +42,7 @@ fn names(rt: HostRuntime) {
     assert!(rt; table.iter().all(|(bytes, right)| is_name(bytes) == *right));
 }
 
-// Whether these bytes are a name, and the name has them.
+// Whether these bytes are a name, and the name that they make has these bytes.
 fn is_name(bytes: &[u8]) -> bool {
     match Name::new(bytes) {
         Ok(name) => name.bytes() == bytes,
@@ -60,7 +60,7 @@ fn is_add_body(alloc: Global, wanted: &[u8]) -> Result<bool, Fail> {
 // The bytes of a command, and those of its body.
 type Row = (&'static [u8], &'static [u8]);
 
-// Whether the command that the bytes are has a body of these, and as many as were read.
+// Whether the command that these bytes spell has the wanted body, and a body of as many bytes as these.
 fn is_spelled(alloc: Global, row: &Row) -> Result<bool, Fail> {
     let (bytes, wanted) = *row;
     let command = read_command(alloc, bytes)?;
@@ -74,7 +74,7 @@ fn is_spelled(alloc: Global, row: &Row) -> Result<bool, Fail> {
 // The bytes of an Add or a Replace, and the certificate of its unit.
 type Certified = (&'static [u8], Option<&'static [u8]>);
 
-// Whether the unit of an Add or a Replace that the bytes are has that certificate.
+// Whether the unit of the Add or Replace in these bytes has that certificate.
 fn is_certified(alloc: Global, row: &Certified) -> Result<bool, Fail> {
     let (bytes, wanted) = *row;
     let command = read_command(alloc, bytes)?;
@@ -118,7 +118,7 @@ fn an_empty_certificate_is_not_none(rt: HostRuntime) -> Result<(), Fail> {
     each_passes(rt.alloc(), &table, is_certified)
 }
 
-// Whether these bytes are refused as no command.
+// Whether these bytes are refused because they are no command.
 fn is_refused(alloc: Global, bytes: &[u8]) -> bool {
     match read_command(alloc, bytes) {
         Err(ReadFault::NoCommand) => true,

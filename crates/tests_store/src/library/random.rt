@@ -8,7 +8,7 @@ use std::alloc::Global;
 use std::test::Fail;
 use tests_texts::verdict::passes;
 
-// A command on `a` or `b`, by the byte of its kind, and the word of its unit.
+// A command on `a` or `b`, with the byte of its kind, and the word of its unit.
 #[derive(Clone, Copy)]
 struct Random {
     kind: u8,
@@ -24,7 +24,7 @@ fn next_command(state: &mut u64) -> Random {
     }
 }
 
-// The record of a command, its gate open.
+// Writes the record of a command, with its gate open.
 fn put_record(bytes: &mut Vec<u8>, command: Random) -> Result<(), Fail> {
     let Random { kind, letter, word } = command;
     if kind == 3 {
@@ -38,7 +38,7 @@ fn put_record(bytes: &mut Vec<u8>, command: Random) -> Result<(), Fail> {
     Ok(())
 }
 
-// What `a` and `b` stand for after a command, where it is accepted.
+// What `a` and `b` hold after a command, if it is accepted.
 fn after(held: Held, command: Random) -> Option<Held> {
     let old = if command.letter == b'a' {
         held.0
@@ -59,7 +59,7 @@ fn after(held: Held, command: Random) -> Option<Held> {
 
 const AREA: u32 = 256;
 
-// The bytes of a disk with up to seven random records, and what the library has to be: none where a command is refused.
+// The bytes of a disk with up to seven random records, and what the library has to hold: nothing if a command is refused.
 fn random_records(alloc: Global, state: &mut u64) -> Result<(Vec<u8>, Option<Held>), Fail> {
     let mut bytes = bytes_of(alloc, &mut formatted(alloc, AREA)?)?;
     let size = bytes.len();
@@ -68,7 +68,7 @@ fn random_records(alloc: Global, state: &mut u64) -> Result<(Vec<u8>, Option<Hel
     for _ in 0..next_byte(state) % 8 {
         let command = next_command(state);
         let next = held.and_then(|held| after(held, command));
-        // Most of those that are refused are left out.
+        // Most of the commands that would be refused are left out.
         if next.is_some() || next_byte(state) < 16 {
             put_record(&mut bytes, command)?;
             held = next;
@@ -78,7 +78,7 @@ fn random_records(alloc: Global, state: &mut u64) -> Result<(Vec<u8>, Option<Hel
     Ok((bytes, held))
 }
 
-// Whether the next such disk is what its records fold to, or is refused.
+// Whether the next such disk holds what its records fold to, or is refused.
 fn is_fold(alloc: Global, state: &mut u64) -> Result<bool, Fail> {
     let (bytes, held) = random_records(alloc, state)?;
     let disk = disk_of(alloc, &bytes)?;
@@ -97,8 +97,8 @@ fn random_records_stand_for_their_fold(rt: HostRuntime) -> Result<(), Fail> {
     Ok(())
 }
 
-// Whether such a disk with up to four random bytes is refused with 37 or 38, or opened; and then compacted, opened again,
-// and the names are the same.
+// Whether such a disk with up to four random bytes is refused with 37 or 38, or is opened, and has the same names after it is
+// compacted and opened again.
 fn is_opened_or_refused(alloc: Global, state: &mut u64) -> Result<bool, Fail> {
     let (mut bytes, _) = random_records(alloc, state)?;
     for _ in 0..1 + next_byte(state) % 4 {
@@ -114,10 +114,10 @@ fn is_opened_or_refused(alloc: Global, state: &mut u64) -> Result<bool, Fail> {
     }
 }
 
-// Whether a library has the same names after `compact`, opened again.
+// Whether a library that is compacted and opened again has the same names.
 fn keeps_its_names(alloc: Global, mut library: Library<MemoryDisk>) -> Result<bool, Fail> {
     let names = library.list(alloc)?;
-    // All records fit an area, so that fewer do.
+    // All records fit in an area, so fewer do too.
     library.compact(alloc)?;
     let found = opened(alloc, library.into_disk())?.list(alloc)?;
     Ok(found.as_slice() == names.as_slice())

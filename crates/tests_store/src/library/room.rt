@@ -1,4 +1,4 @@
-// What a `compact` makes room for. A unit of one word without source takes 25 bytes under a name of one letter.
+// What a `compact` makes room for. A unit of one word without a source takes 25 bytes under a name of one letter.
 
 use crate::library::helpers::{Step, answers, formatted, name, number, opened, steps_done, unit};
 use cc_disk::{Disk, FuseDisk, FuseMode};
@@ -8,7 +8,7 @@ use std::sync::Arc;
 use std::test::Fail;
 use tests_texts::verdict::{each_passes, passes};
 
-// An area of 101 bytes has room for these four records and the closed gate. Compacted they are two.
+// An area of 101 bytes has room for these four records and the closed gate. After compaction there are two records.
 const FOUR: [Step; 4] = [
     Step::Add(b'a', 1),
     Step::Add(b'b', 2),
@@ -30,13 +30,13 @@ fn full<D: Disk + Drop>(alloc: Global, disk: D) -> Result<Library<D>, Fail> {
     }
 }
 
-// A unit with so many bytes of source, which its record has beside 25.
+// A unit with this many bytes of source, which its record has besides 25 others.
 fn sized(alloc: Global, count: usize) -> Result<SharedUnit, Fail> {
     let source = vec![in alloc; b' '; count]?;
     Ok(SharedUnit::new(Arc::new(alloc, unit(alloc, &source, 5)?)?))
 }
 
-// Whether a command has room once a library is compacted, and whether a `compact` mends its refusal.
+// Whether a command has room once a library is compacted, and whether a `compact` would remove the reason for its refusal.
 fn looks<D: Disk>(library: &Library<D>, command: &LibraryCommand) -> (bool, bool) {
     (
         library.has_room_compacted(command),
@@ -44,16 +44,16 @@ fn looks<D: Disk>(library: &Library<D>, command: &LibraryCommand) -> (bool, bool
     )
 }
 
-// The command that adds `c` with so many bytes of source.
+// The command that adds `c` with this many bytes of source.
 fn added(alloc: Global, count: usize) -> Result<LibraryCommand, Fail> {
     let unit = sized(alloc, count)?;
     Ok(LibraryCommand::Add(name(b'c')?, unit))
 }
 
-// A count of bytes of source, and whether it fits.
+// The number of bytes of a source, and whether the unit fits.
 type Row = (usize, bool);
 
-// Whether a full library answers such an Add as it has to before it is compacted and after that.
+// Whether a full library answers such an Add as it has to, before it is compacted and after that.
 fn is_right(alloc: Global, row: &Row) -> Result<bool, Fail> {
     let (count, fits) = *row;
     let first = added(alloc, count)?;
@@ -70,7 +70,7 @@ fn is_right(alloc: Global, row: &Row) -> Result<bool, Fail> {
     )
 }
 
-// Two records take 50 bytes, a third with its closed gate has 51: 25 bytes of source are the most.
+// Two records take 50 bytes, and a third has 51 with its closed gate, so at most 25 bytes of source fit.
 #[test]
 fn up_to_the_last_byte(rt: HostRuntime) -> Result<(), Fail> {
     for count in 0..60 {
@@ -79,7 +79,7 @@ fn up_to_the_last_byte(rt: HostRuntime) -> Result<(), Fail> {
     Ok(())
 }
 
-// Whether a `compact` mends the refusal of a Replace in a full library, or does not.
+// Whether a `compact` removes the reason for which a full library refuses a Replace, or does not.
 fn is_replaced(alloc: Global, row: &Row) -> Result<bool, Fail> {
     let unit = sized(alloc, row.0)?;
     let command = LibraryCommand::Replace(name(b'a')?, unit);
@@ -87,7 +87,8 @@ fn is_replaced(alloc: Global, row: &Row) -> Result<bool, Fail> {
     Ok(library.is_mended_by_compact(&command) == row.1)
 }
 
-// The old unit stands until its successor does: 25 bytes of source behind two records, not 50 in place of one.
+// The old unit stays until its successor is there: there is room for 25 bytes of source after two records, not for 50 in place of
+// one.
 #[test]
 fn a_replace_needs_room_beside_the_old_unit(rt: HostRuntime) -> Result<(), Fail> {
     each_passes(
@@ -138,13 +139,13 @@ fn has_room_empty(alloc: Global) -> Result<bool, Fail> {
     Ok(looks(&library, &command) == (true, false))
 }
 
-// A library with room refuses nothing by 34.
+// A library that has room refuses nothing with 34.
 #[test]
 fn an_empty_library(rt: HostRuntime) -> Result<(), Fail> {
     passes(has_room_empty(rt.alloc()))
 }
 
-// Whether a thousand looks at a full library say that a `compact` mends this.
+// Whether a thousand looks at a full library each say that a `compact` would help.
 fn stays_mended<D: Disk>(library: &Library<D>, command: &LibraryCommand) -> bool {
     for _ in 0..1000 {
         if !library.is_mended_by_compact(command) {
@@ -154,7 +155,8 @@ fn stays_mended<D: Disk>(library: &Library<D>, command: &LibraryCommand) -> bool
     true
 }
 
-// Whether a library is closed by the first device call behind the changes, and a look says what it should before that and after.
+// Whether a library is closed by the first device call after the changes, and a look says what it should before that and after
+// it.
 fn is_closed(alloc: Global) -> Result<bool, Fail> {
     let command = added(alloc, 25)?;
     let disk = FuseDisk::new(formatted(alloc, AREA)?, CALLS, FuseMode::Once);
@@ -167,13 +169,13 @@ fn is_closed(alloc: Global) -> Result<bool, Fail> {
     )
 }
 
-// A closed library answers 36. Until then no look has called the device: the call that fails is the first behind the changes.
+// A closed library answers 36. Until then no look has called the device: the call that fails is the first after the changes.
 #[test]
 fn a_closed_library(rt: HostRuntime) -> Result<(), Fail> {
     passes(is_closed(rt.alloc()))
 }
 
-// Whether a library takes so many bytes of its area, would take so many after a compaction, and has so many units.
+// Whether a library takes `used` bytes of its area, would take `compacted` bytes after a compaction, and has this many units.
 fn takes<D: Disk>(library: &Library<D>, used: usize, compacted: usize, units: usize) -> bool {
     let space = library.space();
     (space.area, space.used) == (AREA as usize, used)
@@ -190,7 +192,7 @@ fn is_measured(alloc: Global) -> Result<bool, Fail> {
     Ok(empty && one && four && compacted && withdrawn && takes(&library, 59, 25, 1))
 }
 
-// The record of a withdrawal takes 5 bytes and 4: version, kind, and the name with its length.
+// The record of a withdrawal takes 5 bytes and 4 more: version, kind, and the name with its length.
 #[test]
 fn how_much_is_taken(rt: HostRuntime) -> Result<(), Fail> {
     passes(is_measured(rt.alloc()))

@@ -11,10 +11,11 @@ use std::alloc::Global;
 use std::test::Fail;
 use tests_texts::verdict::{each_passes, passes};
 
-// The device calls of opening a library with one record: a sync, the header, the records, which are read ahead.
+// The device calls of opening a library with one record: a sync, the header, and the records, which are read ahead.
 const OPENING: u64 = 3;
 
-// Whether these steps on a new library with areas of that many bytes have these numbers, and its disk then holds these units.
+// Whether these steps on a new library with areas of this many bytes are answered with these numbers, and its disk then holds
+// these units.
 fn are_answered(
     alloc: Global,
     area: u32,
@@ -50,7 +51,7 @@ fn a_full_area(rt: HostRuntime) -> Result<(), Fail> {
     passes(are_answered(rt.alloc(), 64, &steps, (None, Some(2))))
 }
 
-// Whether a run of steps on a new library goes to its end, with these numbers.
+// Whether a run of steps on a new library reaches its end, with these numbers.
 fn runs(alloc: Global, steps: &[Step], wanted: &[u32]) -> Result<bool, Fail> {
     let edits = edits(alloc, steps)?;
     let library = opened(alloc, formatted(alloc, 128)?)?;
@@ -79,7 +80,7 @@ fn the_same_through_run(rt: HostRuntime) -> Result<(), Fail> {
     passes(runs(rt.alloc(), &steps, &[0, 31, 32, 0, 0]))
 }
 
-// Whether these are those names, in order.
+// Whether `names` are the wanted ones, in order.
 fn are_names(names: &[Name], wanted: &[&[u8]]) -> bool {
     names.len() == wanted.len()
         && names
@@ -88,13 +89,13 @@ fn are_names(names: &[Name], wanted: &[&[u8]]) -> bool {
             .all(|(name, bytes)| name.bytes() == *bytes)
 }
 
-// Adds a unit under that name: whether the answer is Ok.
+// Adds a unit under that name. The result is whether the answer is Ok.
 fn is_added<D: Disk>(alloc: Global, library: &mut Library<D>, name: &[u8]) -> Result<bool, Fail> {
     let unit = word_unit(alloc, 0)?;
     Ok(library.add(alloc, Name::new(name)?, unit).is_ok())
 }
 
-// Whether a library lists these names, once units were added under those.
+// Whether a library lists `wanted` once units were added under `names`.
 fn lists(alloc: Global, names: &[&[u8]], wanted: &[&[u8]]) -> Result<bool, Fail> {
     let mut library = opened(alloc, formatted(alloc, 256)?)?;
     let mut right = true;
@@ -134,7 +135,7 @@ fn torn(alloc: Global, passes: u64, choice: &[u8]) -> Result<MemoryDisk, Fail> {
     Ok(library.into_disk().into_disk().crash(alloc, choice)?)
 }
 
-// Whether a crash that leaves this byte wherever it may, before the gate is settled, leaves these units.
+// Whether these units are left by a crash before the gate is settled, if it leaves this byte wherever it may leave anything.
 fn is_decided(alloc: Global, row: &(u8, Held)) -> Result<bool, Fail> {
     recovers(alloc, torn(alloc, 2, &[row.0; 144])?, row.1)
 }
@@ -159,7 +160,7 @@ fn a_torn_body_counts_for_nothing(rt: HostRuntime) -> Result<(), Fail> {
     passes(recovers(alloc, torn(alloc, 0, &choice)?, (Some(1), None)))
 }
 
-// The library with `a`, closed by a `compact` over a fuse that passes two calls.
+// The library with `a`, closed by a `compact` over a fuse that lets two calls pass.
 fn cut_off(alloc: Global) -> Result<Library<FuseDisk<MemoryDisk>>, Fail> {
     let mut library = with_a(alloc, OPENING.saturating_add(2))?;
     if does(alloc, &mut library, Step::Compact)? != 35 {

@@ -1,4 +1,4 @@
-// Every point of failure of add, add, replace, compact, withdraw, in each mode, and a crash after it; and the same through
+// Every point of failure of add, add, replace, compact, withdraw, in each mode, and a crash after each; and the same through
 // `run`.
 
 use crate::library::helpers::{
@@ -10,7 +10,7 @@ use std::alloc::Global;
 use std::test::Fail;
 use tests_texts::verdict::passes;
 
-// Three calls of opening an empty library, four of each change and of `compact`.
+// Three device calls to open an empty library, and four for each change and for `compact`.
 const CALLS: u64 = 23;
 
 const STEPS: [Step; 5] = [
@@ -21,7 +21,7 @@ const STEPS: [Step; 5] = [
     Step::Withdraw(b'b'),
 ];
 
-// What `a` and `b` stand for after this many of the steps.
+// What `a` and `b` hold after this many of the steps.
 fn map_after(done: usize) -> Held {
     match done {
         0 => (None, None),
@@ -37,7 +37,7 @@ fn fused(alloc: Global, passes: u64, mode: FuseMode) -> Result<FuseDisk<MemoryDi
     Ok(FuseDisk::new(formatted(alloc, 128)?, passes, mode))
 }
 
-// Does the steps until one is refused: the disk, and how many were done.
+// Makes the steps until one is refused. The result is the disk, and how many were made.
 fn changed(alloc: Global, disk: FuseDisk<MemoryDisk>) -> Result<(MemoryDisk, usize), Fail> {
     match Library::open(alloc, disk) {
         Ok(opened) => {
@@ -49,7 +49,7 @@ fn changed(alloc: Global, disk: FuseDisk<MemoryDisk>) -> Result<(MemoryDisk, usi
     }
 }
 
-// What a crash leaves where it may: one byte everywhere, or bytes that look random.
+// What a crash leaves at the places where it may leave anything: one byte everywhere, or bytes that look random.
 fn choice(number: u64) -> [u8; 272] {
     let mut choice = match number {
         0 => [0; 272],
@@ -65,7 +65,7 @@ fn choice(number: u64) -> [u8; 272] {
     choice
 }
 
-// Whether each crash leaves the map after what was done, or with one step more.
+// Whether each crash leaves the map after the steps that were made, or after one more step.
 fn is_right(alloc: Global, disk: &MemoryDisk, done: usize) -> Result<bool, Fail> {
     for number in 0..9u64 {
         let bytes = choice(number);
@@ -78,7 +78,7 @@ fn is_right(alloc: Global, disk: &MemoryDisk, done: usize) -> Result<bool, Fail>
     Ok(true)
 }
 
-// Whether the steps are right over a fuse that this many calls pass.
+// Whether the steps are right over a fuse that lets this many calls pass.
 fn survives(alloc: Global, calls: u64, mode: FuseMode) -> Result<bool, Fail> {
     let (disk, done) = changed(alloc, fused(alloc, calls, mode)?)?;
     Ok((done == 5 || calls < CALLS) && is_right(alloc, &disk, done)?)

@@ -8,7 +8,7 @@ use std::alloc::Global;
 use std::test::Fail;
 use tests_texts::verdict::{each_passes, passes};
 
-// The LTL of the first function, if the validator accepts all functions of the text.
+// The LTL of a text's first function, if the validator accepts all functions of the text.
 fn right(alloc: Global, text: &str) -> Result<Option<Ltl>, Fail> {
     if all_are_accepted(alloc, text.as_bytes())? {
         Ok(Some(first_coloured(alloc, text.as_bytes())?))
@@ -17,7 +17,7 @@ fn right(alloc: Global, text: &str) -> Result<Option<Ltl>, Fail> {
     }
 }
 
-// Whether the text is accepted, has this many moves between registers, and uses no slot.
+// Whether a text is accepted, and its first function has `between` moves between registers and uses no slot.
 fn has_moves(alloc: Global, text: &str, between: usize) -> Result<bool, Fail> {
     match right(alloc, text)? {
         Some(ltl) => {
@@ -32,7 +32,7 @@ fn has_moves(alloc: Global, text: &str, between: usize) -> Result<bool, Fail> {
     }
 }
 
-// Parameters are taken, passed on and returned without a move.
+// Parameters are taken, handed to calls and returned without a move.
 static WITHOUT_MOVES: [&str; 5] = [
     "int f(int x){return x;}int main(void){}",
     "int f(int a,int b){return a-b;}int main(void){}",
@@ -86,7 +86,7 @@ fn a_cycle_of_moves_takes_one_more(rt: HostRuntime) -> Result<(), Fail> {
     )
 }
 
-// Whether the first function of a text has this many slots, and whether it saves registers that calls keep.
+// Whether the first function of a text has this many slots, and saves registers that calls keep exactly if `saves` says so.
 fn has_slots(alloc: Global, text: &str, slots: u16, saves: bool) -> Result<bool, Fail> {
     match right(alloc, text)? {
         Some(ltl) => Ok(ltl.slots() == slots && saves_registers(&ltl) == saves),
@@ -94,7 +94,8 @@ fn has_slots(alloc: Global, text: &str, slots: u16, saves: bool) -> Result<bool,
     }
 }
 
-// What lives across the calls of a loop is in registers that calls keep; what lives across a service of the machine needs none of these.
+// What lives across the calls of a loop is in registers that calls keep; what lives across a service of the machine needs no
+// such register.
 #[test]
 fn what_lives_over_calls_in_a_loop_is_in_saved_registers(rt: HostRuntime) -> Result<(), Fail> {
     let calls =

@@ -1,4 +1,4 @@
-// From a text to a function's RTL without operations whose results nobody needs, and to its allocation.
+// From a text to a function's RTL, without the operations whose results nobody needs, and to the function's allocation.
 
 use crate::pairs;
 use crate::pairs::unit_of;
@@ -12,14 +12,14 @@ use std::alloc::Global;
 use std::sync::Arc;
 use std::test::Fail;
 
-/// The RTL of one function, without operations whose results nobody needs.
+/// The RTL of one function, without the operations whose results nobody needs.
 pub fn pair_of(alloc: Global, unit: &Arc<TypedUnit>, function: usize) -> Result<RtlPair, Fail> {
     let mut pair = pairs::pair_of(alloc, unit, function)?;
     drop_faint(alloc, &mut pair)?;
     Ok(pair)
 }
 
-/// Its LTL, as the allocator makes it.
+/// The function's LTL, as the allocator makes it.
 pub fn coloured(alloc: Global, pair: &RtlPair) -> Result<Ltl, Fail> {
     let live = liveness(alloc, pair.code())?;
     let ltl = colour(alloc, pair.code(), &live)?;
@@ -52,7 +52,7 @@ pub fn is_accepted(alloc: Global, unit: &Arc<TypedUnit>, function: usize) -> Res
     }
 }
 
-/// Whether it accepts those of all functions of a text.
+/// Whether the validator accepts the allocations of all functions of a text.
 pub fn all_are_accepted(alloc: Global, text: &[u8]) -> Result<bool, Fail> {
     let unit = unit_of(alloc, text)?;
     for function in 0..unit.functions() {

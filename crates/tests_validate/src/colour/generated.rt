@@ -1,4 +1,4 @@
-// Functions that are large in one respect: values alive at once, moves, nested loops, arguments.
+// Functions that are large in one respect: values alive at once, moves, nested loops, or arguments.
 
 use super::functions::all_are_accepted;
 use std::alloc::{AllocError, Global};
@@ -10,7 +10,7 @@ fn put(text: &mut Vec<u8>, part: &str) -> Result<(), AllocError> {
     text.extend_from_slice(part.as_bytes())
 }
 
-// A name for each number: v and its digits.
+// Writes the name for a number: v and its digits.
 fn put_name(text: &mut Vec<u8>, number: usize) -> Result<(), AllocError> {
     put(text, "v")?;
     for unit in [100, 10, 1] {
@@ -20,7 +20,7 @@ fn put_name(text: &mut Vec<u8>, number: usize) -> Result<(), AllocError> {
     Ok(())
 }
 
-// Each of these variables, with one text before it and another after it.
+// Writes each of these variables, with one text before it and another after it.
 fn put_each(
     text: &mut Vec<u8>,
     before: &str,
@@ -35,7 +35,7 @@ fn put_each(
     Ok(())
 }
 
-// This many variables, which are read one after the other and then added up.
+// A program with `count` variables, which are all read and then added up.
 fn many_alive(alloc: Global, count: usize) -> Result<Vec<u8>, AllocError> {
     let mut text = Vec::new(alloc);
     put(&mut text, "int main(void){")?;
@@ -56,7 +56,7 @@ fn more_values_than_registers_are_accepted(rt: HostRuntime) -> Result<(), Fail> 
     each_passes(rt.alloc(), &[1, 24, 25, 26, 27, 64, 250, 255], are_kept)
 }
 
-// `vM=vN;`
+// Writes `vM=vN;`.
 fn put_move(text: &mut Vec<u8>, to: usize, from: usize) -> Result<(), AllocError> {
     put_name(text, to)?;
     put(text, "=")?;
@@ -64,7 +64,7 @@ fn put_move(text: &mut Vec<u8>, to: usize, from: usize) -> Result<(), AllocError
     put(text, ";")
 }
 
-// This many variables, which are passed round in a loop.
+// A program with `count` variables, whose words are passed round in a loop.
 fn turning(alloc: Global, count: usize) -> Result<Vec<u8>, AllocError> {
     let mut text = Vec::new(alloc);
     put(&mut text, "int main(void){int t=0;")?;
@@ -88,7 +88,7 @@ fn values_that_are_passed_round_are_accepted(rt: HostRuntime) -> Result<(), Fail
     each_passes(rt.alloc(), &[2, 3, 22, 26, 60], are_passed_round)
 }
 
-// `for(vN=0;vN<2;vN++)`
+// Writes `for(vN=0;vN<2;vN++)`.
 fn put_loop(text: &mut Vec<u8>, number: usize) -> Result<(), AllocError> {
     put(text, "for(")?;
     put_name(text, number)?;
@@ -97,7 +97,8 @@ fn put_loop(text: &mut Vec<u8>, number: usize) -> Result<(), AllocError> {
     put(text, "++)")
 }
 
-// Nested loops, as deep as statements go; each has a counter, and the innermost one passes their sum to a call.
+// A program with nested loops, as deep as statements may be nested; each loop has a counter, and the innermost one passes their
+// sum to a call.
 fn nested(alloc: Global, depth: usize) -> Result<Vec<u8>, AllocError> {
     let mut text = Vec::new(alloc);
     put(

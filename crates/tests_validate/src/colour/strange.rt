@@ -1,4 +1,4 @@
-// With the live sets of other functions there is still an answer, which is accepted or refused with 24.
+// If the allocator is given the live sets of another function, it still answers, and the answer is accepted or refused with 24.
 
 use super::functions::pair_of;
 use crate::pairs::unit_of;
@@ -19,7 +19,8 @@ fn live_of(alloc: Global, text: &str) -> Result<Liveness, Fail> {
     Ok(live)
 }
 
-// Whether the answer for the first function of a text can be written as bytes and read back, and is accepted or refused with 24.
+// Whether the answer for the first function of a text can be written as bytes and read back, and is accepted or refused with
+// 24.
 fn is_answered(alloc: Global, text: &str, live: &Liveness) -> Result<bool, Fail> {
     let unit = unit_of(alloc, text.as_bytes())?;
     let pair = pair_of(alloc, &unit, 0)?;

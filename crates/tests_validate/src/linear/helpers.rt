@@ -1,4 +1,4 @@
-// A text's functions, as Linear. Their LTL is the allocation with a slot of its own for each register.
+// The functions of a text, as Linear. Their LTL is the allocation in which each register has a slot of its own.
 
 use crate::pairs::{pair_of, unit_of};
 use cc_colour::spill_all;
@@ -28,7 +28,7 @@ pub fn linear_of(
     }
 }
 
-/// Whether there are this many functions in a text, and each goes through and names itself and its unit.
+/// Whether a text has `functions` functions, and each goes through and names itself and its unit.
 pub fn all_go_through(alloc: Global, text: &[u8], functions: usize) -> Result<bool, Fail> {
     let unit = unit_of(alloc, text)?;
     let mut right = unit.functions() == functions;
@@ -55,7 +55,7 @@ pub fn text_of_function(alloc: Global, text: &[u8], function: usize) -> Result<S
     Ok(shown)
 }
 
-/// The way to Linear.
+/// The stage that leads to Linear.
 pub struct LinearStage;
 
 impl Stage for LinearStage {

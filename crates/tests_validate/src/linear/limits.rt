@@ -6,8 +6,8 @@ use std::test::Fail;
 use tests_texts::parts::{Part, text_of};
 use tests_texts::verdict::each_passes;
 
-/// The parts of functions of some 4,000 nodes, and how many functions the text has. In the first, 1,364 writes and a read make 4,096 nodes,
-/// the most that a function may have.
+/// The parts of functions with some 4,000 nodes, and how many functions the text has. In the first one, 1,364 writes and a read
+/// make 4,096 nodes, the most that a function may have.
 type Large = (&'static [Part<'static>], usize);
 
 static LARGEST: [Large; 4] = [

@@ -1,4 +1,5 @@
-// What the turns of loops execute: the items from a label to a branch back to it are the loop's own test and what is within the loop.
+// What the turns of loops execute: the items from a label to a branch back to it are the loop's own test and what is inside the
+// loop.
 
 use super::helpers::linear_of;
 use crate::pairs::unit_of;
@@ -7,10 +8,10 @@ use std::alloc::Global;
 use std::test::Fail;
 use tests_texts::verdict::passes_for;
 
-/// A turn: how many branches and how many jumps are in it.
+/// A turn: the number of branches and the number of jumps in it.
 type Turn = (usize, usize);
 
-// Where an item branches to.
+// The label to which an item branches.
 fn target(item: LinearItem) -> Option<u32> {
     match item {
         LinearItem::IfNonzero { to, .. } | LinearItem::IfZero { to, .. } => Some(to),
@@ -18,7 +19,7 @@ fn target(item: LinearItem) -> Option<u32> {
     }
 }
 
-// The branches and jumps among items after a label; `None` if the label is not there.
+// The number of branches and of jumps among the items after a label; `None` if the label is not there.
 fn turn(items: &[LinearItem], head: u32) -> Option<Turn> {
     let mut found = false;
     let mut branches = 0_usize;
@@ -36,7 +37,7 @@ fn turn(items: &[LinearItem], head: u32) -> Option<Turn> {
     if found { Some((branches, jumps)) } else { None }
 }
 
-// Whether these are the turns of the branches back, in their order.
+// Whether the branches back have these turns, in this order.
 fn are_turns(items: &[LinearItem], turns: &[Turn]) -> bool {
     let mut seen = 0_usize;
     let mut same = true;
@@ -61,7 +62,8 @@ fn has_turns(alloc: Global, text: &str, turns: &[Turn]) -> Result<bool, Fail> {
     Ok(right)
 }
 
-/// A text, and the turns of its last function. A turn of a nested loop begins with a jump to its test, which is after its body.
+/// A text, and the turns of its last function. A turn of an outer loop begins the inner one with a jump to its test, which
+/// comes after its body.
 static LOOPS: [(&str, &[Turn]); 9] = [
     ("int x;int main(void){while(x)x--;}", &[(1, 0)]),
     ("int x;int main(void){do x--;while(x);}", &[(1, 0)]),
@@ -70,12 +72,12 @@ static LOOPS: [(&str, &[Turn]); 9] = [
         "int main(void){int i;for(i=0;i<9;i++)write_word(i);}",
         &[(1, 0)],
     ),
-    // one loop after another, and after an `if`
+    // two loops, one after the other, after an `if`
     (
         "int x;int main(void){if(x){x=x+2;x=x+3;}while(x)x--;while(x)x++;}",
         &[(1, 0), (1, 0)],
     ),
-    // nested loops: a turn of the inner one has no jump, a turn of the outer one has the jump into the inner one
+    // nested loops: a turn of the inner one has no jump; a turn of the outer one has the jump into the inner one
     (
         "int main(void){int i;int j;for(i=0;i<2;i++)for(j=0;j<3;j++)write_word(j);}",
         &[(1, 0), (2, 1)],
@@ -84,7 +86,7 @@ static LOOPS: [(&str, &[Turn]); 9] = [
         "int main(void){int i;int j;int k;for(i=0;i<2;i++)for(j=0;j<3;j++)for(k=0;k<4;k++)write_word(k);}",
         &[(1, 0), (2, 1), (3, 2)],
     ),
-    // a second test in the loop is a second branch, and leaves it or goes on without a jump
+    // a second test in the loop is a second branch; it leaves the loop or goes on, without a jump
     (
         "int x;int main(void){while(x){if(x==5)break;x--;}}",
         &[(2, 0)],

@@ -1,5 +1,5 @@
-// The text of the Linear of whole functions, worked by hand from the rules in `docs/INTERMEDIATE.md`: the nodes of RTL, the blocks that
-// come of them with a slot for each register, and the order of blocks.
+// The text of the Linear of whole functions, worked out by hand from the rules in `docs/INTERMEDIATE.md`: the nodes of RTL, the
+// blocks made from them with a slot for each register, and the order of the blocks.
 
 use super::helpers::LinearStage;
 use std::test::Fail;
@@ -22,8 +22,8 @@ static SHOWN: [(&str, usize, &str); 4] = [
   return
 ",
     ),
-    // a loop's test, which is executed first, comes after its body: RTL is 0: nop -> 4, 1: branch r0 -> 2, 5, 2: r1 = 1 -> 3, 3: r0 = sub
-    // r0, r1 -> 4, 4: nop -> 1, 5: return r0
+    // the test of a loop, which is executed first, comes after the loop's body: RTL is 0: nop -> 4, 1: branch r0 -> 2, 5, 2: r1
+    // = 1 -> 3, 3: r0 = sub r0, r1 -> 4, 4: nop -> 1, 5: return r0
     (
         "int f(int n){while(n)n=n-1;return n;}int main(void){}",
         0,
@@ -44,7 +44,7 @@ static SHOWN: [(&str, usize, &str); 4] = [
   return
 ",
     ),
-    // an endless loop that does nothing stays; its two empty blocks, the entry and the way back to its head, are skipped
+    // an endless loop that does nothing is kept; its two empty blocks, the entry and the way back to its head, are skipped
     (
         "int main(void){for(;;);write_word(1);}",
         0,
@@ -66,8 +66,8 @@ static SHOWN: [(&str, usize, &str); 4] = [
   return
 ",
     ),
-    // the way for a word that is 0 follows the branch, unless it follows another block, as what comes after an `if` follows the body of the
-    // `if`
+    // the way for a word that is 0 follows the branch, unless it follows another block, just as what comes after an `if`
+    // follows the body of the `if`
     (
         "int f(int n){if(n)return f(n-1);return 7;}int main(void){}",
         0,

@@ -1,4 +1,4 @@
-// The functions of the worked programs go through.
+// The functions of the worked programs all go through.
 
 use super::helpers::LinearStage;
 use std::test::Fail;

@@ -1,4 +1,4 @@
--- The words so far are written.
+-- The words so far have been written.
 use Rattle.std.proofs.Common.{take}
 use Rattle.std.specs.Io.KnownBytes.{Appends}
 use Rattle.cc_answers.specs.Text.{words_text}

@@ -1,4 +1,4 @@
--- The names so far are written.
+-- The names so far have been written.
 use Rattle.std.proofs.Common.{take}
 use Rattle.std.specs.Io.KnownBytes.{Appends}
 use Rattle.cc_answers.specs.Telling.{units_text}

@@ -1,4 +1,4 @@
--- One more word; and a word with a bit that the other one lacks.
+-- One more word has no bit that the other row lacks; or it has one, and then its number is not in the other row.
 use Rattle.std.proofs.Common.{refl, get_or}
 use Rattle.cc_bits.proofs.Bits.{one_within, one_outside}
 use Rattle.cc_bits.proofs.row.lies_within.Goals as goal

@@ -1,4 +1,4 @@
--- One more word.
+-- One more word is joined in.
 use Rattle.std.proofs.Common.{◌+◌, ◌<◌, get_or, length, refl, ap, subst, sym, arith, List, ℕ}
 use Rattle.cc_bits.proofs.Bits.{PutFirst, one_put}
 use Rattle.cc_bits.proofs.Written.{written}

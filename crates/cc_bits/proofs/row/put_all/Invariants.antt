@@ -1,4 +1,4 @@
--- The words so far are joined in.
+-- The words so far have been joined in.
 use Rattle.cc_bits.proofs.Bits.{PutFirst}
 use Rattle.cc_bits.proofs.row.put_all.Given as goal
 

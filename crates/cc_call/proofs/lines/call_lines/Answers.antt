@@ -1,4 +1,4 @@
--- One line more, by what was answered to it.
+-- One more line, depending on its answer.
 use Rattle.std.proofs.Common.{ℕ, List, true, Bool, subst}
 use Rattle.std.proofs.lemmas.Option.{IfSome_then}
 use Rattle.std.specs.Io.BufRead.{strip_last}

@@ -1,4 +1,4 @@
--- So many lines of the input were answered.
+-- This many lines of the input were answered.
 use Rattle.std.specs.Prelude.{IfSome}
 use Rattle.cc_call.proofs.Turns.{HasCalled}
 use Rattle.cc_call.proofs.lines.call_lines.Given as goal

@@ -5,7 +5,7 @@ use Rattle.cc_ast.specs.Source.{source}
 use Rattle.cc_ast.specs.declared.unit.Unit as parsed
 use Rattle.cc_ast.specs.Parse.{SpellsText}
 use Rattle.cc_types.specs.Typed.{IsTyped, IsWithinLimits}
-use Rattle.cc_c_laws.specs.declared.mode.Mode.TheVariants.{Plain}
+use Rattle.cc_c_semantics.specs.declared.mode.Mode.TheVariants.{Plain}
 use Rattle.cc_cminor.proofs.Pairs.{lowered_is_small, lowered_below, lowered_operations, lowered_exits, lowered_alike, pair_is}
 use Rattle.cc_cminor.proofs.lower.paired.Goals as goal
 

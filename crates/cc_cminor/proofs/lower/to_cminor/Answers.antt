@@ -1,4 +1,4 @@
--- The owner that is kept is that of the given unit.
+-- The pair keeps the owner of the given unit.
 use Rattle.std.proofs.Common.{◌≡◌, sym, subst}
 use Rattle.std.specs.Arc.{arc_value}
 use Rattle.cc_ast.specs.Source.{source}

@@ -1,4 +1,4 @@
--- The zero, and then what the initialiser adds.
+-- The local is set to 0, and then the initialiser adds its code.
 use Rattle.std.proofs.Common.{◌≡◌, ◌++◌, ◌∷◌, [], List, ◌∙◌, ap}
 use Rattle.std.proofs.lemmas.List.{append_assoc}
 use Rattle.cc_ast.specs.Erase.{optional_tree, declarator_trees}

@@ -1,4 +1,4 @@
--- One move for each parameter so far.
+-- There is one move for each parameter so far.
 use Rattle.std.proofs.Common.{◌-◌, ◌≡◌, ◌≤◌, length}
 use Rattle.cc_colour.proofs.spill.keep_parameters.Given as goal
 

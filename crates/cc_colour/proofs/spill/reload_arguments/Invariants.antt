@@ -1,4 +1,4 @@
--- One move for each argument so far.
+-- There is one move for each argument so far.
 use Rattle.std.proofs.Common.{◌-◌, ◌≡◌, ◌≤◌, length}
 use Rattle.cc_colour.proofs.spill.reload_arguments.Given as goal
 

@@ -1,4 +1,4 @@
--- An area that fits; no area below the least one fits.
+-- `fitting` is an area with room, and no area below `least` has room.
 use Rattle.std.proofs.Common.{ℕ, ◌≤◌, ◌<◌, ◌-◌, ◌^◌}
 use Rattle.cc_copy.specs.Copy.{room_for}
 use Rattle.cc_copy.proofs.filling.least_area.Given as goal

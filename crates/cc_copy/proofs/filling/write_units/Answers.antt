@@ -1,4 +1,4 @@
--- The records are one Add a name, which stand for the map.
+-- The records are one Add for each name, which represent the map.
 use Rattle.std.proofs.Common.{◌≡◌, ◌∙◌, ℕ, List, sym, subst}
 use Rattle.cc_journal.specs.Format.{AllHold}
 use Rattle.cc_library.specs.Compact.{compacted}

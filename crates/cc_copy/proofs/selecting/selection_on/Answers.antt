@@ -1,4 +1,4 @@
--- The map from which it is selected is the one to which the disk recovers.
+-- The map from which units are selected is the one to which the disk recovers.
 use Rattle.std.proofs.Common.{◌≡◌, IsTrue, map, sym, subst}
 use Rattle.std.specs.Prelude.{string_bytes}
 use Rattle.cc_library.specs.Apply.{Units}

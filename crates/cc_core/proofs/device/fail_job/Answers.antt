@@ -1,4 +1,4 @@
--- What the core refuses is refused, and no job ends.
+-- If the core refuses the failure, so does this function, and no job ends.
 use Rattle.std.proofs.Common.{refl, subst}
 use Rattle.cc_core.specs.internal.Answers.{Answers}
 use Rattle.cc_core.specs.Step.{Fails}

@@ -1,4 +1,4 @@
--- The worker is idle and the piece waits, as the tests before have shown.
+-- The worker is idle and the piece waits, as the tests before this point have shown.
 use Rattle.std.proofs.Common.{◌≡◌, sym, ap, ◌∙◌, Some, None, arith}
 use Rattle.std.specs.Prelude.{slice_get}
 use Rattle.std.proofs.lemmas.Grind.{common_steps}

@@ -1,4 +1,4 @@
--- The pieces so far, and those made among the rest, are those made among all.
+-- The pieces so far, followed by those made among the rest, are all the pieces that were made.
 use Rattle.std.proofs.Common.{◌≡◌, ◌++◌, drop, map}
 use Rattle.cc_core.specs.Job.{made_pieces}
 use Rattle.cc_core.proofs.job.all_made.Given as goal

@@ -1,4 +1,4 @@
--- None so far was refused, so the first refusal of the rest is the first of all.
+-- No piece so far was refused, so the first refusal among the rest is the first of all.
 use Rattle.std.proofs.Common.{◌≡◌, drop}
 use Rattle.cc_core.specs.Job.{first_refused}
 use Rattle.cc_core.proofs.job.least_refused.Given as goal

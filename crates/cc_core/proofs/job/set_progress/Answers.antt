@@ -1,4 +1,4 @@
--- If the client has a job, the look-up lends it, and the write to its piece comes back as an insertion.
+-- If the client has a job, the look-up lends it, and the write to its piece amounts to an insertion into the table.
 use Rattle.std.proofs.Common.{refl, sym, ap, subst, ◌∙◌, IsSome}
 use Rattle.std.specs.Ordering.{nat_cmp}
 use Rattle.std.specs.Cmp.{nat_cmp_total}

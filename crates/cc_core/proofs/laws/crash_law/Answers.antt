@@ -1,4 +1,4 @@
--- What a run from a beginning reaches is sound, for units that were found there or are right.
+-- Whatever a run reaches from a beginning is sound, for units that are right or were found at the beginning.
 use Rattle.std.proofs.Common.{inl, inr}
 use Rattle.cc_core.specs.Run.{IsRightOr}
 use Rattle.cc_core.proofs.Sound.{run_IsSound, beginning-IsSound, puts_source}

@@ -1,4 +1,5 @@
--- Nothing is asked of pieces or of units here: the record of what holds after any events is used with a property that every unit has.
+-- Nothing is required of pieces or units here: `IsSound`, which says what holds after any events, is used with a property that
+-- every unit has.
 use Rattle.cc_core.specs.Run.{IsAnyPiece}
 use Rattle.cc_core.proofs.Sound.{sound_survives, recovery_is_possible, of_crash, commits_leave, rewrite_is_possible, rewrites_leave}
 use Rattle.cc_core.proofs.Anyhow.{is_any_unit, any_lawful, sound_anyhow}

@@ -1,4 +1,4 @@
--- The lemmas of Turns say how a run goes on, one for each clause.
+-- Each clause is a lemma of Turns about how a run goes on.
 use Rattle.cc_core.proofs.Turns.{step_turn, Run-append, no_job, no_work, can_be_ready}
 use Rattle.cc_core.proofs.laws.turn_law.Goals as goal
 

@@ -1,4 +1,5 @@
--- A right command keeps each unit of a map right, or right or found; the empty map has no units.
+-- If a command's unit is right, each unit of the map stays right; the same holds for "right or found". The empty map has no
+-- units.
 use Rattle.cc_core.specs.Run.{IsRightOr}
 use Rattle.cc_core.proofs.Orders.{EachUnit-after, EachUnit-empty}
 use Rattle.cc_core.proofs.laws.units_law.Goals as goal

@@ -1,4 +1,4 @@
--- The copy has the commands of the order before this one.
+-- The copy has the commands of the order that come before this one.
 use Rattle.std.proofs.Common.{◌≡◌, take}
 use Rattle.cc_core.proofs.opening.again.Given as goal
 

@@ -1,4 +1,4 @@
--- The bytes counted so far, and those of the records that are left, are those of all records.
+-- The bytes counted so far, plus those of the records that are left, are the bytes of all records.
 use Rattle.std.proofs.Common.{◌≡◌, ◌+◌, length, drop}
 use Rattle.cc_journal.specs.Format.{records}
 use Rattle.cc_core.proofs.opening.bytes_taken.Given as goal

@@ -1,4 +1,4 @@
--- What the journal holds was on the disk, since opening only reads it and the disk is honest.
+-- What the journal holds was already on the disk, since opening only reads the disk, and the disk is honest.
 use Rattle.std.proofs.Common.{ℕ, List, refl, ap, subst, ◌∙◌, length, true}
 use Rattle.cc_disk.specs.Model.{bytes_of}
 use Rattle.cc_disk.specs.internal.Laws.{bytes_are_image}

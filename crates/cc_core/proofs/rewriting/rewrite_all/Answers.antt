@@ -1,4 +1,4 @@
--- What is written is the journal of one Add per name, and it fits, as the state's type keeps of an idle state.
+-- What is written is the journal with one Add per name. It fits: the type of the state keeps this for an idle state.
 use Rattle.std.proofs.Common.{◌≡◌, ◌≤◌, List, ℕ, refl, sym, ap, subst, ◌∙◌, arith}
 use Rattle.cc_journal.specs.Commit.{rewrite_commit}
 use Rattle.cc_journal.specs.Format.{room_of}

@@ -1,4 +1,4 @@
--- The lines of the names so far.
+-- The lines so far are those of the names so far.
 use Rattle.std.proofs.Common.{◌≡◌, take}
 use Rattle.std.specs.List.{flat_map}
 use Rattle.std.specs.FinMap as map

@@ -1,4 +1,4 @@
--- The names of the left map, and those of the right one so far.
+-- The map's names are those of the left map, and those of the right one so far.
 use Rattle.std.proofs.Common.{◌≡◌, ℕ, List, take, ◌||◌}
 use Rattle.std.specs.List.{list_any}
 use Rattle.std.specs.Ordering.{eq_by_cmp}

@@ -1,4 +1,4 @@
--- The steps so far are light.
+-- The steps so far are all light.
 use Rattle.std.proofs.Common.{◌-◌, ◌≤◌, length}
 use Rattle.cc_emit.proofs.Ahead.{Light}
 use Rattle.cc_emit.proofs.early.light_count.Given as goal

@@ -1,4 +1,4 @@
--- The label is among the rest, if it is at all.
+-- If the label occurs, it is among the remaining steps.
 use Rattle.std.proofs.Common.{◌≡◌, ◌-◌, ◌≤◌, length, drop}
 use Rattle.cc_select.specs.Selected.{place}
 use Rattle.cc_emit.proofs.early.place_of.Given as goal

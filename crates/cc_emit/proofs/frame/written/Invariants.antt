@@ -1,4 +1,4 @@
--- The registers of the steps so far, and those of the rest.
+-- The registers that the steps so far write, and those that the rest writes, are all that are written.
 use Rattle.cc_emit.proofs.Kept.{Found}
 use Rattle.cc_emit.proofs.frame.written.Given as goal
 

@@ -1,4 +1,4 @@
--- One row changes, as a list.
+-- One row changes, seen as a list.
 use Rattle.std.proofs.Common.{◌≡◌, ◌++◌, ◌∷◌, [], ap, ◌∙◌, rules}
 use Rattle.cc_flow.specs.Flow.{successors_of, rows_of}
 use Rattle.cc_flow.proofs.Edges.{row_is, row_set, row_kept}

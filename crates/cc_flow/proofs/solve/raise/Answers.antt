@@ -1,4 +1,4 @@
--- What comes back from facts below a solution is below the solution, and so is its join with facts that are.
+-- What comes back from facts below a solution is below the solution, and so is its join with the node's facts.
 use Rattle.std.proofs.Common.{◌≡◌, ◌<◌, length, ◌∙◌, sym, subst, arith}
 use Rattle.std.proofs.lemmas.List.{get_or_default}
 use Rattle.cc_flow.specs.Lattice.{Equivalent}

@@ -1,4 +1,4 @@
--- If a node rose, all that read it wait, and the rise pays for them; otherwise one node less waits.
+-- If a node rose, all nodes that read it wait, and the rise pays for them; otherwise one node fewer waits.
 use Rattle.std.proofs.Common.{◌≡◌, ℕ, suc, ◌*◌, ◌<◌, length, set, ap, ◌∙◌, sym, subst, arith, sum_by, List, Bool, true, false}
 use Rattle.std.proofs.lemmas.List.{length-set}
 use Rattle.cc_flow.specs.internal.Waiting.{waits, how_many}

@@ -1,4 +1,4 @@
--- The last statement of a sequence is that of its list.
+-- Control reaches the end of a sequence exactly if it reaches the end of the last statement of its list.
 use Rattle.std.proofs.Common.{◌∙◌, ap}
 use Rattle.cc_cminor.specs.Cminor as cminor
 use Rattle.cc_cminor.specs.internal.Statements.{statements_of}

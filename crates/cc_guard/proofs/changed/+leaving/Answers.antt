@@ -1,4 +1,4 @@
--- Exits leave a sequence as they leave its list.
+-- An exit in a sequence leaves the block exactly if an exit in one of the statements of its list does.
 use Rattle.std.proofs.Common.{◌∙◌, ap}
 use Rattle.cc_cminor.specs.Cminor as cminor
 use Rattle.cc_cminor.proofs.Codes.{if_ok}

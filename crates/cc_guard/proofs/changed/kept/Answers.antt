@@ -1,4 +1,4 @@
--- One more bound is kept, or is not.
+-- The next bound is kept, or it is not.
 use Rattle.std.proofs.Common.{◌+◌, ◌∙◌, Bool, List, ◌++◌, drop, sym, ap, subst}
 use Rattle.cc_cminor.specs.Code.{statement_of}
 use Rattle.cc_guard.specs.declared.known.Limit.{Limit}

@@ -1,4 +1,4 @@
--- The constants of a sequence are those of its list.
+-- The constants of a sequence are those of the statements in its list.
 use Rattle.std.proofs.Common.{◌+◌, List, [], ◌∷◌, drop, sym, subst}
 use Rattle.std.proofs.lemmas.List.{drop_all}
 use Rattle.cc_types.proofs.SameTypes.{drop-item}

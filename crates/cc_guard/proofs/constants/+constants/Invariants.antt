@@ -4,6 +4,6 @@ use Rattle.cc_cminor.specs.internal.Statements.{statements_of}
 use Rattle.cc_guard.specs.Safe.{CodeConstantsFit}
 use Rattle.cc_guard.proofs.constants.+constants.Given as goal
 
--- with the rest all fit
+-- if the constants of the rest fit, all fit
 abbrev pub invariant-all_fit-loop-s : goal.invariant-all_fit-loop-s
 invariant-all_fit-loop-s l = CodeConstantsFit (in_sequence (statements_of (drop l.s-index l.all))) → CodeConstantsFit (in_sequence (statements_of l.all))

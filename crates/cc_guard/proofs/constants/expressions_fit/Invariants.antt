@@ -3,6 +3,6 @@ use Rattle.cc_cminor.specs.Code.{expressions_of}
 use Rattle.cc_guard.specs.Safe.{AllConstantsFit}
 use Rattle.cc_guard.proofs.constants.expressions_fit.Given as goal
 
--- with the rest all fit
+-- if the constants of the rest fit, all fit
 abbrev pub invariant-loop-e : goal.invariant-loop-e
 invariant-loop-e l = AllConstantsFit (expressions_of (drop l.e-index l.es)) → AllConstantsFit (expressions_of l.es)

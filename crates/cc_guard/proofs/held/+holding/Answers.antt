@@ -1,4 +1,4 @@
--- A sequence is held as its list is.
+-- A sequence is rewritten as the list of its statements is.
 use Rattle.std.proofs.Common.{◌+◌, ◌∙◌, List, [], ◌∷◌, ◌++◌, drop, sym, ap, append-nil, append_assoc}
 use Rattle.std.proofs.lemmas.List.{drop_all}
 use Rattle.cc_types.proofs.SameTypes.{drop-item}

@@ -3,6 +3,6 @@ use Rattle.cc_cminor.specs.internal.Statements.{statements_of}
 use Rattle.cc_guard.proofs.HeldWriting.{puts_code}
 use Rattle.cc_guard.proofs.held.with_words.Given as goal
 
--- with the statements for the rest they are the statements for all
+-- the statements so far, followed by those for the rest of the words, are the statements for all words
 abbrev pub invariant-loop-word : goal.invariant-loop-word
 invariant-loop-word l = statements_of l.all.items ++ puts_code (drop l.word-index l.words) l.variable ≡ puts_code l.words l.first

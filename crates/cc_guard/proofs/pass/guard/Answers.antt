@@ -1,7 +1,7 @@
--- What the type of a pair guarantees: of the pair that was passed, and so of the guarded code.
+-- What the type of a pair guarantees holds for the pair that was passed, and so for the pair with the guarded code.
 use Rattle.std.proofs.Common.{refl}
 use Rattle.std.specs.Arc.{arc_value}
-use Rattle.cc_c_laws.specs.declared.mode.Mode.TheVariants.{Checked}
+use Rattle.cc_c_semantics.specs.declared.mode.Mode.TheVariants.{Checked}
 use Rattle.cc_cminor.specs.Pair.{IsPair}
 use Rattle.cc_guard.proofs.Lowered.{guarded_is_pair}
 use Rattle.cc_guard.proofs.pass.guard.Goals as goal

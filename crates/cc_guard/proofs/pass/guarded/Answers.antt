@@ -1,7 +1,7 @@
 -- Guarded code fits, and code without guards stays as it was.
 use Rattle.std.proofs.Common.{◌≤◌, ◌∙◌, [], sym, ap, subst, arith}
 use Rattle.std.proofs.Math.Nat.{le-max_right}
-use Rattle.cc_c_laws.specs.Numbered.{objects_in}
+use Rattle.cc_c_semantics.specs.Numbered.{objects_in}
 use Rattle.cc_cminor.specs.Numbers.{most_variables, StatementFits}
 use Rattle.cc_cminor.specs.Pair.{tree_of, code_of}
 use Rattle.cc_cminor.specs.Variables.{above_statement}

@@ -1,4 +1,4 @@
--- Sequences are written as their lists, and an `If` after its guards.
+-- A sequence is written as the list of its statements is, and an `If` comes after its guards.
 use Rattle.std.proofs.Common.{◌≡◌, ◌+◌, ◌∙◌, Bool, true, false, List, [], ◌∷◌, ◌++◌, drop, sym, ap, subst, append-nil, append_assoc}
 use Rattle.std.proofs.lemmas.List.{drop_all}
 use Rattle.cc_types.proofs.SameTypes.{drop-item}

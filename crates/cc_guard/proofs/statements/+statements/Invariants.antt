@@ -7,7 +7,7 @@ use Rattle.cc_guard.specs.internal.Written.{SeesStatement, sizes_of}
 use Rattle.cc_guard.proofs.Writing.{all_code}
 use Rattle.cc_guard.proofs.statements.+statements.Given as goal
 
--- with the rest the code is whole, and what is seen of the rest is seen of all
+-- the code so far, followed by that of the rest, is the code of all; and what is seen of the rest completes what is seen of all
 abbrev pub invariant-statements-loop-s : goal.invariant-statements-loop-s
 invariant-statements-loop-s l = record {
   code : statements_of l.codes.items ++ all_code (sizes_of l.sizes) l.first l.blocks l.limits.items (statements_of (drop l.s-index l.all)) ≡ all_code (sizes_of l.sizes) l.first l.blocks l.known (statements_of l.all);

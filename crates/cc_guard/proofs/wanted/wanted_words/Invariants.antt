@@ -1,7 +1,7 @@
 use Rattle.std.proofs.Common.{◌-◌, ◌≤◌, length}
 use Rattle.cc_guard.proofs.wanted.wanted_words.Given as goal
 
--- there are no more than that
+-- at most eight words are chosen
 abbrev pub invariant-loop-wants : goal.invariant-loop-wants
 invariant-loop-wants l = length l.chosen.items ≤ 8
 

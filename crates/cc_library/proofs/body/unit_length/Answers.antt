@@ -1,4 +1,4 @@
--- All but the certificate keeps its limits by its type.
+-- All fields except the certificate keep their limits by the unit's type.
 use Rattle.std.proofs.Common.{length, ap, subst, arith}
 use Rattle.cc_library.specs.Body.{AreBelow}
 use Rattle.cc_library.proofs.Sizes.{unit_parts}

@@ -1,4 +1,4 @@
--- A slice's words are words.
+-- The elements of a slice of words are words.
 use Rattle.std.proofs.Common.{arith}
 use Rattle.cc_library.proofs.Fields.{from_index}
 use Rattle.cc_library.proofs.body.words_length.Goals as goal

@@ -1,7 +1,7 @@
--- What is read is spelled, and what is spelled is read.
+-- What is read is spelled by the bytes, and what the bytes spell is read.
 use Rattle.std.proofs.Common.{ℕ, List, get_or, ◌<◌, subst, arith}
 use Rattle.std.specs.Prelude.{Result, Ok, Err, IfOk}
-use Rattle.cc_library.specs.declared.command.LibraryCommand.{LibraryCommand}
+use Rattle.cc_library.specs.Change.{LibraryCommand}
 use Rattle.cc_library.specs.declared.reading.ReadFault.{ReadFault}
 use Rattle.cc_library.specs.Body.{Spells}
 use Rattle.cc_library.specs.internal.Reading.{command_in}

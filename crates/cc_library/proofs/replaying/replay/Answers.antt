@@ -1,4 +1,4 @@
--- All records lead to the same maps as the rest do, turn by turn.
+-- At each turn, all records lead to the same maps as the remaining ones do from the map so far.
 use Rattle.std.proofs.Common.{◌≡◌, ℕ, suc, ◌+◌, ◌<◌, List, [], ◌∷◌, length, drop, get_or, sym, ap, subst, ◌∙◌, drop-cons, arith}
 use Rattle.std.proofs.lemmas.List.{drop_all}
 use Rattle.std.proofs.lemmas.Result.{err_from_is_err_and}

@@ -1,8 +1,8 @@
--- Bytes that cannot be read as a command are spelled by none, and those that are read as one are spelled by no other.
+-- Bytes that cannot be read as a command spell no command, and bytes that are read as a command spell no other.
 use Rattle.std.proofs.Common.{◌≡◌, ℕ, List, Some, None, sym, subst}
 use Rattle.std.specs.Prelude.{Err, IsOk}
 use Rattle.std.proofs.lemmas.Option.{none-some}
-use Rattle.cc_library.specs.declared.command.LibraryCommand.{LibraryCommand}
+use Rattle.cc_library.specs.Change.{LibraryCommand}
 use Rattle.cc_library.specs.declared.reading.ReadFault.{ReadFault}
 use Rattle.cc_library.specs.Apply.{apply}
 use Rattle.cc_library.specs.Body.{Spells}

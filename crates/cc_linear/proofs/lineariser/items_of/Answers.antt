@@ -1,4 +1,4 @@
--- The tables are what each step asks for, and the list is made from the function.
+-- The tables are what each step requires, and the list is made from the function.
 use Rattle.std.proofs.Common.{◌≡◌, ap, sym, subst, ◌∙◌}
 use Rattle.std.proofs.lemmas.Result.{IfOk-weaker}
 use Rattle.cc_linear.specs.internal.Ends.{HasEnds}

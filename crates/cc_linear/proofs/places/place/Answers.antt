@@ -1,4 +1,4 @@
--- A label that is there is found.
+-- A label that is in the list is found.
 use Rattle.cc_linear.proofs.ByPlace.{not_missing}
 use Rattle.cc_linear.proofs.places.place.Goals as goal
 

@@ -1,4 +1,4 @@
--- What was made along the certificate is the stored unit, so what its type keeps is true of that.
+-- What was made with the certificate is the stored unit, so what its type keeps is true of the stored unit.
 use Rattle.std.proofs.Common.{◌≡◌, Some}
 use Rattle.cc_unit.specs.declared.unit.StoredUnit.{StoredUnit}
 use Rattle.cc_link.specs.Whole.{IsWholeIn}

@@ -8,7 +8,7 @@ use Rattle.cc_ast.specs.declared.unit.Unit.{Unit}
 use Rattle.cc_ast.specs.Parse.{SpellsText}
 use Rattle.cc_types.specs.Checked.{IsChecked}
 use Rattle.cc_types.specs.Typed.{defined_names}
-use Rattle.cc_c_laws.specs.Meaning.{functions}
+use Rattle.cc_c_semantics.specs.Meaning.{functions}
 use Rattle.cc_emit.specs.Piece.{Piece}
 use Rattle.cc_link.specs.Made.{IsCompiled}
 use Rattle.cc_link.specs.Pieces.{AreFromIn}

@@ -1,4 +1,4 @@
--- A typed unit's objects have 65,536 words in an image at most.
+-- A typed unit's objects have at most 65,536 words in an image.
 use Rattle.std.proofs.Common.{◌≡◌, ℕ, List, length, false, true, ap, ◌∙◌, arith}
 use Rattle.cc_ast.specs.Source.{source}
 use Rattle.cc_ast.specs.Tree as tree

@@ -1,4 +1,4 @@
--- It was made in the mode, so in some mode.
+-- The unit was made in this mode, so it was made in some mode.
 use Rattle.cc_link.proofs.linking.link_in.Goals as goal
 
 pub new-requires-clause-made : goal.new-requires-clause-made

@@ -1,4 +1,4 @@
--- Each step's answer, by the lemma of Answering that it needs.
+-- What each step answers, by the lemma of Answering that it needs.
 use Rattle.std.proofs.Common.{◌≡◌, ◌<◌, ◌≤◌, ◌⊎◌, inl, inr, ℕ, List, [], None, Err, false, true, refl, sym, ap, subst, ◌∙◌}
 use Rattle.std.proofs.lemmas.Bool.{cases_lt}
 use Rattle.std.specs.Arc.{arc_value}
@@ -38,8 +38,8 @@ returns-then-not-fits-clause-refused c =
     let large : most_code < code_words (lent fs) = elim (cases_lt most_code (code_words (lent fs))) [ inl lt ↦ lt | inr le ↦ absurd (let d : false ≡ true = c.if-not-fits.ensures.1 le in cc) ] in
     inr (ap (λ (v : parsed.Unit). linked_in c.args.mode (source v) ps) (sym c.deref-unit.ensures) ∙ size_refused c.args.mode s ps c.functions.result a b c.functions.ensures os fs c.in-Ok.ensures.none o i large)
 
-pub stored-made-requires-clause-count : goal.stored-made-requires-clause-count
-stored-made-requires-clause-count c =
+pub stored-requires-clause-count : goal.stored-requires-clause-count
+stored-requires-clause-count c =
     let u = c.deref-unit.result.now in
     let s = source u in
     let ps = lent_pieces c.args.pieces.now in
@@ -51,8 +51,8 @@ stored-made-requires-clause-count c =
     let i : lent fs ≡ all_items (lent_pieces os) = ap (λ (l : List (Bor (List PieceItem))). lent l) c.as_slice-3.ensures.value ∙ c.in-Ok-all_items.ensures ∙ ap (λ (l : List (Bor Piece)). all_items (lent_pieces l)) (c.as_slice.ensures.value ∙ sym c.as_slice-4.ensures.value) in
     count_is c.args.mode s ps c.functions.result a b c.functions.ensures os fs c.in-Ok.ensures.none o i
 
-pub stored-made-requires-clause-stay : goal.stored-made-requires-clause-stay
-stored-made-requires-clause-stay c =
+pub stored-requires-clause-stay : goal.stored-requires-clause-stay
+stored-requires-clause-stay c =
     let u = c.deref-unit.result.now in
     let s = source u in
     let ps = lent_pieces c.args.pieces.now in
@@ -66,8 +66,8 @@ stored-made-requires-clause-stay c =
     let tree = c.externals-kept.ensures in
     stay_is c.args.mode s ps c.functions.result a b c.functions.ensures os fs c.in-Ok.ensures.none o i laws.tokens laws.trees laws.meanings laws.sized tree.spelled tree.typed tree.limits c.in_default.ensures.kept
 
-pub stored-made-requires-clause-few_functions : goal.stored-made-requires-clause-few_functions
-stored-made-requires-clause-few_functions c =
+pub stored-requires-clause-few_functions : goal.stored-requires-clause-few_functions
+stored-requires-clause-few_functions c =
     let u = c.deref-unit.result.now in
     let s = source u in
     let ps = lent_pieces c.args.pieces.now in
@@ -93,7 +93,7 @@ returns-clause-follows c =
     let few : code_words (lent fs) ≤ most_code =
     subst (λ (l : List (Bor (List PieceItem))). code_words (lent l) ≤ most_code) (c.as_slice-2.ensures.value ∙ sym c.as_slice-3.ensures.value) (c.if-not-fits.ensures.0 refl) in
     let tree = c.externals-kept.ensures in
-    agree_is c.args.mode s ps c.functions.result a b c.functions.ensures os fs c.in-Ok.ensures.none o i c.linked_units_follow.ensures.follow tree.spelled (record { typed = tree.typed; limits = tree.limits }) c.in_default.ensures.kept (arc_value c.in_ok-made.field-0) few c.in_ok-made.ensures
+    agree_is c.args.mode s ps c.functions.result a b c.functions.ensures os fs c.in-Ok.ensures.none o i c.linked_units_follow.ensures.follow tree.spelled (record { typed = tree.typed; limits = tree.limits }) c.in_default.ensures.kept (arc_value c.in-Ok-stored.made) few c.in-Ok-stored.ensures
 
 pub returns-clause-made : goal.returns-clause-made
 returns-clause-made c =
@@ -115,7 +115,7 @@ returns-clause-made c =
       checked = record { typed = tree.typed; limits = tree.limits };
       pieces = ps;
       compiled = c.in_default.ensures.compiled;
-      linked_is = answer_is c.args.mode s ps c.functions.result a b c.functions.ensures os fs c.in-Ok.ensures.none o i (arc_value c.in_ok-made.field-0) few c.in_ok-made.ensures;
+      linked_is = answer_is c.args.mode s ps c.functions.result a b c.functions.ensures os fs c.in-Ok.ensures.none o i (arc_value c.in-Ok-stored.made) few c.in-Ok-stored.ensures;
     }
 
 pub returns-clause-answer : goal.returns-clause-answer
@@ -132,9 +132,9 @@ returns-clause-answer c =
     let few : code_words (lent fs) ≤ most_code =
     subst (λ (l : List (Bor (List PieceItem))). code_words (lent l) ≤ most_code) (c.as_slice-2.ensures.value ∙ sym c.as_slice-3.ensures.value) (c.if-not-fits.ensures.0 refl) in
     ap (λ (v : parsed.Unit). linked_in c.args.mode (source v) ps) (sym c.deref-unit.ensures)
-    ∙ answer_is c.args.mode s ps c.functions.result a b c.functions.ensures os fs c.in-Ok.ensures.none o i (arc_value c.in_ok-made.field-0) few c.in_ok-made.ensures
+    ∙ answer_is c.args.mode s ps c.functions.result a b c.functions.ensures os fs c.in-Ok.ensures.none o i (arc_value c.in-Ok-stored.made) few c.in-Ok-stored.ensures
 
--- it follows in the mode, and so agrees
+-- the image follows its program in the mode, and so agrees with its text
 pub returns-clause-agrees : goal.returns-clause-agrees
 returns-clause-agrees c = c.linked_units_follow.ensures.agree c.args.mode _ _ (returns-clause-follows c)
 
@@ -152,6 +152,6 @@ returns-clause-backed c =
     let few : code_words (lent fs) ≤ most_code =
     subst (λ (l : List (Bor (List PieceItem))). code_words (lent l) ≤ most_code) (c.as_slice-2.ensures.value ∙ sym c.as_slice-3.ensures.value) (c.if-not-fits.ensures.0 refl) in
     let tree = c.externals-kept.ensures in
-    let made = arc_value c.in_ok-made.field-0 in
+    let made = arc_value c.in-Ok-stored.made in
     subst (λ (v : parsed.Unit). IsBackedFrom c.args.mode made.source (stack_of (source v).externals ps) made.image) c.deref-unit.ensures
-    (backed_is c.args.mode s ps c.functions.result a b c.functions.ensures os fs c.in-Ok.ensures.none o i c.linked_units_follow.ensures.follow c.linked_units_are_backed.ensures tree.spelled (record { typed = tree.typed; limits = tree.limits }) c.in_default.ensures.kept made few c.in_ok-made.ensures)
+    (backed_is c.args.mode s ps c.functions.result a b c.functions.ensures os fs c.in-Ok.ensures.none o i c.linked_units_follow.ensures.follow c.linked_units_are_backed.ensures tree.spelled (record { typed = tree.typed; limits = tree.limits }) c.in_default.ensures.kept made few c.in-Ok-stored.ensures)

@@ -3,7 +3,7 @@ use Rattle.cc_link.specs.Link.{size_of}
 use Rattle.cc_link.specs.internal.Filling.{lent}
 use Rattle.cc_link.proofs.words.fits.Given as goal
 
--- what is left fits where all does
+-- all functions fit exactly if those that are left fit in the room that is left
 abbrev pub invariant-loop-items : goal.invariant-loop-items
 invariant-loop-items l = record {
   few : l.room ≤ 131069;

@@ -1,4 +1,4 @@
--- The dead nodes may go, and their labels name them.
+-- The dead nodes may become nops, and the labels name exactly these.
 use Rattle.std.proofs.Common.{◌≡◌, ◌∙◌, ap, sym, subst, List, All}
 use Rattle.std.specs.Prelude.{IsSome}
 use Rattle.cc_rtl_language.specs.Rtl.{Rtl, Labelled, node_at}

@@ -1,4 +1,4 @@
--- What is dropped by the least strongly live sets is all that nobody needs.
+-- The nodes that are dropped by the least strongly live sets are all those that nobody needs.
 use Rattle.std.proofs.Common.{◌≡◌, ◌∙◌, true, ap, sym, subst, List, ℕ, length}
 use Rattle.cc_rtl_language.specs.Rtl.{Rtl}
 use Rattle.cc_rtl_language.specs.Pair.{Pair}
@@ -10,7 +10,7 @@ use Rattle.cc_live.specs.Liveness.{AreLeastLive}
 use Rattle.cc_live.proofs.Dropped.{dead, is_without_faint, least_rows, nothing_dead}
 use Rattle.cc_live.proofs.dead.drop_faint.Goals as goal
 
--- the sets as `drop_by` takes them
+-- the sets in the form in which `drop_by` takes them
 least : (rtl code : Rtl) (rows solved : List (List ℕ)) → code ≡ rtl → rows ≡ solved → AreLeastAs true code.nodes (rows_at code.nodes solved) → AreLeastAs true rtl.nodes (rows_at rtl.nodes rows)
 least rtl code rows solved e f h =
     subst (λ (rows : List (List ℕ)). AreLeastAs true rtl.nodes (rows_at rtl.nodes rows)) (sym f) (subst (λ (r : Rtl). AreLeastAs true r.nodes (rows_at r.nodes solved)) e h)

@@ -1,4 +1,4 @@
--- The registers so far are in.
+-- The registers so far were added.
 use Rattle.std.proofs.Common.{◌≡◌, ◌||◌, ℕ, take}
 use Rattle.cc_rtl_language.specs.Live.{among}
 use Rattle.cc_bits.specs.Rows.{holds}

@@ -1,4 +1,4 @@
--- Every image has the records of the log and no others, and the commands are what they spell.
+-- Every image has exactly the records of the log, and the commands are what these records spell.
 use Rattle.std.proofs.Common.{◌≡◌, ℕ, List, sym, ◌∙◌, subst}
 use Rattle.cc_journal.specs.Format.{HoldsAlone}
 use Rattle.cc_library.specs.Answers.{ReplayFaults}

@@ -1,4 +1,4 @@
--- The lines so far are written.
+-- The lines so far have been written.
 use Rattle.std.proofs.Common.{take}
 use Rattle.std.specs.Prelude.{option_map}
 use Rattle.std.specs.Io.KnownBytes.{Appends}

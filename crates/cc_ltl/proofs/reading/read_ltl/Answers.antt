@@ -1,4 +1,4 @@
--- What is read is spelled; and if nothing is read, nothing is spelled.
+-- If a function is read, the bytes spell it; if none is read, they spell none.
 use Rattle.std.proofs.Common.{refl, arith}
 use Rattle.std.proofs.lemmas.Result.{err_from_is_err_and}
 use Rattle.cc_ltl.proofs.Fields.{from_index}

@@ -1,7 +1,7 @@
 -- The form's run from the start of `main` gives the source's behavior.
 use Rattle.std.proofs.Common.{◌≡◌, ℕ, List, ◌-◌, ◌<◌, length, ap, ◌∙◌, subst, arith}
 use Rattle.cc_ast.specs.Source.{source}
-use Rattle.cc_c_laws.specs.Meaning.{source_behavior}
+use Rattle.cc_c_semantics.specs.Meaning.{source_behavior}
 use Rattle.cc_meaning.specs.Erase.{stop_tree}
 use Rattle.cc_meaning.specs.internal.Form.{resolved}
 use Rattle.cc_meaning.specs.internal.FormErase.{form_tree}

@@ -1,14 +1,14 @@
--- Of code that is too large the definition is long.
-use Rattle.cc_c_laws.specs.Numbered.{objects_in}
+-- If code is too large, its definition is long.
+use Rattle.cc_c_semantics.specs.Numbered.{objects_in}
 use Rattle.cc_cminor.specs.Pair.{tree_of, code_of}
 use Rattle.cc_cminor.specs.Variables.{above_statement}
 use Rattle.cc_mode.proofs.Tokens.{nodes_long, variables_long}
 use Rattle.cc_mode.proofs.guarding.checked.Goals as goal
 
-pub returns-in-Err-FunctionTooLarge-clause-large : goal.returns-in-Err-FunctionTooLarge-clause-large
-returns-in-Err-FunctionTooLarge-clause-large c = λ _.
+pub returns-in-Err-clause-large : goal.returns-in-Err-clause-large
+returns-in-Err-clause-large c = λ large.
     let p = c.args.pair in
-    variables_long (tree_of p) p.function (code_of p) (objects_in (tree_of p)) c.requires.operations c.guards_set_few.ensures c.requires.lowered (c.in-Err-FunctionTooLarge.ensures.large c.in-Err-FunctionTooLarge.field-0-is)
+    variables_long (tree_of p) p.function (code_of p) (objects_in (tree_of p)) c.requires.operations c.guards_set_few.ensures c.requires.lowered (c.in-Err.ensures.large large)
 
 pub returns-in-Ok-clause-small : goal.returns-in-Ok-clause-small
 returns-in-Ok-clause-small c = λ large.

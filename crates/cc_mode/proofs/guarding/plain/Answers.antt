@@ -1,4 +1,4 @@
--- Of code that is too large the definition is long.
+-- If code is too large, its definition is long.
 use Rattle.cc_cminor.specs.Pair.{tree_of, code_of}
 use Rattle.cc_mode.proofs.Tokens.{plain_long}
 use Rattle.cc_mode.proofs.guarding.plain.Goals as goal

@@ -4,8 +4,8 @@ use Rattle.std.specs.Prelude.{if◌then◌else◌, IfErr}
 use Rattle.std.specs.FinMap as map
 use Rattle.cc_disk.specs.Images.{LeavesOnly, OnlyReads}
 use Rattle.cc_journal.specs.Format.{HoldsRecords}
-use Rattle.cc_library.specs.declared.command.LibraryCommand.{LibraryCommand}
-use Rattle.cc_library.specs.declared.command.LibraryCommand.TheVariants.{Add, Replace}
+use Rattle.cc_library.specs.Change.{LibraryCommand}
+use Rattle.cc_library.specs.declared.command.Change.TheVariants.{Add, Replace}
 use Rattle.cc_library.specs.declared.fault.LibraryFault.TheVariants.{DiskFault}
 use Rattle.cc_library.specs.Answers.{ChangeAnswers, ChangeLeaves, ChangesDisk}
 use Rattle.cc_library.specs.Body.{IsCommand}

@@ -1,6 +1,6 @@
 -- The commands among which `stored_among` looks are those whose records the disk has.
 use Rattle.std.proofs.Common.{IsTrue, List, sym, subst}
-use Rattle.cc_library.specs.declared.command.LibraryCommand.{LibraryCommand}
+use Rattle.cc_library.specs.Change.{LibraryCommand}
 use Rattle.cc_log.specs.Commands.{HasCommands}
 use Rattle.cc_past.specs.Past.{IsStored}
 use Rattle.cc_past.specs.internal.Steps.{IsNotStored}

@@ -1,4 +1,4 @@
--- What is made of a pair of Cminor is a pair of RTL.
+-- What is made from a pair of Cminor is a pair of RTL.
 use Rattle.std.proofs.Common.{◌≡◌, ◌∙◌, ◌<◌, length, refl, sym, ap, subst, arith}
 use Rattle.std.specs.Arc.{arc_value}
 use Rattle.cc_cminor.specs.Code.{statement_of}

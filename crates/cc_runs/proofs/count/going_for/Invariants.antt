@@ -1,4 +1,4 @@
--- After the instructions that are done the run is still going.
+-- After the instructions executed so far, the run is still going.
 use Rattle.std.proofs.Common.{◌≡◌, ◌+◌, ℕ}
 use Rattle.cc_rv32.specs.declared.outcome.MachineOutcome.TheVariants.{Going}
 use Rattle.cc_rv32.specs.Machine.{machine_behavior}

@@ -1,5 +1,5 @@
--- The second machine is at a point at which the first one was still going; when it ends, or the bound is reached, its instructions are the
--- count.
+-- The second machine begins at a point at which the first one was still going. When it ends, or the bound is reached, the number of its
+-- instructions is the count.
 use Rattle.std.proofs.Common.{◌≡◌, ◌≤◌, ◌⊎◌, inl, inr, ℕ, ◌+◌, true, ap, ◌∙◌, subst, arith}
 use Rattle.std.proofs.lemmas.Bool.{false≢true}
 use Rattle.cc_rv32.specs.declared.outcome.MachineOutcome.TheVariants.{Going}

@@ -1,4 +1,4 @@
--- The machine has done these instructions, and after fewer the run is going.
+-- The machine has executed `done` instructions, and after fewer the run is still going.
 use Rattle.std.proofs.Common.{◌≡◌, ◌+◌, ◌<◌, ℕ}
 use Rattle.cc_rv32.specs.declared.outcome.MachineOutcome.TheVariants.{Going}
 use Rattle.cc_rv32.specs.Machine.{machine_behavior}

@@ -1,4 +1,5 @@
--- The number so far and the digits that are left make the whole number, and it has as many digits as were read.
+-- The number so far and the digits that are left make the whole number, and the number so far has no more digits than were
+-- read.
 use Rattle.std.specs.Prelude.{◌≡◌, ◌<◌, ◌^◌, drop}
 use Rattle.cc_script.specs.Line.{number_from}
 use Rattle.cc_runs.proofs.words.word_in.Given as goal

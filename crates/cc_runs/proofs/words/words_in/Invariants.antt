@@ -1,4 +1,4 @@
--- The words so far and those that are left make the line's.
+-- The words so far, followed by those that are left, are the words of the line.
 use Rattle.std.proofs.Common.{◌≡◌}
 use Rattle.cc_runs.specs.Words.{input_in}
 use Rattle.cc_runs.specs.internal.Cutting.{input_left, room_left}

@@ -1,4 +1,4 @@
--- The lines so far, with those of the words still to come, are the listing.
+-- The lines so far, followed by those of the words still to come, are the listing.
 use Rattle.std.proofs.Common.{◌≡◌, ◌+◌, ◌*◌, ◌++◌, drop, string_bytes}
 use Rattle.cc_rv32.specs.Listing.{lines_from}
 use Rattle.cc_rv32.proofs.listing.listed.Given as goal

@@ -12,7 +12,7 @@ gathered t a b c d e f t1 t2 t3 t4 t5 e1 e2 e3 e4 e5 =
     let grouped : t ++ a ++ b ++ c ++ d ++ e ++ f ≡ t ++ (a ++ b ++ c ++ d ++ e ++ f) = simp append_assoc in
     all ∙ grouped
 
--- if the last write succeeded, the text is the whole
+-- if the last write succeeded, the text is complete
 ended : {T E : Type 0} (r : Result T E) (old tail new all : List ℕ) → new ≡ (if is_ok r then old ++ tail else old) → old ++ tail ≡ all → OnOk r (new ≡ all)
 ended (Ok x) old tail new all e f = e ∙ f
 ended (Err x) old tail new all e f = tt

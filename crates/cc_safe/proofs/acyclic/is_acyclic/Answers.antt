@@ -1,8 +1,8 @@
--- The ranks of the table are ranks.
+-- The ranks of the table fall from call to call, and the rank of `main` is low enough.
 use Rattle.std.proofs.Common.{ℕ, ◌<◌, List, subst, arith}
 use Rattle.std.specs.List.{AllByRecursion}
 use Rattle.cc_ast.specs.Tree.{External}
-use Rattle.cc_c_laws.specs.Meaning.{functions, most_open}
+use Rattle.cc_c_semantics.specs.Meaning.{functions, most_open}
 use Rattle.cc_depth.specs.Cycles.{CallsLower}
 use Rattle.cc_safe.specs.internal.Ranks.{rank_by}
 use Rattle.cc_safe.proofs.acyclic.is_acyclic.Goals as goal

@@ -1,4 +1,4 @@
--- The number so far and the digits that are left make the whole number, and it has as many digits as were read.
+-- The number so far and the digits that are left make up the whole number; the number has at most as many digits as were read.
 use Rattle.std.specs.Prelude.{◌≡◌, ◌<◌, ◌^◌, drop}
 use Rattle.cc_script.specs.Line.{number_from}
 use Rattle.cc_script.proofs.command.number_in.Given as goal

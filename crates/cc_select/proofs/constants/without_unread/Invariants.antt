@@ -1,4 +1,4 @@
--- The steps that stay so far, with what is live after each, and those of the others that stay; there is room for each.
+-- The steps so far that stay, with what is live after each, and those of the others that will stay; there is room for all.
 use Rattle.std.proofs.Common.{◌≤◌, length, vec_len}
 use Rattle.std.specs.Vec.{vec_capacity}
 use Rattle.cc_select.proofs.Passing.{Keeping}

@@ -1,21 +1,48 @@
--- What was done so far, and then one script more.
-use Rattle.std.proofs.Common.{refl}
-use Rattle.cc_session.specs.Spooling.{given_by}
-use Rattle.cc_session.proofs.Spooling.{done_on, done_same}
-use Rattle.cc_session.proofs.attending.attend_in.Goals.{in-None, in-Some+then-not-attend_one}
+-- What was done so far, and then no script or one more.
+use Rattle.std.proofs.Common.{◌∙◌, ◌∷◌, ◌++◌, ℕ, List, [], Option, ap, refl, subst}
+use Rattle.cc_script.specs.Reading.{Ahead}
+use Rattle.cc_script.specs.declared.command.Dialect.TheVariants.{Served}
+use Rattle.cc_spool.specs.Spool.{Delivered, Taken, delivered_as, taken_as}
+use Rattle.cc_session.specs.Playing.{IsPlayedBy, talk}
+use Rattle.cc_session.specs.Spooling.{given_by, most_lines}
+use Rattle.cc_session.proofs.Spooling.{done_by, done_on, done_same, done_script}
+use Rattle.cc_session.proofs.attending.attend_in.Goals.{in-None, in-Some+then-is_closing}
 use Rattle.cc_session.proofs.attending.attend_in.Goals as goal
 
 pub loop-init : goal.loop-init
 loop-init g c = done_same c.args.mode _ _ _ refl refl
 
+pub loop-preserved-in_default : goal.loop-preserved-in_default
+loop-preserved-in_default g c =
+    let by = given_by g.S.Spool.taken g.S.Spool.ended in
+    let h = c.loop.client.member in
+    done_on c.args.mode (by c.args.spool.now) (by c.loop.spool) (by c.next-in-loop.new.self) c.args.client.now.member h h c.loop.invariant
+    (done_same c.args.mode (by c.loop.spool) (by c.next-in-loop.new.self) h (c.in_default.ensures.none ∙ c.is_closing.ensures.taken) (c.next-in-loop.ensures.ended ∙ c.is_closing.ensures.ended))
+
 pub loop-preserved : goal.loop-preserved
-loop-preserved g c = done_on c.args.mode _ (given_by g.S.Spool.taken g.S.Spool.ended c.loop.spool) _ _ c.loop.client.member _ c.loop.invariant c.attend_one.ensures
+loop-preserved g c =
+    let by = given_by g.S.Spool.taken g.S.Spool.ended in
+    let old = c.loop.client.member in
+    let new = c.play-halted.new.client.member in
+    let script = g.S.Script.Read.remaining c.in-Some-next.text in
+    let begun = g.S.Answer.Write.contents c.in-Some-next.answer in
+    let answer = g.S.Answer.Write.contents c.tell_halt-played.new.answers in
+    let heard = ap (λ (a : Ahead). a.rest) c.new-script.ensures in
+    let played = subst (λ (s : Option (List ℕ)). IsPlayedBy c.args.mode Served most_lines s (talk old begun) (talk new answer) c.tell_halt-played.result) heard
+    (c.tell_halt-played.ensures c.args.mode Served most_lines c.new-script.result.rest (talk old begun) new c.play-halted.ensures.halted) in
+    let taken = c.deliver.ensures.taken ∙ (c.in-Some-next.ensures.taken ∙ ap (λ (l : List Taken). l ++ taken_as script begun ∷ []) c.is_closing.ensures.taken) in
+    let ended = c.deliver.ensures.ended ∙ ap (λ (l : List Delivered). l ++ delivered_as answer c.end_of.result ∷ []) (c.next-in-loop.ensures.ended ∙ c.is_closing.ensures.ended) in
+    done_on c.args.mode (by c.args.spool.now) (by c.loop.spool) (by c.deliver.new.self) c.args.client.now.member old new c.loop.invariant
+    (done_script c.args.mode (by c.loop.spool) (by c.deliver.new.self) old new (taken_as script begun) (delivered_as answer c.end_of.result) taken ended
+    (done_by c.args.mode c.tell_halt-played.result c.end_of.result script begun answer old new c.end_of.ensures played c.play-halted.ensures.grows))
 
 pub returns : goal.returns
 returns g c =
+    let by = given_by g.S.Spool.taken g.S.Spool.ended in
     elim c.match-next.branch [
-      | in-None w ↦ rw (w.client-is, w.spool-is) c.loop.invariant
-      | in-Some+then-not-attend_one w ↦
-          rw (w.client-is, w.spool-is)
-          (done_on c.args.mode _ (given_by g.S.Spool.taken g.S.Spool.ended c.loop.spool) _ _ c.loop.client.member _ c.loop.invariant w.attend_one.ensures)
+      | in-None w ↦ rw w.spool-is c.loop.invariant
+      | in-Some+then-is_closing w ↦
+          rw w.spool-is
+          (done_on c.args.mode _ (by c.loop.spool) (by w.is_closing.new.spool) _ c.loop.client.member c.loop.client.member c.loop.invariant
+          (done_same c.args.mode (by c.loop.spool) (by w.is_closing.new.spool) c.loop.client.member w.is_closing.ensures.taken w.is_closing.ensures.ended))
     ]

@@ -1,6 +1,7 @@
--- What the library's opening says of the disk handed in, said of the one that the library has, whose bytes are the same.
+-- What the library's opening says about the disk that was handed in, stated for the disk that the library has, whose bytes are
+-- the same.
 use Rattle.std.proofs.Common.{List, ℕ, sym, subst}
-use Rattle.cc_library.specs.Format.{HoldsRecords}
+use Rattle.cc_journal.specs.Format.{HoldsRecords}
 use Rattle.cc_session.proofs.Ends.{past_at}
 use Rattle.cc_session.proofs.running.begin.Goals as goal
 

@@ -1,4 +1,5 @@
--- Why no service was opened; an honest disk was read at most. Or it was opened, and the script's client is all that it had.
+-- Either no service was opened, for this reason, and an honest disk was at most read; or one was opened, and the script's client
+-- is its only one.
 use Rattle.std.proofs.Common.{ℕ, ap, inl, inr, subst}
 use Rattle.cc_service.specs.Client.{members}
 use Rattle.cc_library.specs.declared.fault.LibraryFault.TheVariants.{OutOfMemory}

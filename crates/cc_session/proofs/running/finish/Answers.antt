@@ -1,7 +1,7 @@
--- What the end of a service says of its book is what is left; and so where it had to be given up.
+-- What the end of a service says about its book is what is left; the same holds if the service had to be given up.
 use Rattle.std.proofs.Common.{Vec, Global, sym, subst}
 use Rattle.cc_service.specs.Client.{ClientView, members}
-use Rattle.cc_service.specs.Promise.{IsGivenUp}
+use Rattle.cc_recorded.specs.Promise.{IsGivenUp}
 use Rattle.cc_session.specs.Session.{IsEnded}
 use Rattle.cc_session.specs.declared.end.SessionEnd.{SessionEnd}
 use Rattle.cc_session.proofs.Ends.{given_up_by, kept_by}

@@ -1,4 +1,4 @@
--- What was read before the service was opened changes nothing of how the session ends.
+-- What was read before the service was opened does not change how the session ends.
 use Rattle.std.proofs.Common.{Option, List, ℕ, inl, ap, subst}
 use Rattle.std.specs.FinMap.{empty}
 use Rattle.cc_script.specs.Reading.{Ahead}

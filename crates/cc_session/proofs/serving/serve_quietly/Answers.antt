@@ -1,4 +1,4 @@
--- What was read before the service was opened changes nothing of how serving ends.
+-- What was read before the service was opened does not change how serving ends.
 use Rattle.std.proofs.Common.{◌≡◌, ap, map}
 use Rattle.std.specs.FinMap.{empty}
 use Rattle.cc_service.specs.declared.fault.ServiceFault.TheVariants.{Opening}

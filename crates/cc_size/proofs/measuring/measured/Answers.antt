@@ -1,9 +1,9 @@
--- The pieces in the order of definitions, and what the tables over them have of main.
+-- The pieces are put in the order of definitions, and the tables over them have the figures for main.
 use Rattle.std.proofs.Common.{◌≡◌, ℕ, List, length, get_or, ◌*◌, ap, ◌∙◌, subst}
 use Rattle.std.specs.Borrow.{Bor}
 use Rattle.cc_ast.specs.Source.{source}
 use Rattle.cc_ast.specs.Tree.{External}
-use Rattle.cc_c_laws.specs.Calls.{main_of}
+use Rattle.cc_c_semantics.specs.Calls.{main_of}
 use Rattle.cc_emit.specs.Piece.{Piece}
 use Rattle.cc_link.specs.Linked.{all_items, lent_pieces, in_order, ordered}
 use Rattle.cc_link.specs.Stack.{need}

@@ -4,7 +4,7 @@ use Rattle.cc_link.specs.Linked.{all_items, lent_pieces}
 use Rattle.cc_size.specs.internal.Reached.{reaches}
 use Rattle.cc_size.proofs.recursion.leading.Given as goal
 
--- the table of so many calls
+-- the table is the one for this many calls
 abbrev pub invariant-loop-call : goal.invariant-loop-call
 invariant-loop-call l = record {
   long : length l.table.items ≡ length l.pieces;

@@ -5,7 +5,7 @@ use Rattle.cc_size.specs.Size.{ones_of}
 use Rattle.cc_size.specs.internal.Deeper.{AreFew}
 use Rattle.cc_size.proofs.tables.ones.Given as goal
 
--- those so far, and of the pieces that are left
+-- the entries so far, followed by those of the pieces that are left, are all entries
 abbrev pub invariant-loop-piece : goal.invariant-loop-piece
 invariant-loop-piece l = record {
   left : l.ones.items ++ ones_of (lent_pieces (drop l._piece-index l.pieces)) ≡ ones_of (lent_pieces l.pieces);

@@ -1,4 +1,4 @@
--- The whole so far, and what the remaining texts make, are the whole.
+-- The whole so far, followed by what the remaining texts make, is the whole.
 use Rattle.std.proofs.Common.{◌≡◌, ◌+◌, ◌++◌, drop, length}
 use Rattle.cc_sources.specs.Joined.{joined}
 use Rattle.cc_sources.proofs.joining.join.Given as goal

@@ -1,4 +1,4 @@
--- The loop ends because each turn but the last adds a byte below the limit; what was read so far is the text.
+-- The loop ends because each turn except the last adds a byte below the limit; what was read so far is the text.
 use Rattle.std.proofs.Common.{◌≤◌, ◌-◌, vec_len}
 use Rattle.std.specs.Io.KnownBytes.{Consumes}
 use Rattle.cc_sources.proofs.reading.read_text.Given as goal

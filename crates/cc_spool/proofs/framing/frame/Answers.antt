@@ -1,4 +1,4 @@
--- The text is read as its frame.
+-- A reader skips the text that is made.
 use Rattle.cc_spool.proofs.Skipping.{skips}
 use Rattle.cc_spool.proofs.framing.frame.Goals as goal
 

@@ -1,8 +1,8 @@
--- A run that is still going.
+-- If the run is still going, the count is the bound.
 use Rattle.std.proofs.Common.{rules, ◌≡◌}
 use Rattle.cc_ast.specs.Source.{source}
-use Rattle.cc_c_laws.specs.Meaning.{source_behavior}
-use Rattle.cc_c_laws.specs.Outcome as outcome
+use Rattle.cc_c_semantics.specs.Meaning.{source_behavior}
+use Rattle.cc_c_semantics.specs.Outcome as outcome
 use Rattle.cc_steps.proofs.Counting.{unended}
 use Rattle.cc_steps.proofs.count.interpret_counted.Goals as goal
 

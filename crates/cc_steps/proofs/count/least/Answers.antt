@@ -1,8 +1,8 @@
--- The search by bisection.
+-- Bisection keeps the invariant.
 use Rattle.std.proofs.Common.{rules, arith, ◌≡◌, ◌+◌, ◌<◌, ◌≤◌, ℕ}
 use Rattle.cc_ast.specs.Source.{source}
-use Rattle.cc_c_laws.specs.Meaning.{source_behavior}
-use Rattle.cc_c_laws.specs.Outcome as outcome
+use Rattle.cc_c_semantics.specs.Meaning.{source_behavior}
+use Rattle.cc_c_semantics.specs.Outcome as outcome
 use Rattle.cc_steps.proofs.Counting.{counted, goes_until}
 use Rattle.cc_steps.proofs.count.least.Goals as goal
 

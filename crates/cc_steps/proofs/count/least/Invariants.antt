@@ -1,8 +1,8 @@
 -- The run is going within any number of steps below the low number, and it has ended within the high number.
 use Rattle.std.proofs.Common.{◌≡◌, ◌≤◌, ◌<◌, ◌-◌, ℕ}
 use Rattle.cc_ast.specs.Source.{source}
-use Rattle.cc_c_laws.specs.Meaning.{source_behavior}
-use Rattle.cc_c_laws.specs.Outcome as outcome
+use Rattle.cc_c_semantics.specs.Meaning.{source_behavior}
+use Rattle.cc_c_semantics.specs.Outcome as outcome
 use Rattle.cc_steps.proofs.count.least.Given as goal
 
 abbrev pub invariant-loop-low : goal.invariant-loop-low

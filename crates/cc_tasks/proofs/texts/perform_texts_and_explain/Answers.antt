@@ -1,4 +1,4 @@
--- How the task ended that was done.
+-- How the task that was done ended.
 use Rattle.std.specs.Prelude.{Some}
 use Rattle.cc_sources.specs.Joined.{joined}
 use Rattle.cc_tasks.proofs.Working.{performed}

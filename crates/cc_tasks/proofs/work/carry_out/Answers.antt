@@ -1,4 +1,4 @@
--- How the task ended that was done.
+-- How the task that was done ended.
 use Rattle.cc_tasks.proofs.Working.{performed}
 use Rattle.cc_tasks.proofs.work.carry_out.Goals as goal
 

@@ -1,4 +1,4 @@
--- Parameter by parameter; lists of different lengths differ.
+-- The types are compared parameter by parameter; lists of different lengths differ.
 use Rattle.std.proofs.Common.{sym, refl}
 use Rattle.cc_types.proofs.SameTypes.{types-of-other-lengths}
 use Rattle.cc_types.proofs.entity.same_types.Goals as goal

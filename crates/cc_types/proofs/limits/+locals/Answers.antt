@@ -1,4 +1,4 @@
--- Statement by statement.
+-- Locals are counted statement by statement.
 use Rattle.std.proofs.Common.{◌+◌, ◌++◌, ◌∙◌, ap, sym, drop}
 use Rattle.cc_ast.specs.Erase.{beginning_tree, statement_tree, statements_of}
 use Rattle.cc_ast.specs.declared.ast.Statement.{Statement}

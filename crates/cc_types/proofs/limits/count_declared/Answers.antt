@@ -1,4 +1,4 @@
--- Name by name.
+-- Names are counted one by one.
 use Rattle.std.proofs.Common.{◌+◌, [], ◌∷◌, ap, drop}
 use Rattle.cc_ast.specs.Erase.{name_tree, declarator_trees}
 use Rattle.cc_types.specs.Limits.{declared_names}

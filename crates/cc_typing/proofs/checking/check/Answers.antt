@@ -1,8 +1,8 @@
--- The first error is reported at its place; otherwise a missing main; otherwise the first call of an undefined function;
--- otherwise the unit is typed.
+-- If there is an error, the first one is reported at its place; else a missing main is; else the first call of an undefined
+-- function is; else the unit is typed.
 use Rattle.std.proofs.Common.{◌≡◌, ◌∙◌, inr, ap, sym, length, true, false, Some, None}
 use Rattle.cc_ast.specs.Source.{source}
-use Rattle.cc_ast.specs.Place.{place_of}
+use Rattle.cc_tokens.specs.Place.{place_of}
 use Rattle.cc_types.specs.Fault.{fault_of}
 use Rattle.cc_typing.specs.internal.Findings.{noted}
 use Rattle.cc_types.specs.Rules.{defines_main, undefined_calls}

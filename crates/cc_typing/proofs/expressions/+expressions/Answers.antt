@@ -1,4 +1,4 @@
--- The parts of an expression, one after another.
+-- The parts of an expression are checked one after another.
 use Rattle.std.proofs.Common.{◌≡◌, ◌∙◌, ◌+◌, ◌++◌, [], ◌∷◌, ap, sym, drop, length, List}
 use Rattle.std.proofs.Math.ListN.{drop_of_length-le}
 use Rattle.cc_ast.specs.Erase.{name_tree, expression_tree}

@@ -1,4 +1,4 @@
--- The target, and then the right side.
+-- First the target is checked, then the right side.
 use Rattle.std.proofs.Common.{ap, sym, ◌∙◌}
 use Rattle.cc_ast.specs.Erase.{action_tree, target_tree, expression_tree}
 use Rattle.cc_ast.specs.Tree.{Assign}

@@ -1,4 +1,4 @@
--- The array, and then its index.
+-- First the array is checked, then its index.
 use Rattle.std.proofs.Common.{[], ap, sym, ◌∙◌}
 use Rattle.cc_ast.specs.Erase.{name_tree, target_tree, expression_tree}
 use Rattle.cc_ast.specs.Tree.{AtElement}

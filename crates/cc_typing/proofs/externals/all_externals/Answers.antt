@@ -1,4 +1,4 @@
--- Declaration by declaration.
+-- The declarations are checked one by one.
 use Rattle.std.proofs.Common.{◌≡◌, [], ap, subst, drop}
 use Rattle.std.proofs.Math.ListN.{drop_of_length-le}
 use Rattle.cc_ast.specs.Erase.{external_tree, external_trees}

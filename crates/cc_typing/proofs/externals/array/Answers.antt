@@ -1,4 +1,4 @@
--- An array's name, length and initialiser list.
+-- An array's name, its length and its initialiser list are checked.
 use Rattle.std.proofs.Common.{◌≡◌, ◌∙◌, List, [], ◌∷◌, suc, length, refl, ap}
 use Rattle.std.specs.Prelude.{is_some}
 use Rattle.cc_ast.specs.Erase.{name_tree, optional_constant, constant_trees}

@@ -1,4 +1,4 @@
--- The expression, and then whether it has a constant value.
+-- First the expression is checked, then whether it has a constant value.
 use Rattle.std.proofs.Common.{◌≡◌, ◌∙◌, [], ap, sym}
 use Rattle.std.specs.Prelude.{not, is_some}
 use Rattle.cc_ast.specs.Erase.{constant_tree, expression_tree}

@@ -1,4 +1,4 @@
--- Value by value.
+-- The values are checked one by one.
 use Rattle.std.proofs.Common.{◌+◌, ap, drop}
 use Rattle.cc_ast.specs.Erase.{constant_tree, constant_trees}
 use Rattle.cc_types.specs.Rules.{constant_errors, constants_errors, called_in_constant, called_in_constants}

@@ -1,4 +1,4 @@
--- Each kind of external declaration in turn.
+-- One proof for each kind of external declaration.
 use Rattle.std.proofs.Common.{◌≡◌, ◌∙◌, ◌∷◌, [], false, ap}
 use Rattle.cc_ast.specs.Erase.{signature_tree, statements_of, object_trees, external_tree}
 use Rattle.cc_types.specs.Bindings.{file_level, file_of}

@@ -1,4 +1,4 @@
--- Object by object.
+-- The objects are checked one by one.
 use Rattle.std.proofs.Common.{subst}
 use Rattle.cc_ast.specs.Erase.{object_tree, object_trees}
 use Rattle.cc_typing.proofs.FileScopes.{Objecting, Objecting-next}

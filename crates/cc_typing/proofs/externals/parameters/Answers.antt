@@ -1,4 +1,4 @@
--- Parameter by parameter.
+-- The parameters are checked one by one.
 use Rattle.std.proofs.Common.{subst}
 use Rattle.cc_ast.specs.Erase.{parameter_tree, parameter_trees}
 use Rattle.cc_typing.proofs.FileScopes.{Parametering, Parametering-next}

@@ -1,4 +1,4 @@
--- Declaration by declaration.
+-- The declarations are counted one by one.
 use Rattle.std.proofs.Common.{◌+◌, ◌∙◌, ap, drop}
 use Rattle.cc_ast.specs.Erase.{external_tree, external_trees}
 use Rattle.cc_types.specs.internal.Externals.{defines}

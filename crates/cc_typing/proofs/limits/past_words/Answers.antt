@@ -1,4 +1,4 @@
--- Declaration by declaration.
+-- The declarations are counted one by one.
 use Rattle.std.proofs.Common.{◌+◌, ◌∙◌, ap, sym, drop}
 use Rattle.cc_ast.specs.Erase.{external_tree, external_trees}
 use Rattle.cc_typing.specs.internal.Counts.{word_count, words_after}

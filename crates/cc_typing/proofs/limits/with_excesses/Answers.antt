@@ -1,4 +1,4 @@
--- The limits of each function, then the limit on functions, then the limit on words.
+-- First come the limits of each function, then the limit on functions, then the limit on words.
 use Rattle.std.proofs.Common.{◌≡◌, ◌∙◌, ◌++◌, ap}
 use Rattle.cc_ast.specs.Erase.{external_trees}
 use Rattle.cc_typing.specs.internal.Counts.{excess_of}

@@ -1,4 +1,4 @@
--- The parameters, and then the locals.
+-- First the limit on parameters is checked, then the limit on locals.
 use Rattle.std.proofs.Common.{◌≡◌, ◌∙◌, None, ap, sym}
 use Rattle.cc_ast.specs.Erase.{signature_tree, statements_of, external_tree}
 use Rattle.cc_types.specs.Counts.{count_after}

@@ -1,4 +1,4 @@
--- Each kind of statement in turn, and a list statement by statement.
+-- One proof for each kind of statement; a list is checked statement by statement.
 use Rattle.std.proofs.Common.{◌≡◌, ◌∙◌, refl, ap, sym, subst}
 use Rattle.cc_ast.specs.Erase.{expression_tree, optional_tree, optional_action, beginning_tree, statement_tree, statements_of}
 use Rattle.cc_ast.specs.Tree.{If, IfElse, While, DoWhile, For}

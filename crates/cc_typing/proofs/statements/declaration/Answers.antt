@@ -1,4 +1,4 @@
--- Name by name.
+-- The names are checked one by one.
 use Rattle.std.proofs.Common.{subst}
 use Rattle.cc_ast.specs.Erase.{declarator_tree, declarator_trees}
 use Rattle.cc_types.proofs.SameTypes.{drop-item}

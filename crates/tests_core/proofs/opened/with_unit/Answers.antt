@@ -1,8 +1,8 @@
--- The added unit is that of a piece, and the type of pieces keeps it right.
+-- The added unit is a piece's, and the type of pieces keeps that it is right.
 use Rattle.std.proofs.Common.{◌≡◌, sym, ap, subst, ◌∙◌}
 use Rattle.std.specs.Arc.{arc_value}
 use Rattle.cc_unit.specs.declared.unit.StoredUnit.{StoredUnit}
-use Rattle.cc_library.specs.declared.command.LibraryCommand.TheVariants as command
+use Rattle.cc_library.specs.declared.command.Change.TheVariants as command
 use Rattle.cc_core.specs.Run.{EachUnit}
 use Rattle.tests_core.specs.Builds.{Seen, is_right}
 use Rattle.tests_core.proofs.opened.with_unit.Goals as goal

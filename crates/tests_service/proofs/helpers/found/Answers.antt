@@ -1,4 +1,4 @@
--- What the opening says of the library's disk, said of the disk handed out, and of the copy of its map.
+-- What the opening says about the library's disk, stated for the disk that is returned and for the copy of its map.
 use Rattle.std.proofs.Common.{◌∙◌, sym, subst}
 use Rattle.cc_library.specs.Recovered.{Recovers}
 use Rattle.tests_service.proofs.helpers.found.Goals as goal

@@ -1,4 +1,4 @@
--- The spools go to the threads.
+-- The spools may go to the threads.
 use denote.Param.Send.{IsSend, sendable}
 use Rattle.std.proofs.Crossing.{crosses}
 use Rattle.cc_spool.proofs.Crossing.{spool_send}

@@ -1,4 +1,4 @@
--- The disk goes to the threads.
+-- The disk may go to the threads.
 use denote.Param.Send.{sendable}
 use Rattle.std.proofs.Crossing.{crosses}
 use Rattle.cc_disk.specs.contracts.memory.MemoryDisk as MemoryDisk

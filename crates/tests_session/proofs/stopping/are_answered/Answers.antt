@@ -1,4 +1,4 @@
--- The disk and the spools go to the threads.
+-- The disk and the spools may go to the threads.
 use denote.Param.Send.{IsSend, sendable}
 use Rattle.std.proofs.Crossing.{crosses}
 use Rattle.cc_disk.proofs.Crossing.{memory_send}

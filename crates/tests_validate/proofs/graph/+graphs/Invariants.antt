@@ -1,7 +1,7 @@
 use Rattle.std.specs.Prelude.{◌+◌, ◌*◌}
 use Rattle.tests_validate.proofs.graph.+graphs.Given as goal
 
--- a node runs a call with one less open call
+-- in the run of a node, a call is run with one less call left to open
 abbrev pub decreases-run_graph : goal.decreases-run_graph
 decreases-run_graph l = 2 * l.open + 1
 

@@ -1,4 +1,4 @@
--- The number's bit is set in its word; the row may have grown by zero words.
+-- The number's bit is set in its word; the row may have grown by words that are 0.
 use Rattle.std.proofs.Common.{◌∙◌, ◌||◌, ◌==◌, ◌/◌, ◌%◌, ◌<◌, ◌≤◌, length, get_or, subst, sym, ap, arith, List, ℕ}
 use Rattle.std.specs.Int.{bit_at}
 use Rattle.cc_bits.specs.Rows.{holds}

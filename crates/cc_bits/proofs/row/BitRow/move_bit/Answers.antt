@@ -1,4 +1,4 @@
--- If the number is in, its bit is cleared and the other's is set.
+-- If the number is in the set, its bit is cleared and that of the other number is set.
 use Rattle.std.proofs.Common.{◌≡◌, ◌∙◌, ◌+◌, ◌*◌, ◌/◌, ◌%◌, ◌^◌, ◌<◌, ◌≤◌, ◌==◌, length, slice_set, get_or, ap, sym, subst, arith, List, ℕ, true, w64}
 use Rattle.std.specs.Int.{bit_at, bit_not}
 use Rattle.std.specs.Int.Bits.{bit_and}
@@ -8,7 +8,7 @@ use Rattle.cc_bits.proofs.Bits.{removed_at, moved_on}
 use Rattle.cc_bits.proofs.Written.{written, written_long}
 use Rattle.cc_bits.proofs.row.BitRow.move_bit.Goals as goal
 
--- the word without the number
+-- the word without that bit
 abbrev cleared : (bit word : ℕ) → ℕ
 cleared bit word = bit_and word (bit_not w64 (1 * 2 ^ bit % 2 ^ 64))
 

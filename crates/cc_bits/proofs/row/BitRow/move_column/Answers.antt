@@ -1,4 +1,4 @@
--- One more row. Past the last word, no row has the column.
+-- The bit of one more row moves; a row past the last word has no such bit.
 use Rattle.std.proofs.Common.{◌+◌, ◌≤◌, ◌<◌, List, ℕ, length, subst, arith}
 use Rattle.cc_bits.proofs.Lines.{still_few, row_moved_on, all_rows_moved}
 use Rattle.cc_bits.proofs.row.BitRow.move_column.Goals as goal

@@ -1,4 +1,4 @@
--- The number's bit is cleared in its word, if there is one.
+-- The number's bit is cleared in its word, if there is such a word.
 use Rattle.std.proofs.Common.{◌∙◌, ◌&&◌, not, ◌==◌, ◌/◌, ◌<◌, length, get_or, ap, arith, List, ℕ}
 use Rattle.cc_bits.specs.Rows.{holds}
 use Rattle.cc_bits.proofs.Bits.{removed}

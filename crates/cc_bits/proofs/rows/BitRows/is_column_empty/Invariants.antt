@@ -1,4 +1,4 @@
--- The rows so far have no bit in the column.
+-- No bit of the column is set in the rows so far.
 use Rattle.std.proofs.Common.{◌≡◌, ℕ, ◌<◌, false}
 use Rattle.cc_bits.specs.Rows.{has}
 use Rattle.cc_bits.proofs.rows.BitRows.is_column_empty.Given as goal

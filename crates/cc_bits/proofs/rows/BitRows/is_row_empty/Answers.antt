@@ -1,4 +1,4 @@
--- A word that is not 0 has a bit; if all are 0 there is none.
+-- A word that is not 0 has a bit set; if all words are 0, no bit is set.
 use Rattle.std.proofs.Common.{◌≡◌, ℕ, ap, subst, arith, IsTrue}
 use Rattle.cc_bits.specs.Rows.{has, Table}
 use Rattle.cc_bits.proofs.Tables.{words_empty, word_held}

@@ -1,4 +1,4 @@
--- The words so far have no bit.
+-- No bit is set in the words so far.
 use Rattle.std.proofs.Common.{◌≡◌, ℕ, ◌+◌, ◌*◌, ◌<◌, get_or}
 use Rattle.cc_bits.proofs.rows.BitRows.is_row_empty.Given as goal
 

@@ -1,4 +1,4 @@
--- Joining words of equal width. A number that was missing is a bit that was missing.
+-- Words of equal width are joined. If a number was missing, the bit with this number was missing.
 use Rattle.std.proofs.Common.{◌≡◌, ◌∙◌, ◌&&◌, ◌||◌, ◌*◌, ◌≤◌, ap, sym, subst, arith, ℕ, List, length, nat_lt, IsTrue, IsFalse}
 use Rattle.std.proofs.Math.Nat.{mul-le-mul_left}
 use Rattle.cc_bits.specs.Rows.{has, holds, key, Table, most_rows}

@@ -1,4 +1,4 @@
--- One more word.
+-- The bits of one more word move.
 use Rattle.std.proofs.Common.{◌∙◌}
 use Rattle.cc_bits.specs.Rows.{has}
 use Rattle.cc_bits.proofs.Lines.{one_word_moved}

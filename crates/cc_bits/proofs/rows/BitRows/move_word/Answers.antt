@@ -1,4 +1,4 @@
--- The bits of the word are taken out and put into the other row.
+-- The bits of the word are removed, and added to the other row.
 use Rattle.std.proofs.Common.{◌∙◌, ◌<◌, ◌==◌, ◌/◌, if◌then◌else◌, ap, sym, subst}
 use Rattle.cc_bits.specs.Rows.{has, Table, row_moved}
 use Rattle.cc_bits.proofs.Words.{word_moved}

@@ -1,4 +1,4 @@
--- The bit's number is taken out, if there is one.
+-- The bit's number is removed, if there is one.
 use Rattle.std.proofs.Common.{◌∙◌, ◌&&◌, ◌==◌, not, ap}
 use Rattle.cc_bits.specs.Rows.{has, Table}
 use Rattle.cc_bits.proofs.Tables.{removed_bit}

@@ -1,4 +1,4 @@
--- The rows so far are copied.
+-- The rows so far have been copied.
 use Rattle.std.proofs.Common.{◌≡◌, ℕ, false}
 use Rattle.cc_bits.specs.Rows.{has}
 use Rattle.cc_bits.proofs.Lines.{PutBefore}

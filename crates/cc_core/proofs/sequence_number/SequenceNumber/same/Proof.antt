@@ -1,4 +1,4 @@
--- `same` makes the empty struct, with the number of the number lent. Assumes `Logic`.
+-- `same` makes the empty struct, with the number of the value that was lent to it. Assumes `Logic`.
 use Rattle.std.proofs.Common.{List, [], ◌∷◌, ◌++◌, refl}
 use seplogic.Ra.Ura.{Ura}
 use mir.Syntax.{Fn}

@@ -1,4 +1,4 @@
--- What holds for whatever is reached holds for this state.
+-- What holds for everything that is reached holds for this state.
 use Rattle.std.proofs.Common.{subst, All, Contains}
 use Rattle.cc_core.specs.Run.{AreRising, EachImageSurvives, EachImageIsRight}
 use Rattle.cc_core.proofs.Sound.{reached_IsSound, sound_survives}

@@ -1,4 +1,4 @@
--- No event has led there from the beginning.
+-- The state is a beginning, so the empty list of events leads to it.
 use Rattle.std.proofs.Common.{refl, sym, subst, []}
 use Rattle.cc_core.specs.Run.{IsBeginning}
 use Rattle.cc_core.proofs.state.State.idle.Goals as goal

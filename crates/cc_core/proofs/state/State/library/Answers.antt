@@ -1,4 +1,4 @@
--- What holds for whatever is reached holds for this state.
+-- What holds for everything that is reached holds for this state.
 use Rattle.std.proofs.Common.{◌≡◌, subst}
 use Rattle.std.specs.FinMap.{empty}
 use Rattle.cc_library.specs.Apply.{AreAccepted}

@@ -1,4 +1,4 @@
--- A step goes on from what was reached, which has what a step needs; after an error the contents are the same.
+-- A step goes on from contents that are reached, which have what a step needs; after an error the contents are the same.
 use Rattle.cc_core.proofs.Runs.{Reached-step}
 use Rattle.cc_core.proofs.Sound.{reached_IsSound, sound_ready}
 use Rattle.cc_core.proofs.Whole.{lawful}

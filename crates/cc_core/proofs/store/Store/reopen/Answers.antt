@@ -1,4 +1,5 @@
--- The copy has the same bytes, since nothing on the disk is unsettled; these recover to a map, so the only refusal is lack of memory.
+-- The copy has the same bytes, since nothing on the disk is unsettled. These bytes recover to a map, so the only refusal is lack
+-- of memory.
 use Rattle.std.proofs.Common.{◌≡◌, List, [], ℕ, refl, sym, ap, subst, ◌∙◌, true}
 use Rattle.cc_disk.specs.Model.{bytes_of, crashed}
 use Rattle.cc_disk.specs.Past.{DiskState}

@@ -1,4 +1,4 @@
--- The insertion of an entry is the insertion into the finite map.
+-- Inserting an entry into the map of entries is inserting it into the finite map.
 use Rattle.std.proofs.Common.{ap, ◌∙◌}
 use Rattle.std.specs.Cmp.{nat_cmp_total}
 use Rattle.std.specs.FinMap as map

@@ -1,4 +1,4 @@
--- The registers so far, and those still to be looked at.
+-- The saved registers so far, followed by those still to be found, are all the saved registers.
 use Rattle.cc_emit.proofs.Kept.{Chosen}
 use Rattle.cc_emit.proofs.frame.Frame.new.Given as goal
 

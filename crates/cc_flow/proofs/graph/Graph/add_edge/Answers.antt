@@ -1,4 +1,4 @@
--- The new edge is there in both directions, or only its predecessor is noted.
+-- The new edge is there in both directions; if memory ran out in between, only its predecessor is noted.
 use Rattle.std.proofs.Common.{◌<◌, length, sym, subst}
 use Rattle.cc_flow.specs.internal.Edges.{AreEdges}
 use Rattle.cc_flow.specs.Flow.{rows_of}

@@ -1,4 +1,5 @@
--- Without a device call the records stay, as the log says of itself; where one was made, the log's clauses are the journal's.
+-- Without a device call the records stay, as the log says about itself; if a device call was made, the log's clauses are the
+-- journal's.
 use Rattle.std.proofs.Common.{◌≡◌, ◌≤◌, [], ◌∷◌, ◌++◌, false, IsTrue, Err, refl, subst, arith}
 use Rattle.std.proofs.lemmas.Result.{err_from_is_err_and}
 use Rattle.cc_disk.specs.Images.{LeavesOnly}

@@ -7,7 +7,7 @@ use Rattle.cc_journal.specs.Journal.{View}
 use Rattle.cc_journal.proofs.Kept.{kept_alone, room_push, still, in_commit, appended_bytes, kept_more}
 use Rattle.cc_journal.proofs.log.Log.append.Goals as goal
 
--- without a device call
+-- no device call was made
 
 pub returns-then-self-length-clause-answers : goal.returns-then-self-length-clause-answers
 returns-then-self-length-clause-answers g c =

@@ -6,7 +6,7 @@ use Rattle.cc_journal.specs.Journal.{IsKept, View}
 use Rattle.cc_journal.proofs.Kept.{kept_alone, still_either, in_rewrite, rewritten_bytes, kept_rewritten, at_byte}
 use Rattle.cc_journal.proofs.log.Log.rewrite.Goals as goal
 
--- without a device call
+-- no device call was made
 
 pub returns-in_default-clause-moments : goal.returns-in_default-clause-moments
 returns-in_default-clause-moments g c =

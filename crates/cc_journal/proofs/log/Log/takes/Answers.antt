@@ -1,4 +1,5 @@
--- Where no call is made the records stay; a record with one body more takes its length and 6 bytes beside the others.
+-- If no call is made the records stay. With one more record, the area also has to hold its body and 6 more bytes, one of them the
+-- closed gate.
 use Rattle.std.proofs.Common.{◌≡◌, ◌<◌, ◌≤◌, ℕ, List, [], ◌∷◌, ◌++◌, false, IsTrue, refl, subst, arith}
 use Rattle.cc_disk.specs.Images.{LeavesOnly}
 use Rattle.cc_journal.specs.Format.{HoldsOldOrNew, room_of}

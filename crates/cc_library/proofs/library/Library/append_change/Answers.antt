@@ -8,7 +8,7 @@ use Rattle.cc_journal.specs.Commit.{FailsIn, IsCommitted, append_commit, area_be
 use Rattle.cc_journal.specs.Format.{HasAreaByte, records, room_of}
 use Rattle.cc_journal.specs.declared.fault.JournalFault.{JournalFault}
 use Rattle.cc_journal.specs.declared.fault.JournalFault.TheVariants as journal
-use Rattle.cc_library.specs.declared.command.LibraryCommand.{LibraryCommand}
+use Rattle.cc_library.specs.Change.{LibraryCommand}
 use Rattle.cc_library.specs.declared.fault.LibraryFault.{LibraryFault}
 use Rattle.cc_library.specs.declared.fault.LibraryFault.TheVariants.{Exists, Absent, OutOfMemory}
 use Rattle.cc_library.specs.Fault.{fault_of}
@@ -58,7 +58,7 @@ returns-in-Some g c =
           (λ h image left. g.met.D.Disk.only_now i.log.disk image h left) (g.met.D.Disk.counts_now old.disk) (λ p. cc p) answers;
     }
 
--- if the log would not take the record
+-- if the log does not take the record
 pub returns-in-Err : goal.returns-in-Err
 returns-in-Err g c =
     let D = g.D.Disk in

@@ -1,4 +1,4 @@
--- An edit, and, if the device failed in it, what opening the disk again shows.
+-- One edit, and, if the device failed in it, what opening the disk again shows.
 use Rattle.std.proofs.Common.{inl, inr, refl, ap, subst, ◌∙◌}
 use Rattle.std.specs.Prelude.{Ok, Err}
 use Rattle.cc_disk.specs.Images.{OnlyReads}

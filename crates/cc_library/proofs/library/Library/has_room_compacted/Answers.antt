@@ -1,10 +1,10 @@
--- The record has room after the compacted ones exactly if these leave it; a `compact` leaves exactly these.
+-- The record has room after the compacted records exactly if these leave enough; a `compact` leaves exactly these records.
 use Rattle.std.proofs.Common.{◌≡◌, ℕ, ◌-◌, ◌≤◌, IsTrue, Bool, false, sym, ◌∙◌, ap, subst, arith}
 use Rattle.cc_library.specs.Answers.{room_with}
 use Rattle.cc_library.specs.Body.{body_of}
 use Rattle.cc_library.specs.Compact.{compacted, room_compacted}
 use Rattle.cc_library.specs.Recovered.{View}
-use Rattle.cc_library.specs.declared.command.LibraryCommand.{LibraryCommand}
+use Rattle.cc_library.specs.Change.{LibraryCommand}
 use Rattle.cc_library.proofs.Compacting.{no_room_left, room_left}
 use Rattle.cc_library.proofs.library.Library.has_room_compacted.Given.{Over}
 use Rattle.cc_library.proofs.library.Library.has_room_compacted.Goals as goal

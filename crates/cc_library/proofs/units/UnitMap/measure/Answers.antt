@@ -5,7 +5,7 @@ use Rattle.std.specs.Cmp.Lexicographic.{nat_list_cmp_total}
 use Rattle.std.specs.FinMap as map
 use Rattle.cc_journal.specs.Format.{room_of}
 use Rattle.cc_unit.specs.declared.unit.StoredUnit.{StoredUnit}
-use Rattle.cc_library.specs.declared.command.LibraryCommand.TheVariants.{Add}
+use Rattle.cc_library.specs.declared.command.Change.TheVariants.{Add}
 use Rattle.cc_library.specs.declared.command.Kind.TheVariants as kind
 use Rattle.cc_library.specs.Body.{body_of, unit_fields}
 use Rattle.cc_library.specs.Compact.{adds, bodies_of, compacted}

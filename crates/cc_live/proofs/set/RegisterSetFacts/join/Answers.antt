@@ -1,4 +1,4 @@
--- It holds what either holds, and if it grew, one register more.
+-- The joined set holds what either set holds, and if it grew, at least one register more.
 use Rattle.std.proofs.Common.{◌∙◌, ap, subst, ◌||◌, ◌≤◌, List, ℕ, length, IsTrue, IsFalse}
 use Rattle.cc_bits.specs.Rows.{holds}
 use Rattle.cc_bits.specs.internal.Holding.{within_row}

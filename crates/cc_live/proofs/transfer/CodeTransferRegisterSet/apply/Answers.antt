@@ -1,4 +1,4 @@
--- Inside the function the position's node is stepped over; past its end nothing is live.
+-- Within the function the step goes over the position's node; past its end nothing is live.
 use Rattle.std.proofs.Common.{sym, subst, IfOk}
 use Rattle.cc_flow.specs.Lattice.{Equivalent}
 use Rattle.cc_rtl_language.specs.Code.{node_of}

@@ -1,4 +1,4 @@
--- Each turn reads one more block; the fault of a turn is the fault of the whole.
+-- Each turn reads one more block; if a turn fails, the whole fails with the same fault.
 use Rattle.std.proofs.lemmas.Result.{err_from_is_err_and}
 use Rattle.cc_ltl.specs.internal.Reading.{times, block_in}
 use Rattle.cc_ltl.proofs.Times.{goes_on, ends, is_done}

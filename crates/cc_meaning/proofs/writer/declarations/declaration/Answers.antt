@@ -1,4 +1,4 @@
--- Name by name, from last to first.
+-- The names are handled one by one, from last to first.
 use Rattle.std.proofs.Common.{◌∙◌, length, reverse, drop, refl, sym, ap, subst, arith}
 use Rattle.std.proofs.lemmas.Iterator.Adapters.{YieldsList-from_rev_slice}
 use Rattle.std.proofs.lemmas.Iterator.Consumers.{YieldsList-turn, YieldsList-end}

@@ -1,4 +1,4 @@
--- A call after its arguments, and an operator after its operands.
+-- A call comes after its arguments, and an operator after its operands.
 use Rattle.std.proofs.Common.{◌≡◌, ◌∙◌, ◌++◌, ap, sym, List}
 use Rattle.cc_ast.specs.declared.ast.Expression.{Expression}
 use Rattle.cc_tokens.specs.declared.scalar.Scalar.{Scalar}

@@ -14,7 +14,7 @@ invariant-arguments-loop-left l = record {
 abbrev pub decreases-arguments-loop-left : goal.decreases-arguments-loop-left
 decreases-arguments-loop-left l = l.left
 
--- a part of an expression is less deep than the expression, with a function that takes several parts in between
+-- the depth decreases from an expression to its parts; a function that takes several parts counts in between
 abbrev pub decreases-expression : goal.decreases-expression
 decreases-expression l = 2 * the_size l.tree.now
 

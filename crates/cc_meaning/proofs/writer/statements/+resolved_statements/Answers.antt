@@ -1,4 +1,4 @@
--- A list from its last statement to its first, and the kinds of statements whose parts the code keeps in boxes.
+-- The cases of a list, from its last statement to its first, and of the statements whose parts the code keeps in boxes.
 use Rattle.std.proofs.Common.{◌≡◌, ◌+◌, ◌-◌, ◌++◌, ◌∙◌, length, reverse, drop, set, refl, sym, ap, subst, arith}
 use Rattle.std.proofs.lemmas.Iterator.Adapters.{YieldsList-from_rev_slice}
 use Rattle.std.proofs.lemmas.Iterator.Consumers.{YieldsList-turn, YieldsList-end}

@@ -1,4 +1,4 @@
--- One external declaration after another.
+-- The external declarations are resolved one after another.
 use Rattle.std.proofs.Common.{refl, subst, ap, arith}
 use Rattle.std.proofs.lemmas.List.{drop_all}
 use Rattle.cc_ast.specs.Erase.{external_tree, external_trees}

@@ -1,7 +1,7 @@
 -- A compaction of the library, as the book sees it: the map stays, and if the device was called, no change has failed.
 use Rattle.std.proofs.Common.{◌≡◌, false, List, IsTrue, Result, Ok, Err, sym, ap, subst}
 use Rattle.cc_library.specs.Apply.{Units}
-use Rattle.cc_library.specs.declared.command.LibraryCommand.{LibraryCommand}
+use Rattle.cc_library.specs.Change.{LibraryCommand}
 use Rattle.cc_library.specs.Recovered.{View}
 use Rattle.cc_recorded.specs.Book.{BookView, RecoversTo}
 use Rattle.cc_recorded.specs.Changed.{IsBookCompacted}

@@ -1,6 +1,6 @@
--- The one exit that puts an entry in: as for a commit, by `entering`. A look-up hands in no unit and changes nothing.
+-- Only one exit puts an entry in; `entering` shows what it owes, as for a commit. A look-up hands in no unit and changes nothing.
 use Rattle.std.proofs.Common.{◌≡◌, ◌+◌, List, [], ◌∷◌, ◌++◌, length, refl, sym, ap, ◌∙◌, subst}
-use Rattle.cc_library.specs.declared.command.LibraryCommand.{LibraryCommand}
+use Rattle.cc_library.specs.Change.{LibraryCommand}
 use Rattle.cc_library.specs.Apply.{after_all}
 use Rattle.cc_history.specs.declared.entry.Entry.{Entry}
 use Rattle.cc_history.specs.declared.entry.Receipt.{Receipt}

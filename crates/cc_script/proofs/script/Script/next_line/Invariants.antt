@@ -1,4 +1,4 @@
--- What was read so far stands at the start of the line, and has no newline.
+-- What was read so far is at the start of the line, and has no newline.
 use Rattle.std.proofs.Common.{◌≡◌, ◌≢◌, ◌+◌, length, take}
 use Rattle.std.specs.Prelude.{All}
 use Rattle.std.specs.Io.KnownBytes.{Consumes}

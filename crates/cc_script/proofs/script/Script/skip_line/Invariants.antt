@@ -1,4 +1,4 @@
--- Each turn reads a byte of those that the script may still have, which is no newline.
+-- Each turn reads one of the bytes that the script may still have, and it is not a newline.
 use Rattle.std.proofs.Common.{◌≡◌, ◌≢◌, ◌+◌, ℕ, List, length}
 use Rattle.std.specs.Prelude.{All}
 use Rattle.std.specs.Io.KnownBytes.{Consumes}

@@ -1,4 +1,4 @@
--- Each turn reads one byte, and keeps it as long as there is room for it.
+-- Each turn reads one byte, and keeps it while there is room for it.
 use Rattle.std.proofs.Common.{◌≡◌, ◌+◌, true, ℕ, List, length, take, min, vec_len}
 use Rattle.std.specs.Io.KnownBytes.{Consumes}
 use Rattle.cc_script.specs.Reading.{ahead_of}

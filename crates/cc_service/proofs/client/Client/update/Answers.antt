@@ -1,7 +1,7 @@
 -- A look at the name, and what comes after it.
 use Rattle.std.proofs.Common.{◌≡◌, List, ℕ, [], inr, Err, Ok, refl, rules, subst, sym}
 use Rattle.cc_history.specs.declared.command.Asked.TheVariants.{Fetch}
-use Rattle.cc_history.specs.declared.command.Command.TheVariants.{Replace}
+use Rattle.cc_library.specs.declared.command.Change.TheVariants.{Replace}
 use Rattle.cc_recorded.specs.Answers.{LookAnswers}
 use Rattle.cc_recorded.specs.Book.{BookView}
 use Rattle.cc_recorded.specs.Changed.{AllRecover}
@@ -24,7 +24,7 @@ returns-in-Err-clause-answers g c =
     look_refused g.D.Disk before c.look.new.book.book old c.look.new.self.member c.args.name c.args.expected.now (Replace c.args.name c.args.unit) c.in-Err.fault (search rules)
     (subst (λ (n : List ℕ). LookAnswers before old (Fetch n) c.look.new.book.book c.look.new.self.member (Err c.in-Err.fault)) same c.in-Err.ensures.answers)
 
--- ---- what it leaves on the disk
+-- ---- what an update leaves on the disk
 
 pub returns-then-is_closed-clause-moments : goal.returns-then-is_closed-clause-moments
 returns-then-is_closed-clause-moments g c =

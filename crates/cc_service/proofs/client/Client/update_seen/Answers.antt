@@ -1,6 +1,6 @@
--- 32, 60, or the change.
+-- The answer is 32, 60, or that of the change.
 use Rattle.std.proofs.Common.{Err, Ok, inl, inr, refl, rules}
-use Rattle.cc_history.specs.declared.command.Command.TheVariants.{Replace}
+use Rattle.cc_library.specs.declared.command.Change.TheVariants.{Replace}
 use Rattle.cc_service.proofs.Updating.{nothing_at_once}
 use Rattle.cc_service.proofs.client.Client.update_seen.Goals as goal
 

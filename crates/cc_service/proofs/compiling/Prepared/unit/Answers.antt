@@ -1,8 +1,8 @@
--- The ticket is of the unit, so the pieces are those of its functions.
+-- The ticket is for the unit, so the pieces are those of its functions.
 use Rattle.std.proofs.Common.{ℕ, List, sym, subst}
 use Rattle.std.specs.Arc.{arc_value}
 use Rattle.cc_ast.specs.Source.{source}
-use Rattle.cc_c_laws.specs.declared.mode.Mode.{Mode}
+use Rattle.cc_c_semantics.specs.declared.mode.Mode.{Mode}
 use Rattle.cc_service.specs.Compiling.{Handed, IsCompileRefusal, IsProgram}
 use Rattle.cc_service.proofs.compiling.Prepared.unit.Goals as goal
 

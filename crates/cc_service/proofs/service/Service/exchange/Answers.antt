@@ -1,6 +1,6 @@
--- What was done under the lock, to a book that keeps what every book does.
+-- What was done under the lock, to a book that keeps what every book keeps.
 use Rattle.std.proofs.Common.{subst}
-use Rattle.cc_history.specs.declared.command.Command.TheVariants.{Replace}
+use Rattle.cc_library.specs.declared.command.Change.TheVariants.{Replace}
 use Rattle.cc_recorded.specs.Promise.{IsSound}
 use Rattle.cc_recorded.specs.Since.{BookSince}
 use Rattle.cc_service.proofs.Updating.{update_stored, updates_by}

@@ -1,7 +1,6 @@
--- A text that is handed in is put as its text; one that cannot be handed in is refused as one that was not compiled.
-use Rattle.std.proofs.Common.{ℕ, IsTrue, List, refl, sym, ap, subst}
-use Rattle.cc_library.specs.Name.{is_name}
-use Rattle.cc_c_laws.specs.declared.mode.Mode.{Mode}
+-- If a text is handed in, what is put is a unit of it; if it cannot be handed in, it is refused like one that was not compiled.
+use Rattle.std.proofs.Common.{ℕ, List, refl, sym, ap, subst}
+use Rattle.cc_c_semantics.specs.declared.mode.Mode.{Mode}
 use Rattle.cc_pool.specs.declared.item.Item.{Item}
 use Rattle.cc_service.specs.Client.{ClientView}
 use Rattle.cc_service.specs.Compiling.{HasSentFor}
@@ -9,25 +8,22 @@ use Rattle.cc_service.specs.Serving.{PutAnswers, Puts}
 use Rattle.cc_service.proofs.Answering.{not_prepared, not_put}
 use Rattle.cc_service.proofs.service.Service.put_in.Goals as goal
 
-pub put_counted-requires-clause-named : goal.put_counted-requires-clause-named
-put_counted-requires-clause-named g c = λ _ _. subst (λ (n : List ℕ). IsTrue (is_name n)) (sym c.in-Ok.ensures.answer) (c.in-Ok.ensures.answers.0 refl)
-
 pub returns-in-Ok-begun-clause-answers : goal.returns-in-Ok-begun-clause-answers
 returns-in-Ok-begun-clause-answers g c =
-    let new = c.put_counted.new.client.member in
-    let result = c.put_counted.result in
+    let new = c.put_prepared.new.client.member in
+    let result = c.put_prepared.result in
+    let name = c.args.name.now in
     let mode = c.args.mode in
     let prepared = c.in-Ok-begun.prepared in
-    subst (λ (n : List ℕ). PutAnswers mode (Puts c.args.put mode n c.args.source.now) n c.args.source.now c.args.client.now.member new result) c.in-Ok.ensures.answer
-    (subst (λ (t : List ℕ). PutAnswers mode (Puts c.args.put mode c.in-Ok.name t) c.in-Ok.name t c.args.client.now.member new result) c.in-Ok-begun.ensures.text
-    (subst (λ (m : Mode). PutAnswers m (Puts c.args.put m c.in-Ok.name prepared.text) c.in-Ok.name prepared.text c.args.client.now.member new result) c.in-Ok-begun.ensures.mode
-    (subst (λ (v : ClientView). PutAnswers prepared.mode (Puts c.args.put prepared.mode c.in-Ok.name prepared.text) c.in-Ok.name prepared.text v.member new result) c.client.view_is c.put_counted.ensures.answers)))
+    subst (λ (t : List ℕ). PutAnswers mode (Puts c.args.put mode name t) name t c.args.client.now.member new result) c.in-Ok-begun.ensures.text
+    (subst (λ (m : Mode). PutAnswers m (Puts c.args.put m name prepared.text) name prepared.text c.args.client.now.member new result) c.in-Ok-begun.ensures.mode
+    (subst (λ (v : ClientView). PutAnswers prepared.mode (Puts c.args.put prepared.mode name prepared.text) name prepared.text v.member new result) c.client.view_is c.put_prepared.ensures.answers))
 
 pub returns-in-Ok-begun-clause-sent : goal.returns-in-Ok-begun-clause-sent
 returns-in-Ok-begun-clause-sent g c =
     let source = c.args.source.now in
-    let grown = subst (λ (l : List Item). HasSentFor source c.client.inside.pass.sent l) (sym c.put_counted.ensures.sent) c.in-Ok-begun.ensures.sent in
-    subst (λ (v : ClientView). HasSentFor source v.sent c.put_counted.new.client.sent) c.client.view_is grown
+    let grown = subst (λ (l : List Item). HasSentFor source c.client.inside.pass.sent l) (sym c.put_prepared.ensures.sent) c.in-Ok-begun.ensures.sent in
+    subst (λ (v : ClientView). HasSentFor source v.sent c.put_prepared.new.client.sent) c.client.view_is grown
 
 pub returns-in-Err-clause-sent : goal.returns-in-Err-clause-sent
 returns-in-Err-clause-sent g c =

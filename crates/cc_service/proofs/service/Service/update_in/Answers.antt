@@ -1,7 +1,7 @@
--- A text that is handed in is put as its text; one that cannot be handed in is refused as one that was not compiled.
+-- If a text is handed in, what is put is a unit of it; if it cannot be handed in, it is refused like one that was not compiled.
 use Rattle.std.proofs.Common.{ℕ, IsTrue, List, refl, sym, ap, subst}
 use Rattle.cc_library.specs.Name.{is_name}
-use Rattle.cc_c_laws.specs.declared.mode.Mode.{Mode}
+use Rattle.cc_c_semantics.specs.declared.mode.Mode.{Mode}
 use Rattle.cc_pool.specs.declared.item.Item.{Item}
 use Rattle.cc_service.specs.Client.{ClientView}
 use Rattle.cc_service.specs.Compiling.{HasSentFor}
@@ -10,25 +10,25 @@ use Rattle.cc_service.proofs.Answering.{not_prepared}
 use Rattle.cc_service.proofs.Updating.{not_updated}
 use Rattle.cc_service.proofs.service.Service.update_in.Goals as goal
 
-pub update_counted-requires-clause-named : goal.update_counted-requires-clause-named
-update_counted-requires-clause-named g c = λ _ _. subst (λ (n : List ℕ). IsTrue (is_name n)) (sym c.in-Ok.ensures.answer) (c.in-Ok.ensures.answers.0 refl)
+pub update_unit-answer-requires-clause-named : goal.update_unit-answer-requires-clause-named
+update_unit-answer-requires-clause-named g c = λ _ _. subst (λ (n : List ℕ). IsTrue (is_name n)) (sym c.in-Ok.ensures.answer) (c.in-Ok.ensures.answers.0 refl)
 
 pub returns-in-Ok-begun-clause-answers : goal.returns-in-Ok-begun-clause-answers
 returns-in-Ok-begun-clause-answers g c =
-    let new = c.update_counted.new.client.member in
-    let result = c.update_counted.result in
+    let new = c.update_unit-answer.new.client.member in
+    let result = c.update_unit-answer.result in
     let expected = c.args.expected.now in
     let prepared = c.in-Ok-begun.prepared in
     subst (λ (n : List ℕ). UpdateAnswers c.args.mode n expected c.args.source.now c.args.client.now.member new result) c.in-Ok.ensures.answer
     (subst (λ (t : List ℕ). UpdateAnswers c.args.mode c.in-Ok.name expected t c.args.client.now.member new result) c.in-Ok-begun.ensures.text
     (subst (λ (m : Mode). UpdateAnswers m c.in-Ok.name expected prepared.text c.args.client.now.member new result) c.in-Ok-begun.ensures.mode
-    (subst (λ (v : ClientView). UpdateAnswers prepared.mode c.in-Ok.name expected prepared.text v.member new result) c.client.view_is c.update_counted.ensures.answers)))
+    (subst (λ (v : ClientView). UpdateAnswers prepared.mode c.in-Ok.name expected prepared.text v.member new result) c.client.view_is c.update_unit-answer.ensures.answers)))
 
 pub returns-in-Ok-begun-clause-sent : goal.returns-in-Ok-begun-clause-sent
 returns-in-Ok-begun-clause-sent g c =
     let source = c.args.source.now in
-    let grown = subst (λ (l : List Item). HasSentFor source c.client.inside.pass.sent l) (sym c.update_counted.ensures.sent) c.in-Ok-begun.ensures.sent in
-    subst (λ (v : ClientView). HasSentFor source v.sent c.update_counted.new.client.sent) c.client.view_is grown
+    let grown = subst (λ (l : List Item). HasSentFor source c.client.inside.pass.sent l) (sym c.update_unit-answer.ensures.sent) c.in-Ok-begun.ensures.sent in
+    subst (λ (v : ClientView). HasSentFor source v.sent c.update_unit-answer.new.client.sent) c.client.view_is grown
 
 pub returns-in-Err-clause-sent : goal.returns-in-Err-clause-sent
 returns-in-Err-clause-sent g c =

@@ -1,4 +1,4 @@
--- The unit is one of the prepared text.
+-- The unit was compiled from the prepared text.
 use Rattle.std.proofs.Common.{refl}
 use Rattle.cc_service.proofs.Updating.{not_updated, update}
 use Rattle.cc_service.proofs.service.Service.update_unit.Goals as goal

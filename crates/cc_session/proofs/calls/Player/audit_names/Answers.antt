@@ -1,4 +1,4 @@
--- Each name is audited in its turn, and the last call is that of the first that was not.
+-- Each name is audited in its turn; the last call is for the first name that was not audited.
 use Rattle.std.proofs.Common.{◌≡◌, Bool, false, Ok, rules, subst}
 use Rattle.cc_session.specs.Playing.{talk}
 use Rattle.cc_session.specs.internal.Calls.{AuditsName}

@@ -1,4 +1,4 @@
--- Whatever is audited of the names from here on, with what was audited before, is an audit of all.
+-- If the names from here on are audited, this makes up an audit of all, with what was audited before.
 use Rattle.std.proofs.Common.{Bool, drop}
 use Rattle.cc_session.specs.Playing.{AuditsEach, Talk, talk}
 use Rattle.cc_session.proofs.calls.Player.audit_names.Given as goal

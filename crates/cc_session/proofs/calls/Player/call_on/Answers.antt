@@ -28,7 +28,7 @@ on_words result name steps words given old new is it =
     (tells_more result (CallsAndWrites (GetAnswers name) (SaysRunOn words steps)) (DoesOr (CallsOn name steps (Some words))) old new (λ n done. inl done)
     (tells_call result (GetAnswers name) (SaysRunOn words steps) old new it))
 
--- none
+-- the bytes are not words
 on_none : {T : Type 0} (result : Result T ScriptFault) (name : List ℕ) (steps : ℕ) (given : Option (List ℕ)) (client : MemberView) (old new : Option (List ℕ)) → given ≡ None
     → Tells old new (script_fault_text BadLine) result → DoesAndTells (DoesOr (CallsOn name steps given)) (talk client old) (talk client new) result
 on_none result name steps given client old new is told =
@@ -36,7 +36,7 @@ on_none result name steps given client old new is told =
     (tells_more result (Writes (script_fault_text BadLine)) (DoesOr (CallsOn name steps None)) (talk client old) (talk client new) (λ n done. inl done)
     (tells_only result client old new (script_fault_text BadLine) told))
 
--- no memory for them
+-- there was no memory for the words
 on_no_memory : {T : Type 0} (result : Result T ScriptFault) (name : List ℕ) (steps : ℕ) (given : Option (List ℕ)) (client : MemberView) (old new : Option (List ℕ))
     → Tells old new no_memory_text result → DoesAndTells (DoesOr (CallsOn name steps given)) (talk client old) (talk client new) result
 on_no_memory result name steps given client old new told =

@@ -1,4 +1,4 @@
--- A source that was handed to the service, one after which another byte stands, and one for which there was no room.
+-- A source that was handed to the service, one that is followed by another byte, and one for which there was no room.
 use Rattle.std.proofs.Common.{List, ℕ, inl, refl, rules}
 use Rattle.cc_service.specs.Serving.{PutAnswers, Puts}
 use Rattle.cc_session.specs.Playing.{CallsAndWrites, IsSent, IsUnended, Talk, talk}

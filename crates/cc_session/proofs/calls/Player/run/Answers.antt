@@ -1,4 +1,4 @@
--- The unit was fetched and its run told, or it was refused.
+-- The unit was fetched and its run reported, or it was refused.
 use Rattle.cc_session.specs.Playing.{talk}
 use Rattle.cc_session.proofs.Cutting.{run_refused, runs}
 use Rattle.cc_session.proofs.calls.Player.run.Goals as goal

@@ -1,4 +1,4 @@
--- What is written is what the image of the unit does that was found; or it was cut.
+-- What is written is what the image of the unit that was found does; or the run was cut off.
 use Rattle.std.proofs.Common.{rules, refl, inl, inr}
 use Rattle.cc_answers.specs.Text.{run_text}
 use Rattle.cc_session.specs.Telling.{no_memory_text}

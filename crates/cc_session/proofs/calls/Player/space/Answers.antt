@@ -1,4 +1,4 @@
--- Whoever the client is, it called nothing.
+-- No client made a call, whichever client it is.
 use Rattle.cc_session.proofs.Obeying.{tells_room}
 use Rattle.cc_session.proofs.calls.Player.space.Goals as goal
 

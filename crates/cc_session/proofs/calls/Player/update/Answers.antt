@@ -1,4 +1,4 @@
--- The expected source was read, and then what comes after it; or it was not.
+-- The expected source was read, and then what comes after it; or it was not read.
 use Rattle.std.proofs.Common.{List, ℕ, refl, rules}
 use Rattle.cc_session.specs.Playing.{IsSentTwice, IsShortOfTwo, IsUnendedOfTwo, Talk, talk}
 use Rattle.cc_session.specs.internal.Steps.{IsNotDone}

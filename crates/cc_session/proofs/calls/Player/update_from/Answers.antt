@@ -1,4 +1,5 @@
--- A source that was handed to the service with the expected one, one for which there was no room, and one after which another byte stands.
+-- A source that was handed to the service with the expected one, one for which there was no room, and one that is followed by
+-- another byte.
 use Rattle.std.proofs.Common.{List, ℕ, Option, Some, None, inl, refl, rules}
 use Rattle.std.specs.Option.{option_map}
 use Rattle.cc_service.specs.Updating.{UpdateAnswers}

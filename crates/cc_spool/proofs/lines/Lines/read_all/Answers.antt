@@ -1,4 +1,4 @@
--- One byte more was read.
+-- One more byte was read.
 use Rattle.std.proofs.Common.{◌≡◌, ◌∙◌, ◌+◌, ◌<◌, ℕ, List, [], ◌∷◌, add-one, ap, get_or, length, sym, take, take_all}
 use Rattle.std.proofs.Math.Seq.{take-suc}
 use Rattle.cc_spool.specs.Answer.{read_byte, read_bytes}

@@ -1,4 +1,4 @@
--- What was copied is the answer, which tells what was read of it last.
+-- What was copied is the answer. Its last fault is the one that was read last.
 use Rattle.std.proofs.Common.{◌∙◌, ℕ, Option, ap, subst, sym}
 use Rattle.cc_spool.specs.Parts.{Tells}
 use Rattle.cc_spool.specs.internal.Telling.{last_told}

@@ -1,4 +1,4 @@
--- One more error.
+-- One more error is noted.
 use Rattle.std.proofs.Common.{[], ◌∙◌, Some, ap}
 use Rattle.cc_typing.specs.internal.Findings.{Found, after}
 use Rattle.cc_types.specs.Rules.{broken}

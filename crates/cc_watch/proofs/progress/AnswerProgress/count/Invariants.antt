@@ -1,4 +1,4 @@
--- The writer behind is the same.
+-- The inner writer is the same.
 use Rattle.std.proofs.Common.{◌≡◌}
 use Rattle.cc_watch.proofs.progress.AnswerProgress.count.Given as goal
 

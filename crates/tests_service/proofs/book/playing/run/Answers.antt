@@ -1,4 +1,5 @@
--- The map that was found is the one that the parameter names. It names the first moment, and nothing of what was left then.
+-- The map that was found is the one that the parameter names. It names the first moment, and says nothing about what was left
+-- then.
 use Rattle.std.proofs.Common.{◌∙◌, arith}
 use Rattle.tests_service.proofs.book.playing.run.Goals as goal
 

@@ -1,4 +1,4 @@
--- What the parameter names: the ledger and the queue. A file is no honest disk, so the map is any.
+-- What the parameter names: the ledger and the queue. A file is not an honest disk, so the map can be any.
 use Rattle.std.specs.FinMap.{empty}
 use Rattle.tests_service.proofs.running.files.a_service_that_is_let_go.Given as goal
 

@@ -1,5 +1,0 @@
-use Rattle.cc_c_laws.proofs.Effects as law
-use Rattle.cc_c_laws.proofs.laws.calls_are_effects.Goals as goal
-
-pub returns : goal.returns
-returns c = law.calls_are_effects

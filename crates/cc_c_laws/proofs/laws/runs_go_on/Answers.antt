@@ -1,5 +1,0 @@
-use Rattle.cc_c_laws.proofs.Exact as exact
-use Rattle.cc_c_laws.proofs.laws.runs_go_on.Goals as goal
-
-pub returns : goal.returns
-returns c = exact.runs_go_on

@@ -1,0 +1,128 @@
+// The table of the commands, and the parser that is made from it.
+
+use crate::json::JSON;
+use crate::keeping::{CALL, COPY, DIFF, LOG, RESTORE};
+use crate::library::LIBRARY;
+use crate::program::{ASM, CHECK, INTERPRET, RUN, SAFE, STAGES};
+use crate::row::{Form, Row, Word, command_of};
+use crate::spool::{SERVE, SUBMIT};
+use crate::unit::{IMAGE, SIZE, SOURCE};
+use crate::watch::{COVER, TRACE};
+use clap::Command;
+use std::alloc::{AllocError, Global};
+
+// What a person reads below the list of commands.
+const WHOLE_HELP: &str = "\
+Examples:
+  cclib check < examples/quotient.c
+  cclib check main.c table.c
+  cclib interpret 1000 < examples/quotient.c
+  cclib run 10000 2 104 105 < examples/checksum.c
+  cclib run --checked --count 10000 2 104 105 < examples/checksum.c
+  cclib trace 1000 --last 20 < examples/quotient.c
+  cclib cover 1000 < examples/quotient.c
+  cclib asm < examples/quotient.c
+  cclib stages main < examples/quotient.c
+  cclib size < examples/quotient.c
+  cclib safe < examples/quotient.c
+  cclib image < examples/quotient.c > quotient.hex
+  cclib library units.disk --format 65536 < examples/units.script
+  cclib image units.disk sum > sum.hex
+  cclib source units.disk sum
+  cclib size units.disk sum
+  cclib call units.disk sum 1000 4 5
+  cclib diff units.disk backup.disk
+  cclib log units.disk sum
+  cclib restore units.disk sum 1
+  cclib copy units.disk larger.disk --format 1048576
+  cclib serve units.disk spool
+  cclib submit spool add quotient < examples/quotient.c
+
+The C program is read from standard input, or from the files that --file names, which are
+put together in their order. The WORDs are the program's own input;
+a negative one is written modulo 4294967296: 4294967293 for -3.
+
+`library` reads a script of commands in place of a program:
+
+  add a 16           compiles the 16 bytes that follow and keeps them as `a`: ok 1
+  int main(void){}
+  run a 1000         exited 0
+  list               unit a, then ok 3
+
+`serve` does such scripts for many clients at once; `submit` is such a client.
+
+Exit status: 0 for an answer, 1 for a fault, 2 for a command line that is refused.";
+
+pub(crate) const QUIET: Word = Word(
+    "quiet",
+    Form::Global,
+    "Write no explanations to standard error",
+);
+
+/// The program itself, with the options of all commands.
+static CCLIB: Row = Row {
+    name: "cclib",
+    whole: "cclib",
+    about: "Reads a C program from standard input or files: checks, interprets, compiles and runs it, or keeps compiled programs in a file",
+    words: &[QUIET, JSON],
+    help: WHOLE_HELP,
+};
+
+const COMMANDS: usize = 19;
+
+// The commands, in the order in which help lists them. As an array they would be too large a term for the prover.
+fn row_at(at: usize) -> Option<&'static Row> {
+    match at {
+        0 => Some(&CHECK),
+        1 => Some(&INTERPRET),
+        2 => Some(&RUN),
+        3 => Some(&TRACE),
+        4 => Some(&COVER),
+        5 => Some(&ASM),
+        6 => Some(&STAGES),
+        7 => Some(&SIZE),
+        8 => Some(&SAFE),
+        9 => Some(&IMAGE),
+        10 => Some(&SOURCE),
+        11 => Some(&CALL),
+        12 => Some(&DIFF),
+        13 => Some(&LOG),
+        14 => Some(&RESTORE),
+        15 => Some(&COPY),
+        16 => Some(&LIBRARY),
+        17 => Some(&SERVE),
+        18 => Some(&SUBMIT),
+        _ => None,
+    }
+}
+
+/// The parser of all commands.
+pub(crate) fn command_of_all<'a>(alloc: Global) -> Result<Command<'a>, AllocError> {
+    let mut whole = command_of(alloc, &CCLIB)?
+        .version("0.1.0")
+        .subcommand_required(true);
+    for at in 0..COMMANDS {
+        let Some(row) = row_at(at) else {
+            continue;
+        };
+        match command_of(alloc, row) {
+            Ok(command) => whole = whole.subcommand(command)?,
+            Err(error) => {
+                drop(whole);
+                return Err(error);
+            }
+        }
+    }
+    Ok(whole)
+}
+
+/// The row of the command with this name; that of the whole program for any other name.
+pub(crate) fn row_of(name: &str) -> &'static Row {
+    for at in 0..COMMANDS {
+        match row_at(at) {
+            Some(row) if row.name == name => return row,
+            _ => {}
+        }
+    }
+    &CCLIB
+}

@@ -1,0 +1,236 @@
+// The words that several commands have, and how words are read.
+
+ghost use Rattle.std.specs.Prelude.{◌≤◌, IfOk, IfSome};
+
+use crate::numbers::{number_in, word_in};
+use crate::refused::Refused;
+use crate::row::{Form, Word};
+use cc_task::{Kind, MOST_STEPS};
+use clap::ArgMatches;
+use std::alloc::{AllocError, Global};
+
+pub(crate) const STEPS: Word = Word(
+    "STEPS",
+    Form::Number,
+    "The most steps that a run may take: 0 to 1000000000",
+);
+
+pub(crate) const INSTRUCTIONS: Word = Word(
+    "STEPS",
+    Form::Number,
+    "The most instructions that a run may take: 0 to 1000000000",
+);
+
+pub(crate) const INPUT: Word = Word(
+    "WORD",
+    Form::Numbers,
+    "The input words: 0 to 4294967295 each",
+);
+
+pub(crate) const COUNT: Word = Word(
+    "count",
+    Form::Flag,
+    "Print the least number of instructions, or of steps, with that end",
+);
+
+pub(crate) const CHECKED: Word = Word(
+    "checked",
+    Form::Flag,
+    "The image stops in place if the program goes wrong by an index, a division or a shift",
+);
+
+pub(crate) const ALL_CHECKED: Word = Word(
+    "checked",
+    Form::Flag,
+    "Compile checked images, which stop in place if the program goes wrong, and let `audit` confirm no others",
+);
+
+pub(crate) const DISK: Word = Word("DISK", Form::Required, "The file that has the library");
+
+pub(crate) const NAME: Word = Word("NAME", Form::Required, "The name of the unit");
+
+pub(crate) const WORKERS: Word = Word(
+    "workers",
+    Form::Default("N", "2"),
+    "How many threads compile: 1 to 8",
+);
+
+/// The option for the room of a library. Its help differs from command to command.
+pub(crate) const FORMAT: &str = "format";
+
+const LEAST_AREA: u64 = 64;
+
+const MOST_AREA: u64 = 1_073_741_824;
+
+const MOST_WORKERS: u64 = 8;
+
+const STEPS_RULE: &str = "STEPS is a decimal number from 0 to 1000000000";
+
+const INPUT_RULE: &str =
+    "WORD is a decimal number from 0 to 4294967295; a negative number is written as its value modulo 4294967296, \
+    for example 4294967295 for -1; a file is named by --file FILE";
+
+const AREA_RULE: &str = "AREA is a decimal number of bytes from 64 to 1073741824";
+
+const WORKERS_RULE: &str = "N is a decimal number from 1 to 8";
+
+const PATH_RULE: &str = "an empty path names no file and no folder";
+
+/// The number that a word or an option gives, from `least` to `most`. Anything else breaks `rule`, which is then shown.
+pub(crate) fn number_of(
+    given: &ArgMatches<'_>,
+    name: &str,
+    least: u64,
+    most: u64,
+    rule: &'static str,
+) -> Result<u64, Refused>
+    ensures { IfOk result (λ n. (least ≤ n) × (n ≤ most)) }
+{
+    match number_in(given.get_str(name).unwrap_or(""), least, most) {
+        Some(number) => Ok(number),
+        None => Err(Refused::ByCommand(rule)),
+    }
+}
+
+/// The same number, if the word or the option is given.
+pub(crate) fn number_if_given(
+    given: &ArgMatches<'_>,
+    name: &str,
+    least: u64,
+    most: u64,
+    rule: &'static str,
+) -> Result<Option<u64>, Refused>
+    ensures { IfOk result (λ number. IfSome number (λ n. (least ≤ n) × (n ≤ most))) }
+{
+    if given.get_str(name).is_none() {
+        return Ok(None);
+    }
+    match number_of(given, name, least, most, rule) {
+        Ok(number) => Ok(Some(number)),
+        Err(refused) => Err(refused),
+    }
+}
+
+/// How many steps or instructions a run may take at most.
+pub(crate) fn steps_of(given: &ArgMatches<'_>) -> Result<u64, Refused>
+    ensures { IfOk result (λ steps. steps ≤ MOST_STEPS) }
+{
+    number_of(given, "STEPS", 0, MOST_STEPS, STEPS_RULE)
+}
+
+// The words that these texts write; nothing if one of them is not a word.
+fn words_in(alloc: Global, texts: &[&str]) -> Result<Option<Vec<u32>>, AllocError> {
+    let mut words = Vec::new(alloc);
+    for text in texts {
+        match word_in(text) {
+            Some(word) => words.push(word)?,
+            None => return Ok(None),
+        }
+    }
+    Ok(Some(words))
+}
+
+/// The input of a run.
+pub(crate) fn input_of(alloc: Global, given: &ArgMatches<'_>) -> Result<Vec<u32>, Refused> {
+    match words_in(alloc, given.get_strs("WORD").unwrap_or(&[]))? {
+        Some(words) => Ok(words),
+        None => Err(Refused::ByCommand(INPUT_RULE)),
+    }
+}
+
+/// How an image is compiled.
+pub(crate) fn kind_of(given: &ArgMatches<'_>) -> Kind {
+    if given.get_flag("checked") {
+        Kind::Checked
+    } else {
+        Kind::Plain
+    }
+}
+
+/// How many threads compile.
+pub(crate) fn workers_of(given: &ArgMatches<'_>) -> Result<usize, Refused>
+    ensures { IfOk result (λ workers. (1 ≤ workers) × (workers ≤ 8)) }
+{
+    match number_of(given, "workers", 1, MOST_WORKERS, WORKERS_RULE) {
+        Ok(workers) => Ok(workers as usize),
+        Err(refused) => Err(refused),
+    }
+}
+
+/// How many bytes each area has.
+pub(crate) fn area_of(given: &ArgMatches<'_>) -> Result<u32, Refused>
+    ensures { IfOk result (λ area. (64 ≤ area) × (area ≤ 1073741824)) }
+{
+    match number_of(given, FORMAT, LEAST_AREA, MOST_AREA, AREA_RULE) {
+        Ok(area) => Ok(area as u32),
+        Err(refused) => Err(refused),
+    }
+}
+
+/// The same number of bytes, if the option is given.
+pub(crate) fn area_if_given(given: &ArgMatches<'_>) -> Result<Option<u32>, Refused>
+    ensures { IfOk result (λ area. IfSome area (λ a. (64 ≤ a) × (a ≤ 1073741824))) }
+{
+    if given.get_str(FORMAT).is_none() {
+        return Ok(None);
+    }
+    match area_of(given) {
+        Ok(area) => Ok(Some(area)),
+        Err(refused) => Err(refused),
+    }
+}
+
+/// The text of a word; none if it is not given.
+pub(crate) fn text_if_given(
+    alloc: Global,
+    given: &ArgMatches<'_>,
+    name: &str,
+) -> Result<Option<String>, AllocError> {
+    match given.get_str(name) {
+        Some(text) => Ok(Some(String::from_str(alloc, text)?)),
+        None => Ok(None),
+    }
+}
+
+/// The text of a word that has to be given.
+pub(crate) fn text_of(
+    alloc: Global,
+    given: &ArgMatches<'_>,
+    name: &str,
+) -> Result<String, AllocError> {
+    String::from_str(alloc, given.get_str(name).unwrap_or(""))
+}
+
+/// The texts of these words.
+pub(crate) fn texts_of(alloc: Global, words: &[&str]) -> Result<Vec<String>, AllocError> {
+    let mut texts = Vec::new(alloc);
+    for word in words {
+        texts.push(String::from_str(alloc, word)?)?;
+    }
+    Ok(texts)
+}
+
+/// The path that a word gives. An empty one is refused: it may come from a variable that was not set.
+pub(crate) fn path_of(
+    alloc: Global,
+    given: &ArgMatches<'_>,
+    name: &str,
+) -> Result<String, Refused> {
+    match given.get_str(name) {
+        Some(path) if !path.is_empty() => Ok(String::from_str(alloc, path)?),
+        _ => Err(Refused::ByCommand(PATH_RULE)),
+    }
+}
+
+/// A unit of the library in a file: the path of the file, and the name as it was given.
+pub(crate) struct Unit {
+    pub(crate) disk: String,
+    pub(crate) name: String,
+}
+
+/// The unit that the words name.
+pub(crate) fn unit_of(alloc: Global, given: &ArgMatches<'_>) -> Result<Unit, Refused> {
+    let disk = path_of(alloc, given, "DISK")?;
+    let name = text_of(alloc, given, "NAME")?;
+    Ok(Unit { disk, name })
+}

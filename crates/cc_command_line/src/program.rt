@@ -1,0 +1,106 @@
+// The commands that work on a program and on no library: `check`, `interpret`, `run`, `asm`, `stages` and `safe`.
+
+ghost use Rattle.std.specs.Prelude.{IfOk};
+ghost use Rattle.cc_command_line.specs.Work.{IsAllowed};
+
+use crate::command_line::Work;
+use crate::files::{FILE, FILES};
+use crate::given::{
+    CHECKED, COUNT, INPUT, INSTRUCTIONS, STEPS, input_of, kind_of, steps_of, text_if_given,
+};
+use crate::refused::Refused;
+use crate::row::{Form, Row, Word};
+use cc_task::Task;
+use clap::ArgMatches;
+use std::alloc::Global;
+
+pub(crate) static CHECK: Row = Row {
+    name: "check",
+    whole: "cclib check",
+    about: "Say `ok`, or the first fault of the program",
+    words: &[FILE, FILES],
+    help: "The program comes on standard input, or in files: cclib check main.c table.c",
+};
+
+pub(crate) static INTERPRET: Row = Row {
+    name: "interpret",
+    whole: "cclib interpret",
+    about: "Print the words that the program writes, and how it ends, by the definition of C",
+    words: &[STEPS, INPUT, FILE, COUNT],
+    help: "The program comes on standard input: cclib interpret 1000 < examples/quotient.c",
+};
+
+pub(crate) static RUN: Row = Row {
+    name: "run",
+    whole: "cclib run",
+    about: "Compile the program and run its image: print the words that it writes, and how it ends",
+    words: &[INSTRUCTIONS, INPUT, FILE, CHECKED, COUNT],
+    help: "The program comes on standard input: cclib run 1000 < examples/quotient.c",
+};
+
+pub(crate) static ASM: Row = Row {
+    name: "asm",
+    whole: "cclib asm",
+    about: "Compile the program and list its image",
+    words: &[FILE, CHECKED],
+    help: "The program comes on standard input, or in files: cclib asm -f main.c -f table.c",
+};
+
+pub(crate) static STAGES: Row = Row {
+    name: "stages",
+    whole: "cclib stages",
+    about: "Show what the compiler makes of each function, stage by stage",
+    words: &[
+        Word(
+            "FUNCTION",
+            Form::Optional,
+            "The function that is shown: all, if none is given",
+        ),
+        CHECKED,
+        FILE,
+    ],
+    help: "The program comes on standard input: cclib stages main < examples/quotient.c",
+};
+
+pub(crate) static SAFE: Row = Row {
+    name: "safe",
+    whole: "cclib safe",
+    about: "Say `safe` if the program can't go wrong, whatever it reads; else where it may",
+    words: &[FILE],
+    help: "The program comes on standard input, or in files: cclib safe -f main.c -f table.c",
+};
+
+/// What `interpret` asks for.
+pub(crate) fn interpret_of(alloc: Global, given: &ArgMatches<'_>) -> Result<Work, Refused>
+    ensures { IfOk result IsAllowed }
+{
+    let steps = steps_of(given)?;
+    let words = input_of(alloc, given)?;
+    Ok(Work::One(if given.get_flag("count") {
+        Task::InterpretCounted(steps, words)
+    } else {
+        Task::Interpret(steps, words)
+    }))
+}
+
+/// What `run` asks for.
+pub(crate) fn run_of(alloc: Global, given: &ArgMatches<'_>) -> Result<Work, Refused>
+    ensures { IfOk result IsAllowed }
+{
+    let kind = kind_of(given);
+    let steps = steps_of(given)?;
+    let words = input_of(alloc, given)?;
+    Ok(Work::One(if given.get_flag("count") {
+        Task::RunCounted(kind, steps, words)
+    } else {
+        Task::Run(kind, steps, words)
+    }))
+}
+
+/// What `stages` asks for.
+pub(crate) fn stages_of(alloc: Global, given: &ArgMatches<'_>) -> Result<Work, Refused>
+    ensures { IfOk result IsAllowed }
+{
+    let function = text_if_given(alloc, given, "FUNCTION")?;
+    Ok(Work::Stages(kind_of(given), function))
+}

@@ -1,0 +1,95 @@
+// A command as a row of a table. `command_of` makes its parser.
+
+use clap::{Arg, ArgAction, Command};
+use std::alloc::{AllocError, Global};
+
+/// What a word of a command is.
+#[derive(Clone, Copy)]
+pub(crate) enum Form {
+    /// A word that may be left out.
+    Optional,
+    /// A word that has to be given.
+    Required,
+    /// A number that has to be given: -1 is such a word, and not an option.
+    Number,
+    /// Any number of words.
+    Several,
+    /// Any number of numbers.
+    Numbers,
+    /// `--NAME`
+    Flag,
+    /// `--NAME`, before the name of a command or after it.
+    Global,
+    /// `--NAME VALUE`, with the name by which help calls the value.
+    Value(&'static str),
+    /// The same for an option that has to be given.
+    RequiredValue(&'static str),
+    /// The same, with the value that counts if the option is not given.
+    Default(&'static str, &'static str),
+    /// The same for an option that may be given any number of times, also as `-` and this letter.
+    Values(&'static str, char),
+}
+
+/// A word of a command, or an option: its name, what it is, and its help.
+#[derive(Clone, Copy)]
+pub(crate) struct Word(
+    pub(crate) &'static str,
+    pub(crate) Form,
+    pub(crate) &'static str,
+);
+
+/// A command.
+pub(crate) struct Row {
+    pub(crate) name: &'static str,
+    /// The program's name, followed by the command's.
+    pub(crate) whole: &'static str,
+    pub(crate) about: &'static str,
+    pub(crate) words: &'static [Word],
+    /// What its help ends with.
+    pub(crate) help: &'static str,
+}
+
+fn flag_of<'a>(alloc: Global, name: &'static str) -> Arg<'a> {
+    Arg::new(alloc, name).long(name).action(ArgAction::SetTrue)
+}
+
+fn value_of<'a>(alloc: Global, name: &'static str, value: &'static str) -> Arg<'a> {
+    Arg::new(alloc, name)
+        .long(name)
+        .value_name(value)
+        .action(ArgAction::Set)
+}
+
+// The word for the parser, without its help.
+fn form_of<'a>(alloc: Global, name: &'static str, form: &Form) -> Arg<'a> {
+    match form {
+        Form::Optional => Arg::new(alloc, name),
+        Form::Required => Arg::new(alloc, name).required(true),
+        Form::Number => Arg::new(alloc, name)
+            .required(true)
+            .allow_negative_numbers(true),
+        Form::Several => Arg::new(alloc, name).num_args(0..),
+        Form::Numbers => Arg::new(alloc, name)
+            .num_args(0..)
+            .allow_negative_numbers(true),
+        Form::Flag => flag_of(alloc, name),
+        Form::Global => flag_of(alloc, name).global(true),
+        Form::Value(value) => value_of(alloc, name, value),
+        Form::RequiredValue(value) => value_of(alloc, name, value).required(true),
+        Form::Default(value, default) => value_of(alloc, name, value).default_value(default),
+        Form::Values(value, letter) => value_of(alloc, name, value)
+            .short(*letter)
+            .action(ArgAction::Append),
+    }
+}
+
+/// The parser of one command.
+pub(crate) fn command_of<'a>(alloc: Global, row: &'static Row) -> Result<Command<'a>, AllocError> {
+    let mut command = Command::new(alloc, row.name)
+        .about(row.about)
+        .after_help(row.help);
+    for Word(name, form, help) in row.words {
+        command = command.arg(form_of(alloc, name, form).help(help))?;
+    }
+    Ok(command)
+}

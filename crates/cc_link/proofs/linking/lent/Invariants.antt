@@ -1,9 +1,0 @@
-use Rattle.std.proofs.Common.{◌≡◌, ◌++◌, drop}
-use Rattle.cc_link.specs.Linked.{lent_pieces}
-use Rattle.cc_link.proofs.linking.lent.Given as goal
-
--- the references so far, and the pieces that are left
-abbrev pub invariant-loop-piece : goal.invariant-loop-piece
-invariant-loop-piece l = record {
-  left : lent_pieces l.lent.items ++ drop l.piece-index l.pieces ≡ l.pieces;
-}
