@@ -12,7 +12,7 @@ room
 echo 'int main(void){}' > "$work/empty.c"
 echo 'void write_word(int); int read_word(void);' > "$work/services.h"
 
-# text KIB: at most 63 functions of ten lines each, of which the last is called; the lines are as long as the size requires
+# text KIB: forty functions, each with one loop whose body is as long as the size requires; main calls the first one
 text() {
     python3 - "$1" <<'P'
 import sys

@@ -30,7 +30,7 @@ done > "$work/script"
 session() {
     "$cclib" library "$work/disk" --quiet --format $((count * 200000)) --workers "$1" < "$work/$2"
 }
-# at_once COUNT TIMES: COUNT processes at once, each of which compiles the text TIMES times
+# at_once COUNT TIMES: COUNT processes at once; each compiles the text TIMES times
 at_once() {
     local n
     for n in $(seq "$1"); do "$bench" compile "$work/text.c" "$2" > "$work/words.$n" & done

@@ -122,7 +122,7 @@ steps() {
     echo
 }
 
-# told KIND NAME..: the lines for that kind, from the shortest text on, with the names of the steps and how each of them grows
+# told KIND NAME..: the lines for that kind, from the shortest text on, with the names of the steps and the growth of each
 told() {
     local kind=$1 IFS=,
     shift

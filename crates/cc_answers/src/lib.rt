@@ -1,7 +1,7 @@
 //! What the program writes as an answer, and how it explains a fault to a person: for a task on a text, and for a line of a
 //! script.
 //!
-//! `run` runs an image and writes the result. `stands` has a fault's position in a text, and explains it there. `line` writes
+//! `run` runs an image and writes the result. `stands` is a fault with its position in a text, and explains it. `line` writes
 //! the line of a fault, `words` explains a fault by its number, and `commands` explains the commands of a script. `script`
 //! writes each answer to a script. `person` says to whom the explanations go, if to anybody.
 //!

@@ -100,7 +100,7 @@ pub(crate) static SOURCE: Row = Row {
     help: SOURCE_HELP,
 };
 
-/// Which part of which unit is wanted from the library in a file.
+/// The unit, and the part of it, that is wanted from the library in a file.
 #[derive(Drop)]
 pub struct Wanted {
     /// The path of the file.

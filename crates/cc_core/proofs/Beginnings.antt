@@ -64,7 +64,7 @@ order_leads bodies library order upcoming stand o =
     let same = same_commands bodies stand.commands (commands order) stand.spelled o.spelled in
     (stand.map_is ∙ ap library_of same, subst (AreAccepted empty) same stand.accepted)
 
--- the bodies so far were read, and the bodies `behind` are left
+-- the bodies so far were read, and the rest (`behind`) are left
 pub record IsReadTo (bodies behind : List (List ℕ)) (order : List Numbered) (upcoming : ℕ) : Type 0 where
   pub leads : (rest : List LibraryCommand) → AreSpelled behind rest → AreSpelled bodies (commands order ++ rest)
   pub counted : (k : ℕ) (a : Numbered) → slice_get order k ≡ Some a → a.number.value ≡ k

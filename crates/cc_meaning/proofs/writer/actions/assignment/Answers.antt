@@ -1,4 +1,4 @@
--- The write replaces its placeholder.
+-- Once the type of the right side is known, the instruction for the write replaces the `Drop` that was emitted in its place.
 use Rattle.std.proofs.Common.{◌≡◌, ◌∙◌, ◌++◌, ap}
 use Rattle.cc_tokens.specs.declared.scalar.Scalar.{Scalar}
 use Rattle.cc_ast.specs.Erase.{expression_tree, target_tree}
