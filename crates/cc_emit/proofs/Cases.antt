@@ -69,7 +69,7 @@ pub record Reaches (x : Site) (next : List Step) (l : Locations) (h : World) (s 
   pub standing : Standing x held long offset next
   pub within : Within x held l h to
 
--- the steps do one move, which takes the words of `prefix`
+-- the steps make one move, which uses the words of `prefix`
 pub record Stepped (x : Site) (ops : List Step) (l : Locations) (h : World) (s : State) : Type 0 where
   pub prefix : List ℕ
   pub are_words : AreWords prefix
@@ -116,7 +116,7 @@ pub reach_set : (x : Site) {held : Scratch} (next : List Step) (l : Locations) (
 reach_set x next l h s p q b d v i e f g k u lt st w =
     reach_by x next (put (Register d) v l) h s (record s { pc = s.pc + 4; registers = with_register s.registers d v }) q b (step_at x.code s p i e f ∙ k) (ap (λ n. n + 4) e ∙ g) st (within_set x l h s (s.pc + 4) d v u lt w)
 
--- an item that is executed is one move
+-- the execution of an item makes one move
 pub stepped : (x : Site) (ops next : List Step) (l k : Locations) (h g : World) (s : State) → ((ws : List ℕ) → selected_move x.meaning.arity x.steps (at_steps ops l h ws) ≡ Goes (at_steps next k g ws)) → Reaches x next k g s → Stepped x ops l h s
 stepped x ops next l k h g s moves r = record { prefix = []; are_words = tt; next = next; locations = k; world = g; moves = moves; reaches = r }
 
@@ -273,7 +273,7 @@ unary_case x w a to b o rest l h s (e, st, inside) =
     stepped x (One (Unary o to b) ∷ rest) rest l (put (Register to) v l) h h s (λ ws. refl)
     (reach_set x rest l h s (x.place + 4 * a) _ (a + 1) to v (unary_instr o to b) e (first_items x w a (One (Unary o to b)) rest st).0 (behind_1 x.place a) same fine.0 (subst (λ n. apply_unary o n < 2 ^ 32) (sym (inside.same b fine.1)) r.1) (standing_tail x w a (One (Unary o to b)) rest st) inside)
 
--- the first instruction sets x5, and the second asks about it
+-- the first instruction sets x5, and the second tests x5
 pub asked : (x : Site) {held : Scratch} (w a to v t : ℕ) (i j : Instr) (rest : List Step) (l : Locations) (h : World) (s : State) → s.pc ≡ x.place + 4 * a → Standing x (without to (without_address held)) w (a + 2) rest → Within x held l h s → Stands x (x.place + 4 * a) (Plain i ∷ Plain j ∷ []) → execute_above x.code.floor i s ≡ puts 5 t s → t < 2 ^ 32
     → ((u : State) → u.registers 5 ≡ t → u.registers 0 ≡ 0 → execute_above x.code.floor j u ≡ puts to v u) → IsTarget x.frame to → v < 2 ^ 32 → Reaches x rest (put (Register to) v l) h s
 asked x w a to v t i j rest l h s e st inside items value b5 question u lt =
@@ -346,7 +346,7 @@ copy_case x w a (Spill i b) rest l h s (e, st, inside) =
 
 -- ---- objects
 
--- the states after the instructions that make an element's address
+-- the states after the instructions that compute an element's address
 abbrev shifted : State → ℕ → State
 shifted s i = record s { pc = s.pc + 4; registers = with_register s.registers 5 ((s.registers i * 4) % 2 ^ 32) }
 
@@ -364,7 +364,7 @@ at_element ElementByPointer w s i b = s
 at_element known Byte s i b = added (uppered known s b) (base_register known) i
 at_element known Word s i b = added (uppered known (shifted s i) b) (base_register known) 5
 
--- the number of the instructions that make an element's address
+-- the number of the instructions that compute an element's address
 abbrev pub upper_before : Remembered → ℕ
 upper_before Nothing = 1
 upper_before known = 0
@@ -384,7 +384,7 @@ uppered_same Element s b r n = refl
 uppered_same ByPointer s b r n = refl
 uppered_same ElementByPointer s b r n = refl
 
--- the register from which an address is reached holds the address's base then
+-- the register from which an address is reached then holds the address's base
 pub base_held : (known : Remembered) (s : State) (b : ℕ) → IsKnownAt known b s.registers → (uppered known s b).registers (base_register known) ≡ sum_base known b
 base_held Nothing s b known = set_same s.registers 6 (high b * 2 ^ 12) (omega arith)
 base_held Upper s b known = known
@@ -426,7 +426,7 @@ within_shifted x l h s i w = within_5 x l h s (s.pc + 4) ((s.registers i * 4) % 
 shifted_same : (s : State) (i r : ℕ) → (r ≡ 5 → ⊥) → (shifted s i).registers r ≡ s.registers r
 shifted_same s i r n = set_other s.registers 5 _ r n
 
--- the address is made from a number of bytes, or from a number of words
+-- the address is computed from a number of bytes, or from a number of words
 within_byte : (x : Site) {held : Scratch} (known : Remembered) (l : Locations) (h : World) (s : State) (i b : ℕ) → IsKnownAt known b s.registers → IsAllocatable i → Within x held l h s
     → Within x (behind_element known held Byte b i) l h (added (uppered known s b) (base_register known) i)
 within_byte x known l h s i b is ui w =
@@ -444,7 +444,7 @@ within_word x known l h s i b is ui w =
     within_added x l h u Word (base_register known) 5 i (sum_base known b) (sum_words (s.registers i) (u.registers i) (u.registers 5) (u.registers (base_register known)) (sum_base known b) five same (base_held known t b is)) ui
     (within_upper x known l h t b is (within_shifted x l h s i w))
 
--- what is known after all instructions that make the address
+-- what is known after all instructions that compute the address
 pub within_element : (x : Site) {held : Scratch} (known : Remembered) (l : Locations) (h : World) (width : Width) (s : State) (i b : ℕ) → IsKnown known width b i s.registers → IsAllocatable i → Within x held l h s
     → Within x (behind_element known held width b i) l h (at_element known width s i b)
 within_element x Nothing l h Byte s i b known ui w = within_byte x Nothing l h s i b tt ui w
@@ -468,7 +468,7 @@ uppered_reaches x next k g Element s p b items e f go = (let none : p ≡ p + 4 
 uppered_reaches x next k g ByPointer s p b items e f go = (let none : p ≡ p + 4 * 0 = omega arith in go (subst (λ n. Stands x n items) none f) (e ∙ none))
 uppered_reaches x next k g ElementByPointer s p b items e f go = (let none : p ≡ p + 4 * 0 = omega arith in go (subst (λ n. Stands x n items) none f) (e ∙ none))
 
--- if the machine is at this item, n items after p, it arrives at the next step
+-- if the machine is at `item`, n items after p, it arrives at the next step
 abbrev Arrives : (x : Site) (next : List Step) (k : Locations) (g : World) (p n : ℕ) (item : PieceItem) (t : State) → Type 0
 Arrives x next k g p n item t = x.code.at (p + 4 * n) ≡ Some (filled x.places x.place (p + 4 * n) item) → t.pc ≡ p + 4 * n → Reaches x next k g t
 
@@ -526,7 +526,7 @@ same_memory ByPointer Byte s i b = refl
 same_memory ByPointer Word s i b = refl
 same_memory ElementByPointer w s i b = refl
 
--- the place of an element is the sum of what x5 holds of its address and of the object's part
+-- the place of an element is the sum of what x5 holds of its address and the object's part of the address
 abbrev pub Leads : Width → (index at b : ℕ) → (word : ℕ) → Type 0
 Leads width i at b word = (o part : ℕ) (f : ℕ → ℕ) → f i ≡ word → (o + part) % 2 ^ 32 ≡ b → IsAddress width i o f → (f 5 + part) % 2 ^ 32 ≡ at
 

@@ -41,7 +41,7 @@ get_below (r ∷ rs) (suc i) all = get_below rs i all.1
 pub kept_below : (i : ℕ) → get_or kept_registers i 0 < 32
 kept_below i = get_below kept_registers i (omega arith, (omega arith, (omega arith, (omega arith, (omega arith, (omega arith, (omega arith, (omega arith, (omega arith, (omega arith, (omega arith, (omega arith, tt))))))))))))
 
--- ---- the registers that steps write are those that the steps so far write, and those that the rest writes
+-- ---- the registers that steps write are those that the steps so far write, and those that the rest write
 
 pub record Found (code : List Step) (i : ℕ) (found : List Bool) : Type 0 where
   pub long : length found ≡ 32

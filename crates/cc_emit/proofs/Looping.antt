@@ -48,7 +48,7 @@ entry_more true old at pos h = by (old == 0) (eqb_denies old 0) h
     by false p (inl e) = absurd (p refl e)
     by false p (inr lt) = inr (omega arith)
 
--- a new note leaves what the table says about steps further on
+-- a new note does not change what the table says about later steps
 entry_same : (led : Bool) (old at k : ℕ) → at ≤ k → nat_lt k (noted led old at) ≡ nat_lt k old
 entry_same false old at k le = refl
 entry_same true old at k le = by (old == 0) (eqb_says old 0)

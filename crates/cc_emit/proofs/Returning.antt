@@ -57,7 +57,7 @@ not_saved r (inr (inl e)) = ((λ q. omega arith), (λ k. elim k [ inl b ↦ omeg
 not_saved r (inr (inr (inl e))) = ((λ q. omega arith), (λ k. elim k [ inl b ↦ omega arith | inr b ↦ omega arith ]))
 not_saved r (inr (inr (inr e))) = ((λ q. omega arith), (λ k. elim k [ inl b ↦ omega arith | inr b ↦ omega arith ]))
 
--- the return: the saved registers are read back, and the frame is given up
+-- the return: the saved registers are restored, and the frame is removed
 pub return_path : (x : Site) {held : Scratch} (w a : ℕ) (rest : List Step) (l : Locations) (h : World) (s : State) → IsSound x.from → x.from.registers 1 % 4 ≡ 0 → s.pc ≡ x.place + 4 * a → Standing x held w a (One Return ∷ rest) → Within x held l h s
     → (n : ℕ) × (t : State) × Path x.code n s t × ComesBack x.layout x.from (record { value = l (Register 10); world = h }) t
 return_path x w a rest l h s sound back e st inside =

@@ -64,7 +64,7 @@ saving_path code places place (r ∷ rs) o s p z from to =
     let more = saving_path code places place rs (o + 4) u p.1 (omega arith) (omega arith) (omega arith) in
     (u, one, subst (λ n. Path code (length rs) u (record s { pc = n; memory = with_saved rs (at + 4) s.registers u.memory })) n1 (subst (λ n. Path code (length rs) u (record u { pc = u.pc + 4 * length rs; memory = with_saved rs n u.registers u.memory })) a1 more))
 
--- the registers after restoring
+-- the registers after those of a list are restored
 abbrev pub restored : List ℕ → (old registers : ℕ → ℕ) → ℕ → ℕ
 restored [] f g = g
 restored (r ∷ rs) f g = restored rs f (with_register g r (f r))

@@ -134,7 +134,7 @@ placed_append code places place a (x ∷ xs) ys p =
 pub between : (a b c : ℕ) → IsPlace a → IsPlace c → a ≤ b → b ≤ c → b % 4 ≡ 0 → IsPlace b
 between a b c p q le lt z = let from = p.from in let to = q.to in record { aligned = z; from = omega arith; to = omega arith }
 
--- the items of the first step
+-- the items of the first step are in place
 pub first_items : (x : Site) {held : Scratch} (w a : ℕ) (op : Step) (ops : List Step) → Standing x held w a (op ∷ ops) → Stands x (x.place + 4 * a) (items_for x held w a op)
 first_items x {held} w a op ops st =
     let i = one_addressed x held op in
@@ -146,7 +146,7 @@ first_calls x {held} w a op ops st =
     let i = one_addressed x held op in
     (each_append (HasRoom x) (items_for x held w a op) (items_at x (behind x held op) (w + long_size x.frame i) (a + size x.frame (near x w) i) ops) st.calls).0
 
--- the items after the first step
+-- the items after the first step are in place
 pub standing_tail : (x : Site) {held : Scratch} (w a : ℕ) (op : Step) (ops : List Step) → Standing x held w a (op ∷ ops) → Standing x (behind x held op) (w + long_size x.frame (one_addressed x held op)) (a + size x.frame (near x w) (one_addressed x held op)) ops
 standing_tail x {held} w a op ops st =
     let i = one_addressed x held op in
@@ -169,7 +169,7 @@ standing_tail x {held} w a op ops st =
       seen = seen_next x.frame (all_addressed x) i (addressed_at x (behind x held op) ops) w a st.seen;
     }
 
--- what is known is forgotten at a label; if no step is left, nothing needs to be known
+-- if no step is left, nothing needs to be known about the scratch registers
 standing_none : (x : Site) {held : Scratch} (w a : ℕ) → Standing x held w a [] → Standing x nothing w a []
 standing_none x {held} w a st = record { placed = st.placed; from = st.from; to = st.to; last = st.last; calls = st.calls; fine = st.fine; seen = st.seen }
 

@@ -30,7 +30,7 @@ item_writes r (Binary operator to left right) = to == r
 item_writes r (Load width object to index) = to == r
 item_writes r item = false
 
--- whether a step writes a register, in the same sense
+-- whether a step writes a register; a call that destroys the register does not count
 abbrev pub writes : (register : ℕ) → Step → Bool
 writes r (One item) = item_writes r item
 writes r (Immediate operator to from word) = to == r

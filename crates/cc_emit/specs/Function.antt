@@ -19,7 +19,7 @@ items_with base sets_pointer slots steps = framed_items base (frame_of sets_poin
 abbrev pub whole_items : (base : ℕ → ℕ) → (slots : ℕ) → List Step → List PieceItem
 whole_items base slots steps = items_with base (gains base steps) slots steps
 
--- an item of code that has this many others before it
+-- an item of code, adjusted for the `before` items that are put in front of it
 abbrev pub shifted : (before : ℕ) → PieceItem → PieceItem
 shifted n (Plain i) = Plain i
 shifted n (Call g) = Call g
@@ -40,6 +40,6 @@ function_items base slots steps = early_items base slots (early slots steps) ste
 unfoldable pub pair_items : above.Pair → List PieceItem
 pair_items p = function_items (object_address (objects_in (above.tree_of p))) p.ltl.slots p.code
 
--- how many bytes the frame of a pair's steps has
+-- the size in bytes of the frame of a pair's steps
 unfoldable pub pair_frame : above.Pair → ℕ
 pair_frame p = frame_size (frame_of false p.ltl.slots p.code)

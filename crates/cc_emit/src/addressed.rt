@@ -1,5 +1,5 @@
-// A step, together with how much of the address that it accesses is in the machine's registers already. Both decide how many items the step
-// takes.
+// A step, and how much of the address that it accesses the machine's registers already hold. The number of items that the step takes
+// depends on both.
 
 use cc_select::Step;
 

@@ -19,7 +19,7 @@ pub(crate) fn constant_size(word: u32) -> usize
     }
 }
 
-/// Puts the items of a constant.
+/// Emits the items of a constant.
 pub(crate) fn put_constant(items: &mut Vec<PieceItem>, to: u8, word: u32) -> Result<(), AllocError>
     requires { to < 32 }
     ensures { OnOk result (items.new.items ≡ items.old.items ++ const_items to word) }
