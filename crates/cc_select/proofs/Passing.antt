@@ -92,7 +92,7 @@ keep_ends steps sets at kept noted le w =
 
 -- ---- a truth value's branch
 
--- the branches of a step if it makes a truth value, and if it makes none
+-- the branches of a step if it computes a truth value, and if it does not
 abbrev Branches : Option Truth → (Test → Option Step) → Type 0
 Branches None f = (v : Test) → f v ≡ None
 Branches (Some t) f = (v : Test) → f v ≡ (if t.register == v.register then Some (t.branch v.nonzero v.to) else None)
@@ -191,7 +191,7 @@ test_first (One (IfNonzero r n)) steps = refl
 test_first (One (IfZero r n)) steps = refl
 test_first _ steps = refl
 
--- a test makes no truth value
+-- a test computes no truth value
 test_alone : (t : Table) (next : Step) (steps : List Step) (v : Test) → test_in next ≡ Some v → fused t (next ∷ steps) ≡ next ∷ fused t steps
 test_alone t (One (IfNonzero r n)) steps v e = joined_by t (One (IfNonzero r n)) None (λ w. None) (test_of steps) steps (fused t steps) (λ w. refl) ∙ alone (test_of steps)
   where

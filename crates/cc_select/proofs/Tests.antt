@@ -29,7 +29,7 @@ target_of (IfNonzero r m) = m
 target_of (IfZero r m) = m
 target_of i = 0
 
--- whether a test leads there
+-- whether a test leads to its label
 abbrev pub leads : LinearItem → Locations → Bool
 leads (IfNonzero r m) l = not (l (Register r) == 0)
 leads (IfZero r m) l = l (Register r) == 0

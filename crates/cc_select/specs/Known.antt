@@ -1,6 +1,6 @@
--- The steps for a function's items, one for each. An operation with an operand that is a known constant has it as a word, if its
--- instructions can have that word. An access to an element whose number is known has the number. A branch that is certain to be taken is a
--- jump. What is known about a register is what the items since the last label say.
+-- The steps for a function's items, one for each. An operation with a known constant as an operand has the constant as its word, if its
+-- instructions can encode the word. An access to an element whose number is known has the number in it. A branch that is certain to be
+-- taken is a jump. What is known about a register is what the items since the last label say.
 use Rattle.std.specs.Prelude.{ℕ, Bool, true, false, not, if◌then◌else◌, ◌==◌, Option, Some, None, List, [], ◌∷◌}
 use Rattle.cc_words.specs.declared.operators.Binary as binary
 use Rattle.cc_simulation.specs.Unknown.{survives}
@@ -48,7 +48,7 @@ known_behind Return k = unknown
 
 -- ---- what is chosen
 
--- an operator with a word, if it can have the word; else another step
+-- an operator with a word, if its instructions can encode the word; else another step
 abbrev pub with_word : Option Form → (to from : ℕ) → (other : Step) → Step
 with_word None to a s = s
 with_word (Some form) to a s = if has_word form.0 form.1 then Immediate form.0 to a form.1 else s

@@ -18,5 +18,5 @@ pub mod Selection
 pub mod rows
 -- what a pair keeps
 pub mod Pair
--- what the code keeps
+-- for private contracts and proofs only
 pub mod internal

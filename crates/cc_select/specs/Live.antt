@@ -1,5 +1,5 @@
--- Which registers are live: those that may be read on some way before they are written. Each call counts as reading x10 to x17. A table
--- gives the registers that are live at each label.
+-- Which registers are live: those that may be read on some path before they are written. Each call counts as reading x10 to x17. A
+-- table gives the registers that are live at each label.
 use Rattle.std.specs.Prelude.{ℕ, Bool, false, not, ◌&&◌, ◌||◌, ◌==◌, nat_le, List, [], ◌∷◌}
 use Rattle.cc_simulation.specs.Unknown.{survives}
 use Rattle.cc_ltl.specs.declared.operation.Move.{Move}
@@ -63,7 +63,7 @@ live_before (StoreNear width object index word from) at s = with index (with fro
 live_before (Branch operator nonzero left right to) at s = with left (with right (either (at to) s))
 live_before (BranchImmediate operator nonzero from word to) at s = with from (either (at to) s)
 
--- the registers that are live before steps
+-- the registers that are live before these steps
 abbrev pub live : (at_label : ℕ → Registers) → List Step → Registers
 live at [] = nothing
 live at (step ∷ steps) = live_before step at (live at steps)

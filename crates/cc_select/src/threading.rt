@@ -1,6 +1,5 @@
-// Jump threading: a test directly after a label goes before the label and into each jump there, if only jumps lead to the label.
-// So a truth value is tested where it is made, and if the value is known, a jump replaces the test. The same walk chooses the
-// steps of the items.
+// Jump threading: a test directly after a label goes before the label and into each jump to it, if only jumps lead to the label. So a truth
+// value is tested where it is computed, and if the value is known, a jump replaces the test. The same walk chooses the steps of the items.
 //
 // Two walks make the table of these tests. The first goes from the back and finds the test after each label; the second clears
 // the labels to which branches lead.

@@ -10,7 +10,7 @@ use Rattle.cc_select.specs.Threading.{tests, threaded}
 use Rattle.cc_select.specs.Table.{table}
 use Rattle.cc_select.specs.Selection.{selected}
 
--- where two ways meet, x7 is tested: the run goes on at label 3 if it is not 0
+-- where two paths meet, x7 is tested: the run goes on at label 3 if it is not 0
 abbrev meeting : List LinearItem
 meeting = Label 2 ∷ IfNonzero 7 3 ∷ Return ∷ Label 3 ∷ Write ∷ Return ∷ []
 
@@ -62,10 +62,10 @@ another_register = refl
 
 -- ---- what stays
 
--- a branch leads to the label
+-- a test stays if a branch leads to its label
 branched : threaded (IfZero 10 2 ∷ Const 7 0 ∷ Jump 2 ∷ meeting) ≡ IfZero 10 2 ∷ Const 7 0 ∷ Jump 2 ∷ meeting
 branched = refl
 
--- another item is before the test
+-- a test stays if another item is between it and the label
 not_directly_behind : threaded (Jump 2 ∷ Label 2 ∷ Copy (Between 7 10) ∷ IfNonzero 7 3 ∷ Label 3 ∷ Return ∷ []) ≡ Jump 2 ∷ Label 2 ∷ Copy (Between 7 10) ∷ IfNonzero 7 3 ∷ Label 3 ∷ Return ∷ []
 not_directly_behind = refl
