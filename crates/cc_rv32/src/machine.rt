@@ -62,7 +62,7 @@ impl Machine {
 
     /// Executes this many instructions, or fewer if the machine exits or traps, and returns the outcome of the run so far. To run `a` and
     /// then `b` instructions is the same as to run `a + b`. Fails with 40 (OutOfMemory) only if an instruction writes a word and the output
-    /// could not grow; the instructions before that one have been executed then.
+    /// could not grow; then the instructions before that one have been executed.
     pub fn run(&mut self, steps: u64) -> Result<MachineOutcome, MachineFault>
         ensures code { self.new.code ≡ self.old.code }
         ensures run { IfOk result (λ outcome. shown_run self.new ≡ machine_run self.old.code steps (shown_run self.old)) }
