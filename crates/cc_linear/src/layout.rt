@@ -21,7 +21,7 @@ fn end_label(labels: &[u32], ends: &[usize], label: u32) -> u32
     labels[end_of(labels, ends, label)]
 }
 
-/// Puts a block after the items. `following` is the label that comes next.
+/// Appends the items of a block. `following` is the label that comes next.
 fn put_block(
     items: &mut Vec<LinearItem>,
     labels: &[u32],

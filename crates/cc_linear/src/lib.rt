@@ -5,7 +5,7 @@
 //! with the source. Every order that has each label once, and all that is reached, can be laid out (`proofs/Ordering`).
 //!
 //! `lineariser` is the whole pass. `places` and `tables` read the blocks by their places in the list, `tracing` finds where chains of empty
-//! blocks end and chooses an order, `writing` and `layout` put the items one after the other, and `idle` leaves out the labels to which
+//! blocks end and chooses an order, `writing` and `layout` write the items one after another, and `idle` leaves out the labels to which
 //! nothing leads.
 #![tactic(auto)]
 

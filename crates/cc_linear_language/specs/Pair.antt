@@ -42,7 +42,7 @@ abbrev pub KeepsUp : Mode → List External → (function slots : ℕ) → List 
 KeepsUp mode unit f slots code =
     (rate : ℕ) × ((meaning : Meaning) → IsMeaning mode unit meaning → TracksForAll meaning f rate (linear_move meaning.arity code) linear_output (linear_start slots code))
 
--- so, for each number of open calls below the limit, the run follows the function's body, for all lists of unknown words
+-- for each number of open calls below the limit, the run follows the function's body, for all lists of unknown words
 abbrev pub FollowsFunction : Mode → List External → (function slots : ℕ) → List LinearItem → Type 0
 FollowsFunction mode unit f slots code =
     (meaning : Meaning) → IsMeaning mode unit meaning → (opened : ℕ) → opened < most_open → (ws : List ℕ) (h : World) → IsCall meaning f ws h

@@ -31,7 +31,7 @@ pub bind_some : {A B : Type 0} (o : Option A) (f : A → Option B) (y : B) → (
 bind_some (Some x) f y e = (x, refl, e)
 bind_some None f y e = absurd (none-some y e)
 
--- which of two options gave the value
+-- if a choice between two options has a value, the chosen option has it
 pub which : {A : Type 0} (b : Bool) (x y : Option A) (z : A) → cond b x y ≡ Some z → ((b ≡ true) × (x ≡ Some z)) ⊎ ((b ≡ false) × (y ≡ Some z))
 which true x y z e = inl (refl, e)
 which false x y z e = inr (refl, e)

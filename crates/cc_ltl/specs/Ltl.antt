@@ -48,7 +48,7 @@ IsOperation (Write next) = IsWord next
 IsOperation (Branch from if_nonzero if_zero) = IsAllocatable from × IsWord if_nonzero × IsWord if_zero
 IsOperation Return = Unit {0}
 
--- the operation has exactly one next block: it is no branch and no return
+-- the operation has exactly one next block: it is neither a branch nor a return
 abbrev pub goes_on : Operation → Bool
 goes_on (Branch from if_nonzero if_zero) = false
 goes_on Return = false
@@ -99,7 +99,7 @@ same_location (Slot a) (Slot b) = a == b
 same_location (Register a) (Slot b) = false
 same_location (Slot a) (Register b) = false
 
--- a word is put into a location
+-- the locations after a word is put into one of them
 abbrev pub put : Location → (word : ℕ) → Locations → Locations
 put to word at l = if same_location to l then word else at l
 

@@ -32,7 +32,7 @@ impl Model for Moves {
 }
 
 impl Moves {
-    /// Makes a list of these moves. If there are more than 65,535, it fails and hands the moves back. It takes no memory.
+    /// Makes a list of these moves. Fails and hands the moves back if there are more than 65,535. Takes no memory.
     pub fn new(moves: Vec<Move>) -> Result<Self, Vec<Move>>
         ensures fits { IsOk result ↔ (length moves.items < 2 ^ 16) }
         ensures hands_back { MatchResult result (λ made. made ≡ moves.items) (λ back. back ≡ moves) }

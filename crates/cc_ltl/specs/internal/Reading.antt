@@ -181,7 +181,7 @@ blocks_in bytes = word_in bytes >>= λ n. times block_in n.0 n.1
 unfoldable pub slots_in : Reader ℕ
 slots_in bytes = word_in bytes >>= λ n. if nat_le n.0 most_slots then Some n else None
 
--- the parts of the function that all these bytes spell; whether the parts go together is not asked
+-- the parts of the function that all these bytes spell; whether the parts go together is not checked
 unfoldable pub parts_in : List ℕ → Option Ltl
 parts_in bytes =
     mapped (λ x. record { slots = x.0; entry = x.1.0; blocks = x.1.1 }) (both slots_in (both word_in blocks_in)) bytes

@@ -1,4 +1,4 @@
--- What the type keeps, and what follows from it.
+-- This is what the pair's type keeps, and what follows from that.
 use Rattle.std.proofs.Common.{subst}
 use Rattle.cc_linear_language.specs.Pair.{Pair, tree_of, KeepsUp}
 use Rattle.cc_linear_language.proofs.Layer.{follows_of}
