@@ -55,7 +55,7 @@ module _ (w from to k word : ℕ) (old mid new : List ℕ) (h : k < w) (is : wor
     inside : (x : ℕ) → bit x c ≡ holds old (key w x c)
     inside x = ap (λ b. b && holds old (key w x c)) (below c (64 * w) lt)
 
-    -- reads the word's bit for this column
+    -- the word's bit for column c is the table's bit in row `from`
     read : k ≡ c / 64 → (bit_at word (key w r c % 64) == 1) ≡ bit from c
     read e =
         let q : w * from + k ≡ key w from c / 64 = omega (arith, e) in

@@ -192,7 +192,7 @@ impl BitRows {
         Ok(())
     }
 
-    /// Does the same, but only for word `k` of the row.
+    /// Moves the bits of word `k` of row `from` to row `to`. If memory runs out, they may be missing.
     fn move_word(&mut self, from: usize, to: usize, k: usize) -> Result<(), AllocError>
         requires from { from < most_rows }
         requires to { to < most_rows }

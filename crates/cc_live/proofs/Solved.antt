@@ -67,7 +67,7 @@ cut : List Labelled → Sets → ℕ → List ℕ
 cut ns other i = those (other (label_at ns i)) (bound ns)
 
 module _ (strong : Bool) (rtl : Rtl) (is : IsRtl rtl) (other : Sets) (live : AreLiveAs strong rtl.nodes other) where
-  -- what the sets that were cut down have after a node is live after it, and is read by some node
+  -- what the cut-down sets have after a node is live after the node, and some node reads it
   held : (i : ℕ) (n : Labelled) → slice_get rtl.nodes i ≡ Some n → node_at rtl.nodes n.label ≡ Some n.node → (r : ℕ) → IsTrue (holds (behind rtl.nodes (cut rtl.nodes other) i) r) → IsTrue (live_behind other n.node r) × IsTrue (holds (bound rtl.nodes) r)
   unfolding cut
   held i n e here r h =
@@ -91,7 +91,7 @@ module _ (strong : Bool) (rtl : Rtl) (is : IsRtl rtl) (other : Sets) (live : Are
         | inr (after, d) ↦ (let b = held i n e here r after in those_in (other n.label) (bound rtl.nodes) r b.1 (own.inherited r b.0 d))
       ]
 
-  -- so what lies below every solution lies within the other live sets
+  -- what lies below every solution lies within the other live sets
   pub within_other : (rows : List (List ℕ)) → length rows ≡ length rtl.nodes → ((facts : ℕ → List ℕ) → SolvesBy strong rtl.nodes facts → LiesUnder Below (facts_at nothing rows) facts) → LieWithin (rows_at rtl.nodes rows) other
   unfolding cut
   within_other rows long under label r h = go (node_at rtl.nodes label) refl

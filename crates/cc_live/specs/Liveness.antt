@@ -33,8 +33,8 @@ pub record AreLeastStronglyLive (nodes : List Labelled) (live : Sets) : Type 0 w
 abbrev pub without_dead : Sets → Rtl → Rtl
 without_dead live rtl = record rtl { nodes = with_nops (λ label node. is_dead live node) rtl.nodes }
 
--- What is left of a function without all the nodes that nobody needs: those nodes that are dead by its least strongly live sets
--- are nops, and only those. These sets are then the least live sets of what is left.
+-- What is left of a function without all the nodes that nothing needs: those nodes that are dead by its least strongly live sets are nops,
+-- and only those. These sets are then the least live sets of what is left.
 pub record IsWithoutFaint (old new : Rtl) : Type 0 where
   pub live : Sets
   pub strongly : AreLeastStronglyLive old.nodes live

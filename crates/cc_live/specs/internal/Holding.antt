@@ -1,4 +1,5 @@
--- What a row holds after each change, register by register; and what the step over a node makes of what is live after it.
+-- What a row holds after each change, register by register; and what the step over a node computes from what is live
+-- after it.
 use Rattle.std.proofs.Common.{◌≡◌, ◌≢◌, ℕ, zero, suc, ◌*◌, ◌/◌, ◌%◌, ◌^◌, ◌<◌, List, [], ◌∷◌, ◌++◌, length, replicate, get_or, refl, sym, ap, ◌∙◌, subst, Bool, true, false, ◌==◌, ◌&&◌, ◌||◌, not, if◌then◌else◌, IsTrue, arith, inl, inr, ◌⊎◌, Contains}
 use Rattle.std.specs.Prelude.{Option, Some, None}
 use Rattle.std.specs.Int.{bit_at}
@@ -141,7 +142,7 @@ but_for_in : (o : Option ℕ) (row : List ℕ) (r : ℕ) → IsTrue (holds row r
 but_for_in None row r h d = h
 but_for_in (Some to) row r h d = those_in (λ x. not (to == x)) row r h (some_apart to r d)
 
--- a register that is held is not the unread result; and the result of a pure node is its result
+-- a register that is held is not the unread result; and the register that a pure node writes is that of its result
 other : (to r : ℕ) (row : List ℕ) → IsTrue (not (holds row to)) → IsTrue (holds row r) → Some to ≢ Some r
 other to r row u h e =
     let z : Some to ≡ Some r = e in
@@ -205,7 +206,7 @@ live_before_up strong n x y h r i = elim (live_before_cases strong n x r i) [
   | inr (behind, d) ↦ behind_live_before strong n y r (h r behind) d
 ]
 
--- ---- the step as the code makes it
+-- ---- the step as the code computes it
 
 pub result_apart : (o : Option ℕ) (r : ℕ) → IsTrue (not (is_result o r)) → o ≢ Some r
 result_apart None r h e = absurd (let z : None ≡ Some r = e in cc)
