@@ -142,7 +142,7 @@ but_for_in : (o : Option ℕ) (row : List ℕ) (r : ℕ) → IsTrue (holds row r
 but_for_in None row r h d = h
 but_for_in (Some to) row r h d = those_in (λ x. not (to == x)) row r h (some_apart to r d)
 
--- a register that is held is not the unread result; and the register that a pure node writes is that of its result
+-- a register that is held is not the unread result; and what a pure node writes is its result
 other : (to r : ℕ) (row : List ℕ) → IsTrue (not (holds row to)) → IsTrue (holds row r) → Some to ≢ Some r
 other to r row u h e =
     let z : Some to ≡ Some r = e in
