@@ -187,7 +187,7 @@ short_reaches x v a n next rest l h s i false e inside p st all nears f k same =
     let one = branch_step x.code s (x.place + 4 * a) (x.place + 4 * b) i false e target.from.aligned f.0 (add s.pc (distance a b)) k (λ t. there) in
     reach_by x next l h s (record s { pc = x.place + 4 * a + 4 }) v (a + 1) one (omega arith) (subst (Standing x _ v (a + 1)) same st) (within_pc x l h s (x.place + 4 * a + 4) inside)
 
--- a branch in either form; the opposite branch is taken exactly if this one is not
+-- a branch in either form leads where its condition says; the opposite branch is taken exactly if this one is not
 branch_reaches : (x : Site) {held : Scratch} (v a n : ℕ) (next rest : List Step) (l : Locations) (h : World) (s : State) (c : Condition) (t is : Bool) → s.pc ≡ x.place + 4 * a → Within x held l h s → IsPlace (x.place + 4 * a) → Standing x held v (a + branch_size is) rest → StandsWhole x
     → (is ≡ true → Nears a (labels x n)) → Stands x (x.place + 4 * a) (branch_items is c a (labels x n)) → is_taken c.operation (s.registers c.left) (s.registers c.right) ≡ t → (if t then place x.steps n else rest) ≡ next → Reaches x next l h s
 branch_reaches x v a n next rest l h s c t true e inside p st all nears f taken same =
@@ -196,7 +196,7 @@ branch_reaches x v a n next rest l h s c t false e inside p st all nears f taken
     over_reaches x v a n next rest l h s (Branch (opposite c.operation) c.left c.right 8) (not t) e inside p st all f
     (ap (λ b. branches b (add s.pc 8) s) (opposite_taken c.operation (s.registers c.left) (s.registers c.right) ∙ ap not taken)) (if_not t rest (place x.steps n) ∙ same)
 
--- a branch, as it is or turned, on a condition that shows whether a word is not 0
+-- a branch on a condition that shows whether a word is not 0, as it is or turned, leads where the word says
 pub told_reaches : (x : Site) {held : Scratch} (v a n : ℕ) (rest : List Step) (l : Locations) (h : World) (s : State) (c : Condition) (word : ℕ) (nonzero is : Bool) → s.pc ≡ x.place + 4 * a → Within x held l h s → IsPlace (x.place + 4 * a) → Standing x held v (a + branch_size is) rest → StandsWhole x
     → (is ≡ true → Nears a (labels x n)) → Stands x (x.place + 4 * a) (branch_items is (turned nonzero c) a (labels x n)) → Tells c s.registers word → Reaches x (led nonzero word rest (place x.steps n)) l h s
 told_reaches x v a n rest l h s c word nonzero is e inside p st all nears f tells =

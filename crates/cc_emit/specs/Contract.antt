@@ -48,7 +48,7 @@ size_words s = words_of s.width s.elements
 abbrev pub words_in : (objects : List Size) → (number : ℕ) → ℕ
 words_in objects g = size_words (size_in objects g)
 
--- where each object lies, by its number: at a multiple of 4, and no word belongs to two of them
+-- where each object lies, by its number: at a multiple of 4, and no word belongs to two objects
 pub record ObjectLayout (objects : List Size) : Type 0 where
   pub base : ℕ → ℕ
   pub from : (g : ℕ) → globals_from ≤ base g
@@ -133,8 +133,8 @@ pub record Enters (meaning : Meaning) (layout : ObjectLayout meaning.objects) (c
   pub passes : Passes ws 10 s
   pub shares : Shares layout s h
 
--- the global pointer, which is the word in x3 in a function that sets it: 2 KiB after the beginning of the globals, so that an access
--- reaches the first 4 KiB of them from there
+-- the global pointer, which is the word in x3 in a function that sets x3: 2 KiB after the beginning of the globals, so that an access from
+-- it reaches their first 4 KiB
 abbrev pub global_pointer : ℕ
 global_pointer = globals_from + 2048
 

@@ -57,7 +57,7 @@ abbrev pub last_of : List Step → Option (List Step)
 last_of [] = None
 last_of (step ∷ steps) = if is_return step then Some [] else last_one step steps
 
--- the steps between a label and the return after it, if they are at most one light step
+-- the steps between a label and the return after it, if there is at most one and it is light
 abbrev pub ending : List Step → Option (List Step)
 ending (One (Label label) ∷ steps) = last_of steps
 ending steps = None

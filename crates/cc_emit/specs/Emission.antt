@@ -43,7 +43,7 @@ use Rattle.cc_emit.specs.Branches.{compares, opposite, turned, comparison, again
 abbrev pub addi : (to from immediate : ℕ) → PieceItem
 addi to from immediate = Plain (instr.OpImm Addi to from immediate)
 
--- an element at address + offset, loaded and stored
+-- a load and a store of the element at address + offset
 abbrev pub load_element : Width → (to address offset : ℕ) → PieceItem
 load_element width to address offset = Plain (instr.Load (load_of width) to address offset)
 
@@ -96,21 +96,21 @@ move_item (Between to from) = addi to from 0
 move_item (Reload to slot) = load_word to 2 (4 * slot)
 move_item (Spill slot from) = store_word 2 from (4 * slot)
 
--- a word: only its lower part, only its upper part, or both
+-- a register is set to a word, by only the word's lower part, only its upper part, or both
 abbrev pub const_items : (to word : ℕ) → List PieceItem
 const_items to w =
     if high w == 0 then addi to 0 (low w) ∷ []
     else if low w == 0 then Plain (instr.Lui to (high w)) ∷ []
     else Plain (instr.Lui to (high w)) ∷ addi to to (low w) ∷ []
 
--- an operator on one word
+-- the instruction of an operator on one word
 abbrev pub unary_instr : unary.Unary → (to from : ℕ) → Instr
 unary_instr Neg to from = instr.Op operation.Sub to 0 from
 unary_instr Complement to from = instr.OpImm Xori to from (2 ^ 32 - 1)
 unary_instr IsZero to from = instr.OpImm Sltiu to from 1
 
--- the instructions for an operator on two words: one instruction; or one, with the operands as they are or exchanged, and a test whether
--- its result is 0; or one and a test whether its result is not 0
+-- the instructions for an operator on two words: one instruction; or one, with the operands as they are or exchanged, and one that tests
+-- whether its result is 0; or one and one that tests whether it is not 0
 abbrev pub recipe : binary.Binary → Recipe
 recipe Add = Direct operation.Add
 recipe Sub = Direct operation.Sub
@@ -206,7 +206,7 @@ items_of_one base f near labels place known Return = epilogue f
 -- ---- the items of the other steps
 
 -- the instructions for an operator on a register and a word: one instruction with an immediate, a shift, or one instruction on 0 and the
--- register; or an instruction with an immediate and a test whether its result is 0, or whether it is not
+-- register; or an instruction with an immediate and one that tests whether its result is 0, or whether it is not
 abbrev pub word_recipe : WordOperator → (word : ℕ) → WordRecipe
 word_recipe immediates.Add w = WithImmediate Addi (low w)
 word_recipe immediates.Sub w = WithImmediate Addi (low (neg w))

@@ -7,7 +7,7 @@ use Rattle.cc_linear_language.specs.declared.item.LinearItem.TheVariants.{Copy, 
 use Rattle.cc_select.specs.declared.step.Step.{Step}
 use Rattle.cc_select.specs.declared.step.Step.TheVariants.{One, Immediate, LoadAt, LoadNear}
 
--- slot i lies at x2 + 4 * i, and after the slots come the saved registers in this order; `sets_pointer` says whether the function sets x3
+-- slot i lies at x2 + 4 * i, and after the slots come the registers of `saved`, in order; `sets_pointer` says whether x3 is set
 pub record Frame : Type 0 where
   pub sets_pointer : Bool
   pub slots : ℕ
@@ -42,7 +42,7 @@ abbrev pub is_written : List Step → (register : ℕ) → Bool
 is_written [] r = false
 is_written (step ∷ steps) r = writes r step || is_written steps r
 
--- those of these registers that the steps write
+-- the registers of a list that the steps write
 abbrev pub written : List Step → List ℕ → List ℕ
 written steps [] = []
 written steps (r ∷ rs) = if is_written steps r then r ∷ written steps rs else written steps rs

@@ -4,8 +4,8 @@
 -- number, in any object that is reached the same way, takes one instruction.
 --
 -- A function sets x3 to the global pointer if its accesses then take fewer instructions, including those that set it: from there an access
--- reaches the first 4 KiB of the globals. An access in a loop counts as eight. Each step says which of these applies to its access, and its
--- size follows from that and nothing else.
+-- reaches the first 4 KiB of the globals. An access in a loop counts as eight. Each step says which of these applies to its access, and
+-- nothing else decides the size of the access.
 use Rattle.std.specs.Prelude.{ℕ, ◌*◌, ◌+◌, ◌^◌, Bool, true, false, ◌&&◌, ◌||◌, ◌==◌, nat_le, nat_lt, if◌then◌else◌, Option, Some, None, List, [], ◌∷◌}
 use Rattle.cc_words.specs.declared.operators.Width.{Width}
 use Rattle.cc_words.specs.Widths.{same_width}
@@ -214,7 +214,7 @@ loop_weight = 8
 abbrev pub weight : (labels : List ℕ) → List Step → ℕ
 weight labels steps = if lead_back labels steps then loop_weight else 1
 
--- the labels before the point after a step
+-- the labels up to and including a step
 abbrev pub labels_past : Option ℕ → List ℕ → List ℕ
 labels_past None labels = labels
 labels_past (Some label) labels = label ∷ labels

@@ -1,5 +1,5 @@
 // Conditions of branches: how the words of two registers compare. A comparison of registers is a condition of its own, so a branch on it
-// needs no truth value in a register. So is a comparison with a word, if a comparison with 0 has the same result.
+// needs no truth value in a register. A comparison with a word is one too, if a comparison with 0 has the same result.
 
 ghost use Rattle.std.specs.Prelude.{◌≡◌, ◌<◌};
 ghost use Rattle.cc_emit.specs.Branches.{opposite, compares, opposed, turned, comparison, immediate_against_zero, operation_on_zero, against_zero};

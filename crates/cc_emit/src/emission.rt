@@ -54,7 +54,7 @@ fn move_word(between: Move) -> Instr
     }
 }
 
-// Emits the upper part of an address into x6, if it is needed and not there yet.
+// Emits the instruction that sets x6 to the upper part of an address, if the part is needed and x6 does not hold it yet.
 fn put_upper(items: &mut Vec<PieceItem>, known: Remembered, address: u32) -> Result<(), AllocError>
     ensures { OnOk result (items.new.items ≡ items.old.items ++ upper_items known address) }
 {

@@ -26,7 +26,7 @@ pub(crate) const GLOBAL_POINTER: u32 = GLOBALS_FROM + 2048;
 
 /// `x0`, which holds 0.
 pub(crate) const ZERO: u8 = 0;
-/// `x1`, in which a call leaves the address after it.
+/// `x1`, in which a call leaves its return address.
 pub(crate) const RETURN_ADDRESS: u8 = 1;
 /// `x2`, the address of the frame.
 pub(crate) const STACK: u8 = 2;

@@ -1,5 +1,5 @@
-// How operators become instructions: each becomes one instruction, or one followed by a test whether its result is 0, or whether it is
-// not 0.
+// How operators become instructions: each becomes one instruction, or one followed by another that tests whether its result is 0, or
+// whether it is not 0.
 
 ghost use Rattle.std.specs.Prelude.{◌≡◌, ◌<◌, ◌≤◌};
 ghost use Rattle.cc_emit.specs.Branches.{asked_of};
@@ -19,11 +19,11 @@ use cc_words::{Binary, add, sub};
 pub(crate) enum Recipe {
     /// One instruction.
     Direct(RegisterOperation),
-    /// An instruction, then a test whether its result is 0.
+    /// An instruction, then one that tests whether its result is 0.
     ZeroOf(RegisterOperation),
-    /// An instruction with the operands exchanged, then a test whether its result is 0.
+    /// An instruction with the operands exchanged, then one that tests whether its result is 0.
     ZeroOfExchanged(RegisterOperation),
-    /// An instruction, then a test whether its result is not 0.
+    /// An instruction, then one that tests whether its result is not 0.
     NonzeroOf(RegisterOperation),
 }
 
@@ -77,9 +77,9 @@ pub(crate) enum WordRecipe {
     ShiftBy(ShiftOperation, u8),
     /// One instruction on 0 and the register.
     OnZero(RegisterOperation),
-    /// An instruction with an immediate, then a test whether its result is 0.
+    /// An instruction with an immediate, then one that tests whether its result is 0.
     ZeroOfImmediate(ImmediateOperation, u32),
-    /// An instruction with an immediate, then a test whether its result is not 0.
+    /// An instruction with an immediate, then one that tests whether its result is not 0.
     NonzeroOfImmediate(ImmediateOperation, u32),
 }
 
@@ -173,7 +173,7 @@ fn equal_to(word: u32) -> WordRecipe
     }
 }
 
-// The recipe that tests whether a register holds another word than `word`. If `word` is 0, it tests whether the register holds more
+// The recipe that tests whether a register holds a word other than `word`. If `word` is 0, it tests whether the register holds more
 // than 0, unsigned.
 fn unequal_to(word: u32) -> WordRecipe
     ensures answer { result ≡ word_recipe Ne word }

@@ -39,7 +39,8 @@ pub(crate) struct ElementAddress {
     width: Width,
     /// The register that holds the element's number.
     index: u8,
-    /// The other part of the address: the upper part of the object's address, times 4,096, or the global pointer.
+    /// The part of the address that does not depend on the index: the upper part of the object's address, times 4,096, or the global
+    /// pointer.
     sum_base: u32,
 }
 

@@ -118,7 +118,7 @@ fn is_close(from: usize, to: usize) -> bool
     }
 }
 
-// Whether a branch to `label` is near; false if the first table does not have the label; `here` is the number of items from the branch to
+// Whether a branch to `label` is near; false if the first table does not have the label. `here` is the number of items from the branch to
 // the end.
 fn is_near(first: &[usize], here: usize, label: u32) -> bool
     ensures { result ≡ near_behind first.now here label }

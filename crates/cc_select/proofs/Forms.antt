@@ -41,7 +41,7 @@ exponent_word w = omega (arith, trailing_le 32 w)
 shifted : (k v : ℕ) → nat_lt k 32 ≡ true → Some v ≡ (if nat_lt k 32 then Some v else None)
 shifted k v has = sym (ap (λ (b : Bool). if b then Some v else None) has)
 
--- a power of two as a divisor is not 0
+-- a divisor that is a power of two is not 0
 nonzero : (w k v : ℕ) → w ≡ 2 ^ k → (if w == 0 then None else Some v) ≡ Some v
 nonzero w k v e = by (w == 0) refl
   where

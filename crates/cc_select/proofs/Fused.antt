@@ -87,7 +87,7 @@ pub record IsTruth (s : Step) (v : Truth) : Type 0 where
   pub branches : (arity : ℕ → ℕ) (code steps : List Step) (l : Locations) (h : World) (ws : List ℕ) (nonzero : Bool) (n w : ℕ) → value l ≡ Some w
       → does arity code (v.branch nonzero n ∷ steps) l h ws ≡ Goes (at_steps (led nonzero w steps (place code n)) l h ws)
 
--- a branch on whether a word is zero, given the word
+-- a branch on whether a word is zero leads where the truth value says
 zero_led : (b : Bool) (on there : List Step) → (if b then there else on) ≡ led true (truth_value b) on there
 zero_led true on there = refl
 zero_led false on there = refl
@@ -140,7 +140,7 @@ binary_truth o to a b is = record {
   branches = λ arity code steps l h ws nonzero n w e. ap (λ z. tried z (λ v. Goes (at_steps (led nonzero v steps (place code n)) l h ws))) e;
 }
 
--- a branch on whether words differ, given their xor
+-- words whose xor is 0 are the same
 xor_same : (a b : ℕ) → xor a b ≡ 0 → a ≡ b
 xor_same a b e = sym (xor_zero_r a) ∙ ap (λ x. bit_xor a x) (sym (xor_self b)) ∙ sym (xor_assoc a b b) ∙ ap (λ x. bit_xor x b) e ∙ xor_zero_l b
 

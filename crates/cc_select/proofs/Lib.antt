@@ -26,7 +26,7 @@ pub mod Nearing
 pub mod Unread
 -- steps made from steps
 pub mod Making
--- without the constants that nobody reads
+-- without the constants that no step reads
 pub mod Lean
 -- a comparison and its test become one branch
 pub mod Fused

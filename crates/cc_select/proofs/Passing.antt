@@ -230,7 +230,7 @@ fused_some t s b (next ∷ steps) e =
 
 -- ---- the walk
 
--- the steps so far, and what the others become
+-- the steps so far, followed by what the others become, are all the steps
 abbrev pub Joined : Table → (steps : List Step) (at : ℕ) (found : List Step) → Type 0
 Joined t steps at found = found ++ fused t (drop at steps) ≡ fused t steps
 

@@ -26,8 +26,8 @@ forget to k r = if to == r then None else k r
 abbrev pub learn : (register word : ℕ) → Known → Known
 learn to w k r = if to == r then Some w else k r
 
--- what is known after an item; nothing is known after a label, since a run may come there from elsewhere, nor after an item from
--- which a run does not go on to the next one
+-- what is known after an item; nothing is known after a label, since a run may reach it from elsewhere, nor after an item from which a
+-- run does not go on to the next one
 abbrev pub known_behind : LinearItem → Known → Known
 known_behind (Label label) k = unknown
 known_behind (Jump to) k = unknown

@@ -23,7 +23,7 @@ unless r (Some s) = if (r == s.to) || (r == s.from) then None else Some s
 abbrev pub summed : (to from word : ℕ) → Option Sum
 summed to from word = if to == from then None else Some (record { to = to; from = from; word = word })
 
--- the known sum after an item; no sum is known after a label, since a run may come there from elsewhere, nor after a call
+-- the known sum after an item; no sum is known after a label, since a run may reach it from elsewhere, nor after a call
 abbrev pub sum_item : LinearItem → Option Sum → Option Sum
 sum_item (Label label) z = None
 sum_item (Jump to) z = None

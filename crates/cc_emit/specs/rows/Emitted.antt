@@ -309,8 +309,8 @@ on_registers : function_items (λ g. 0) 0 (One (Label 1) ∷ Branch LtS true 10 
     ≡ branch Blt 10 11 0 ∷ branch Bltu 11 10 0xfffffffc ∷ branch Bge 11 10 0xfffffff8 ∷ branch Bne 10 11 0xfffffff4 ∷ []
 on_registers = refl
 
--- comparisons with a word that a comparison with 0 replaces: equal to 0, at least 0, more than 0, the same unsigned, less than 0; less than
--- 1, at most 0, at most -1; less than 1 and at most 0, unsigned; not at least 1, unsigned
+-- comparisons with a word, each replaced by a comparison with 0: equal to 0, at least 0, more than 0, the same unsigned, less than 0; less
+-- than 1, at most 0, at most -1; less than 1 and at most 0, unsigned; not at least 1, unsigned
 against_zero : function_items (λ g. 0) 0
     (One (Label 1) ∷ BranchImmediate immediate.Eq true 10 0 1 ∷ BranchImmediate immediate.GeS true 10 0 1 ∷ BranchImmediate immediate.GtS true 10 0 1 ∷ BranchImmediate immediate.GtU true 10 0 1 ∷ BranchImmediate immediate.LtS true 10 0 1
     ∷ BranchImmediate immediate.LtS true 10 1 1 ∷ BranchImmediate immediate.LeS true 10 0 1 ∷ BranchImmediate immediate.LeS true 10 0xffffffff 1 ∷ BranchImmediate immediate.LtU true 10 1 1 ∷ BranchImmediate immediate.LeU true 10 0 1 ∷ BranchImmediate immediate.GeU false 10 1 1 ∷ [])
@@ -318,7 +318,7 @@ against_zero : function_items (λ g. 0) 0
     ∷ branch Beq 10 0 0xffffffdc ∷ branch Beq 10 0 0xffffffd8 ∷ []
 against_zero = refl
 
--- other comparisons take an instruction into x5 before the branch: equal to 5; less than 5; at least 5; not different from 5
+-- other comparisons need an instruction that sets x5 before the branch: equal to 5; less than 5; at least 5; not different from 5
 on_words : function_items (λ g. 0) 0 (One (Label 1) ∷ BranchImmediate immediate.Eq true 10 5 1 ∷ BranchImmediate immediate.LtS true 10 5 1 ∷ BranchImmediate immediate.GeS true 10 5 1 ∷ BranchImmediate immediate.Ne false 10 5 1 ∷ [])
     ≡ addi 5 10 0xfffffffb ∷ branch Beq 5 0 0xfffffffc ∷ Plain (OpImm Slti 5 10 5) ∷ branch Bne 5 0 0xfffffff4 ∷ Plain (OpImm Slti 5 10 5) ∷ branch Beq 5 0 0xffffffec ∷ addi 5 10 0xfffffffb ∷ branch Beq 5 0 0xffffffe4 ∷ []
 on_words = refl

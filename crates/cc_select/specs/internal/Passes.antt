@@ -24,7 +24,7 @@ abbrev pub is_met : Table → Step → Registers → Bool
 is_met t (One (Label label)) s = within s (t label)
 is_met t step s = true
 
--- a constant stays if something reads it; an operator with a word also stays if the register that it reads is not live then
+-- a constant stays if it is read; an operator with a word also stays if the register that it reads is not live after it
 abbrev pub stays : Step → (behind : Registers) → Bool
 stays (One (Const to word)) s = s to
 stays (Immediate operator to from word) s = s to || not (s from)

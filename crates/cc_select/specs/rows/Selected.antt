@@ -54,7 +54,7 @@ too_great_for_at_most = refl
 all_are_at_most : has_word immediate.LeU (2 ^ 32 - 1) ≡ false
 all_are_at_most = refl
 
--- "more than" only with 0
+-- "more than" can encode only 0
 more_than_one : has_word immediate.GtU 1 ≡ false
 more_than_one = refl
 
@@ -250,7 +250,7 @@ argument = refl
 
 -- ---- branches on constants
 
--- the code at the end: after the test it returns 0, at its label 1
+-- the code at the end: it returns 0 after the test, and 1 at the test's label
 abbrev ends : List LinearItem
 ends = Const 10 0 ∷ Return ∷ Label 1 ∷ Const 10 1 ∷ Return ∷ []
 
@@ -280,7 +280,7 @@ branch_on_another : selected (Const 7 1 ∷ IfNonzero 8 1 ∷ ends) ≡ One (IfN
 unfolding table
 branch_on_another = refl
 
--- after a branch that is taken, the items' words stay known, though no run comes there
+-- after a branch that is certain to be taken, words stay known, though no run gets there
 behind_a_taken_one : selected (Const 7 3 ∷ IfNonzero 7 1 ∷ Load Word 0 10 7 ∷ Return ∷ Label 1 ∷ Return ∷ []) ≡ One (Jump 1) ∷ LoadAt Word 0 10 3 ∷ One Return ∷ One (Label 1) ∷ One Return ∷ []
 unfolding table
 behind_a_taken_one = refl

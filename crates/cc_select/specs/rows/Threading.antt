@@ -1,5 +1,5 @@
--- Worked examples of threading, by computation: a truth value that is tested where it is made, tests that become jumps, and tests that stay
--- where they are.
+-- Worked examples of threading, by computation: a truth value that is tested where it is computed, tests that become jumps, and tests that
+-- stay where they are.
 use Rattle.std.specs.Prelude.{◌≡◌, refl, true, Some, None, List, [], ◌∷◌}
 use Rattle.cc_words.specs.declared.operators.Binary.TheVariants as operators
 use Rattle.cc_ltl.specs.declared.operation.Move.TheVariants.{Between}
@@ -33,7 +33,7 @@ conjunction_threaded : threaded conjunction
     ≡ IfZero 10 1 ∷ Binary operators.LtS 7 11 12 ∷ IfNonzero 7 3 ∷ Jump 2 ∷ Label 1 ∷ Const 7 0 ∷ Jump 2 ∷ Label 2 ∷ Return ∷ Label 3 ∷ Write ∷ Return ∷ []
 conjunction_threaded = refl
 
--- then nothing reads x7: the comparison becomes a branch, and the constant is left out
+-- after threading nothing reads x7: the comparison becomes a branch, and the constant is left out
 conjunction_selected : selected conjunction
     ≡ One (IfZero 10 1) ∷ Branch operators.LtS true 11 12 3 ∷ One (Jump 2) ∷ One (Label 1) ∷ One (Jump 2) ∷ One (Label 2) ∷ One Return ∷ One (Label 3) ∷ One Write ∷ One Return ∷ []
 unfolding table
