@@ -156,7 +156,8 @@ impl BitRows {
         Ok(())
     }
 
-    /// In each row, moves the bit of column `from` to column `to`. If memory runs out, some bits may have moved.
+    /// In each row, moves the bit of column `from` to column `to`. If memory runs out, some bits may have moved, and one may
+    /// be missing.
     pub fn move_column(&mut self, from: usize, to: usize) -> Result<(), AllocError>
         requires { to < 64 * most_width }
         ensures { IfOk result (λ _. (r c : ℕ) → has self.new r c ≡ column_moved from to (has self.old) r c) }
@@ -180,7 +181,7 @@ impl BitRows {
         Ok(())
     }
 
-    /// Moves the bits of row `from` to row `to`. If memory runs out, some bits may have moved.
+    /// Moves the bits of row `from` to row `to`. If memory runs out, some bits may have moved, and some may be missing.
     pub fn move_row(&mut self, from: usize, to: usize) -> Result<(), AllocError>
         requires from { from < most_rows }
         requires to { to < most_rows }

@@ -1,5 +1,4 @@
--- The code of a whole function: its steps, each with how much of its address is known, in the function's
--- frame.
+-- The code of a whole function: its steps in their frame, each with how much of its address is known.
 use Rattle.std.specs.Prelude.{ℕ, ◌+◌, Bool, false, Option, Some, None, List, ◌++◌, length, map}
 use Rattle.cc_c_semantics.specs.Numbered.{objects_in}
 use Rattle.cc_select.specs.Pair as above
@@ -12,7 +11,7 @@ use Rattle.cc_emit.specs.Early.{Early, early}
 use Rattle.cc_emit.specs.Emission.{framed_items}
 use Rattle.cc_emit.specs.Scratch.{nothing, addressed, gains}
 
--- the code of a function with this many slots; `sets_pointer` says whether it sets x3 to the global pointer
+-- the code of a function with this many slots; `sets_pointer` says whether it sets x3
 abbrev pub items_with : (base : ℕ → ℕ) → (sets_pointer : Bool) → (slots : ℕ) → List Step → List PieceItem
 items_with base sets_pointer slots steps = framed_items base (frame_of sets_pointer slots steps) (addressed base sets_pointer nothing steps)
 

@@ -1,4 +1,4 @@
--- A list that lays out a function's blocks does what the blocks do. The list lags: when the blocks have come to the next label,
+-- A list that lays out a function's blocks does what the blocks do. The list lags: when the blocks have reached the next label,
 -- the list may still have to execute the moves after an operation, and a jump.
 use Rattle.std.proofs.Common.{◌≡◌, ℕ, suc, ◌+◌, ◌<◌, ◌≤◌, List, [], ◌∷◌, length, refl, sym, ap, ◌∙◌, subst, ◌⊎◌, inl, inr, arith}
 use Rattle.std.specs.Prelude.{Bool, true, false, cond, ◌==◌, Option, Some, None}

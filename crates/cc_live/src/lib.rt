@@ -1,8 +1,9 @@
 //! Live registers of RTL, and functions without dead nodes.
 //!
 //! A register is live at a label if the word that it holds there may still be read. `liveness` answers the least live sets, one for each
-//! node: what the node reads, and what is live after it except its result. This is a backward dataflow over sets of registers, and the
-//! solver of `cc_flow` solves it. This crate has the sets, as rows of bits, and the step from the set after a node to the one before it.
+//! node: what the node reads, and what is live after it except the node's result. This is a backward dataflow over sets of registers, and
+//! the solver of `cc_flow` solves it. This crate has the sets, as rows of bits, and the step from the set after a node to the one before
+//! it.
 //!
 //! A node is dead if all it does is write a word to a register that is not live after it. `drop_dead` turns such nodes into nops. What only
 //! dead nodes read is then no longer live, so more nodes may be dead. Liveness would have to be computed again, round after round; and two

@@ -85,8 +85,8 @@ pub record IsLtl (ltl : Ltl) : Type 0 where
 abbrev pub Locations : Type 0
 Locations = Location → ℕ
 
--- the state of a run: the label of the next block, the words of the locations, the shared world, and the words that will come
--- in locations whose word is unknown
+-- the state of a run: the label of the next block, the words of the locations, the shared world, and the words that unknown
+-- locations will hold
 pub record Configuration : Type 0 where
   pub label : ℕ
   pub locations : Locations
@@ -177,7 +177,7 @@ abbrev pub ltl_move : (arity : ℕ → ℕ) → Ltl → Configuration → Moving
 ltl_move arity ltl c =
     tried (block_at ltl.blocks c.label) (λ (block : Block). operate arity block.operation block.after (moved block.before c.locations) c.world c.words)
 
--- what is written so far
+-- what has been written so far
 abbrev pub ltl_output : Configuration → List ℕ
 ltl_output c = c.world.output
 

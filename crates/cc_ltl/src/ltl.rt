@@ -42,7 +42,7 @@ impl Model for Ltl {
 impl Ltl {
     /// Makes a function of these parts. Fails and hands the blocks back if the parts make no function: more than 495 slots,
     /// labels that do not ascend, a slot that is not below the number of slots, moves after a branch or a return, or 2^32
-    /// blocks or more. It takes no memory.
+    /// blocks or more. Takes no memory.
     pub fn new(slots: u16, entry: u32, blocks: Vec<Block>) -> Result<Self, Vec<Block>>
         ensures fits { IsOk result ↔ IsLtl (record { slots = slots; entry = entry; blocks = blocks.items }) }
         ensures hands_back { MatchResult result (λ ltl. ltl ≡ record { slots = slots; entry = entry; blocks = blocks.items }) (λ back. back ≡ blocks) }

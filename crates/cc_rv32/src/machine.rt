@@ -37,9 +37,9 @@ impl Model for Machine {
 }
 
 impl Machine {
-    /// Makes a machine with the image in place, before its first instruction. The program counter is 0x00010000, `x2` is
-    /// 0x00800000, all other registers and the stack are 0, and these words are the input. Fails with 40 (OutOfMemory) if memory
-    /// for them, or for the 2.25 MiB of globals and stack, was refused.
+    /// Makes a machine with the image in place, before its first instruction. The program counter is 0x00010000, `x2` is 0x00800000, all
+    /// other registers and the stack are 0, and these words are the input. Fails with 40 (OutOfMemory) if memory for these words, or for
+    /// the 2.25 MiB of globals and stack, was refused.
     pub fn new(alloc: Global, image: &Image, input: &[u32]) -> Result<Self, MachineFault>
         ensures start { IfOk result (λ m. IsAfter image.now input.now 0 m) }
     {

@@ -1,5 +1,4 @@
--- What a row holds after each change, register by register; and what the step over a node computes from what is live
--- after it.
+-- What a row holds after each change, register by register; and what is live before a node, given what is live after it.
 use Rattle.std.proofs.Common.{◌≡◌, ◌≢◌, ℕ, zero, suc, ◌*◌, ◌/◌, ◌%◌, ◌^◌, ◌<◌, List, [], ◌∷◌, ◌++◌, length, replicate, get_or, refl, sym, ap, ◌∙◌, subst, Bool, true, false, ◌==◌, ◌&&◌, ◌||◌, not, if◌then◌else◌, IsTrue, arith, inl, inr, ◌⊎◌, Contains}
 use Rattle.std.specs.Prelude.{Option, Some, None}
 use Rattle.std.specs.Int.{bit_at}
@@ -168,7 +167,7 @@ module _ (strong : Bool) (n : Node) (row : List ℕ) where
   abbrev pub drops : Bool
   drops = strong && is_unread row (pure_result n)
 
-  -- what is live before a node was read by the node, if that is not left out, or was live after it and is not its result
+  -- a register live before a node is read by it, if the node is not left out, or is live after it and is not its result
   pub live_before_cases : (r : ℕ) → IsTrue (holds (live_before strong n row) r) → ((drops ≡ false) × Contains (reads n) r) ⊎ (IsTrue (holds row r) × (result n ≢ Some r))
   live_before_cases r h = go drops refl h
     where
