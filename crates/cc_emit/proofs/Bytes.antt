@@ -22,7 +22,7 @@ same_tells Word Byte e = absurd (cc)
 abbrev pub byte_in : (w k : ℕ) → ℕ
 byte_in w k = w / 2 ^ (8 * k) % 2 ^ 8
 
--- a byte that is put into a word is found there
+-- a byte that is put into a word is found in it
 pub byte_same : (w v k : ℕ) → k < 4 → byte_in (with_part w (8 * k) 8 v) k ≡ v % 2 ^ 8
 byte_same w v zero lt = omega arith
 byte_same w v (suc zero) lt = omega arith
@@ -64,7 +64,7 @@ byte_word w v (suc (suc (suc (suc k)))) lt b = absurd (omega arith)
 
 -- ---- an element stored
 
--- a load of a stored element gives what the element's width keeps of the value
+-- a load of a stored element yields what the element's width keeps of the value
 pub loaded_same : (w : Width) (m : ℕ → ℕ) (a v : ℕ) → loaded (load_of w) (stored (store_of w) m a v) a ≡ kept w v
 loaded_same Byte m a v = ap (λ n. byte_in n (a % 4)) (word_same m (a - a % 4) (with_part (m (a - a % 4)) (8 * (a % 4)) 8 v)) ∙ byte_same (m (a - a % 4)) v (a % 4) (omega arith)
 loaded_same Word m a v = word_same m a v

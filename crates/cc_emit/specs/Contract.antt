@@ -41,7 +41,7 @@ store_of Word = Sw
 abbrev pub element_place : Width → (base index : ℕ) → ℕ
 element_place width base index = base + bytes width * index
 
--- the number of words that an object takes
+-- the number of words that an object occupies
 abbrev pub size_words : Size → ℕ
 size_words s = words_of s.width s.elements
 
@@ -154,7 +154,7 @@ pub record ComesBack {objects : List Size} (layout : ObjectLayout objects) (s : 
   pub kept : (r : ℕ) → IsKept r → t.registers r ≡ s.registers r
   pub above : (a : ℕ) → s.registers 2 ≤ a → t.memory a ≡ s.memory a
 
--- The machine, starting from s, does what the source does within n steps; `left` of them are left if the source gives an answer. Each of
+-- The machine, starting from s, does what the source does within n steps; `left` of them are left if the source returns an answer. Each of
 -- the m instructions pays for at most c of the steps taken; at most `spare` steps are paid for elsewhere. So more instructions are executed
 -- for a greater n, and a run that never ends is matched by one that never ends.
 abbrev pub Meets : {objects : List Size} (layout : ObjectLayout objects) → Code → (c spare n : ℕ) → State → Effect → Type 0

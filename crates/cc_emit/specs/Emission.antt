@@ -245,8 +245,8 @@ word_recipe_items (ZeroOfImmediate o n) to a = Plain (first_instr (ZeroOfImmedia
 word_recipe_items (NonzeroOfImmediate o n) to a = Plain (first_instr (NonzeroOfImmediate o n) 5 a) ∷ Plain (instr.Op operation.Sltu to 0 5) ∷ []
 word_recipe_items recipe to a = Plain (first_instr recipe to a) ∷ []
 
--- a branch on a register and a word, by the recipe of the comparison: the register is compared with x0 if that has the same result, else x5
--- is, after the recipe's first instruction
+-- a branch on a register and a word, by the recipe of the comparison: a comparison of the register with x0 if that has the same result,
+-- else one of x5 with x0 after the recipe's first instruction
 abbrev pub word_branch_items : (alone : Option Condition) → WordRecipe → (near nonzero : Bool) → (from place to : ℕ) → List PieceItem
 word_branch_items (Some c) recipe near nonzero a place to = branch_items near (turned nonzero c) place to
 word_branch_items None recipe near nonzero a place to = Plain (first_instr recipe 5 a) ∷ branch_items near (turned nonzero (compares (asked_of recipe) 5 0)) (place + 1) to

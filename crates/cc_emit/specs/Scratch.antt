@@ -173,7 +173,7 @@ addressed base sets_pointer k (step ∷ steps) = with_known base sets_pointer k 
 
 -- ---- whether a function gains by x3
 
--- the number of instructions that the access of a step takes, if it has one
+-- the number of instructions that the access of a step needs, if the step has one
 abbrev pub step_access_size : Remembered → Step → ℕ
 step_access_size known (One (Load width object to index)) = access_size known width
 step_access_size known (One (Store width object index from)) = access_size known width
@@ -219,12 +219,12 @@ abbrev pub labels_past : Option ℕ → List ℕ → List ℕ
 labels_past None labels = labels
 labels_past (Some label) labels = label ∷ labels
 
--- the number of instructions that the accesses of these steps take, each multiplied by its weight
+-- the number of instructions that the accesses of these steps need, each multiplied by its weight
 abbrev pub accesses_size : (base : ℕ → ℕ) → (sets_pointer : Bool) → Scratch → (labels : List ℕ) → List Step → ℕ
 accesses_size base sets_pointer k labels [] = 0
 accesses_size base sets_pointer k labels (step ∷ steps) =
     weight labels (step ∷ steps) * step_access_size (remembered base sets_pointer k step) step + accesses_size base sets_pointer (behind_step base sets_pointer step k) (labels_past (label_of_step step) labels) steps
 
--- whether the accesses take fewer instructions with x3, including those that set it
+-- whether the accesses need fewer instructions with x3, including those that set it
 abbrev pub gains : (base : ℕ → ℕ) → List Step → Bool
 gains base steps = nat_lt (pointer_size true + accesses_size base true nothing [] steps) (accesses_size base false nothing [] steps)

@@ -1,4 +1,4 @@
-// A step, and how much of the address that it accesses the machine's registers already hold. The number of items that the step takes
+// A step, and how much of the address that it accesses the machine's registers already hold. The number of items that the step needs
 // depends on both.
 
 use cc_select::Step;

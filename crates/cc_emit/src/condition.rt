@@ -50,7 +50,7 @@ impl Condition {
         if nonzero { self } else { self.opposite() }
     }
 
-    /// The condition under which a comparison of two registers gives 1.
+    /// The condition under which a comparison of two registers yields 1.
     pub(crate) fn of_comparison(operator: Binary, left: u8, right: u8) -> Condition
         requires left { left < 32 }
         requires right { right < 32 }

@@ -7,7 +7,7 @@ use crate::instructions::{ZERO, add_immediate, high, load_upper, low, put};
 use crate::item::PieceItem;
 use std::alloc::AllocError;
 
-/// The number of items that a constant takes: 1 or 2.
+/// The number of items that a constant needs: 1 or 2.
 pub(crate) fn constant_size(word: u32) -> usize
     ensures answer { result ≡ const_size word }
     ensures few { result ≤ 2 }

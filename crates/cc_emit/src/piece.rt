@@ -129,7 +129,7 @@ impl Piece {
         self.items.as_slice()
     }
 
-    /// Drops the piece and gives back its unit.
+    /// Drops the piece and returns its unit.
     pub fn into_unit(self) -> Arc<TypedUnit>
         ensures answer { arc_value result ≡ self.unit }
     {

@@ -56,7 +56,7 @@ impl Recipe {
         }
     }
 
-    /// The number of items that the recipe takes.
+    /// The number of items that the recipe needs.
     pub(crate) fn size(self) -> usize
         ensures answer { result ≡ recipe_size self }
         ensures few { result ≤ 2 }
@@ -120,7 +120,7 @@ impl WordRecipe {
         }
     }
 
-    /// The number of items that the recipe takes.
+    /// The number of items that the recipe needs.
     pub(crate) fn size(self) -> usize
         ensures answer { result ≡ word_recipe_size self }
         ensures few { result ≤ 2 }

@@ -1,7 +1,7 @@
 // What the scratch registers hold within straight-line code. An access leaves in `x6` the upper part of an address, and in `x5` the address
 // of an element, minus the lower part of its object's address or minus the object's distance from `x3`. Later accesses use what they need
 // of these. What the registers hold is forgotten at a label and at a call; the element's address is also forgotten if its index register is
-// written or `x5` is used. An access from `x3`, the global pointer, needs no upper part. A function sets `x3` if its accesses then take
+// written or `x5` is used. An access from `x3`, the global pointer, needs no upper part. A function sets `x3` if its accesses then need
 // fewer instructions, including those that set it; accesses in loops count eight times.
 
 ghost use Rattle.std.specs.Prelude.{◌≡◌, ◌≤◌, ◌<◌, ◌^◌, Bool, [], length, if◌then◌else◌, IfOk};
@@ -400,7 +400,7 @@ fn sum_base(known: Remembered, base: u32) -> u32
     }
 }
 
-// The number of instructions that the access of a step takes: at most 4, and 0 if the step has no access.
+// The number of instructions that the access of a step needs: at most 4, and 0 if the step has no access.
 fn step_access_size(known: Remembered, step: Step) -> usize
     ensures answer { result ≡ step_access_size known step }
     ensures few { result ≤ 4 }
@@ -425,7 +425,7 @@ fn weight(in_loop: bool) -> usize
     if in_loop { LOOP_WEIGHT } else { 1 }
 }
 
-// The steps of a function, each with how much of its address the registers hold, and the number of instructions that their accesses take
+// The steps of a function, each with how much of its address the registers hold, and the number of instructions that their accesses need
 // together, each multiplied by its weight.
 #[derive(Drop)]
 struct Walked {
@@ -434,7 +434,7 @@ struct Walked {
 }
 
 // The steps of a function, each with how much of its address the registers hold; `bases` has the objects' addresses, `sets_pointer` says
-// whether `x3` is the global pointer, `last` says which steps are in loops. Their accesses take at most 2^61 instructions.
+// whether `x3` is the global pointer, `last` says which steps are in loops. Their accesses need at most 2^61 instructions.
 fn walk(
     alloc: Global,
     bases: &Bases,
@@ -466,7 +466,7 @@ fn walk(
 }
 
 /// The steps of a function, each with how much of its address the registers hold, and whether the function sets `x3` to the global pointer.
-/// The function sets `x3` if its accesses then take fewer instructions, including the two that set `x3`; accesses in loops count eight
+/// The function sets `x3` if its accesses then need fewer instructions, including the two that set `x3`; accesses in loops count eight
 /// times. `bases` has the objects' addresses; the labels are below `count`.
 pub(crate) fn addressed(
     alloc: Global,

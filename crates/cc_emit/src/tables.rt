@@ -1,6 +1,6 @@
-// The places of labels. A place is given as the number of items from there to the end, so a table of labels is filled from the back, and
-// each sum is known when it is needed. The first table counts each branch in its long form, and decides which branches are near. The second
-// has the places with each branch at its final length.
+// The places of labels. A place is given as the number of items from the place to the end, so a table of labels is filled from the back,
+// and each sum is known when it is needed. The first table counts each branch in its long form, and decides which branches are near. The
+// second has the places with each branch at its final length.
 
 ghost use Rattle.std.specs.Prelude.{◌≡◌, ◌≤◌, ◌<◌, ◌^◌, length, get_or, ℕ, List, [], ◌∷◌, false, IfOk};
 ghost use Rattle.std.specs.List.{AllByRecursion};
@@ -157,7 +157,7 @@ pub(crate) fn known_access_size(known: Remembered) -> usize
     }
 }
 
-// The number of items that an item of Linear takes if each branch is long: at most 15.
+// The number of items that an item of Linear needs if each branch is long: at most 15.
 fn long_size_of_one(frame: &Frame, known: Remembered, item: &LinearItem) -> usize
     ensures answer { result ≡ size_of_one frame.now (λ label. false) known item.now }
     ensures few { result ≤ 15 }
@@ -181,7 +181,7 @@ fn long_size_of_one(frame: &Frame, known: Remembered, item: &LinearItem) -> usiz
     }
 }
 
-// The number of items that a long branch on a register and a word takes: 2 or 3.
+// The number of items that a long branch on a register and a word needs: 2 or 3.
 fn long_word_branch_size(recipe: WordRecipe, from: u8) -> usize
     requires { from < 32 }
     ensures answer { result ≡ word_branch_size (against_zero recipe from) false }
@@ -193,7 +193,7 @@ fn long_word_branch_size(recipe: WordRecipe, from: u8) -> usize
     }
 }
 
-/// The number of items that a step takes if each branch is long: at most 15.
+/// The number of items that a step needs if each branch is long: at most 15.
 pub(crate) fn long_size(frame: &Frame, step: &Addressed) -> usize
     ensures answer { result ≡ long_size frame.now step.now }
     ensures few { result ≤ 15 }
@@ -215,8 +215,8 @@ pub(crate) fn long_size(frame: &Frame, step: &Addressed) -> usize
     }
 }
 
-// The number of items of a step: `long`, which it takes if each branch is long, or one less if it is a near branch. `here` is the number of
-// items from the step to the end.
+// The number of items of a step: `long`, which is the number if each branch is long, or one less if the step is a near branch. `here` is
+// the number of items from the step to the end.
 fn size(frame: &Frame, first: &[usize], here: usize, long: usize, step: &Addressed) -> usize
     requires long { long ≡ long_size frame.now step.now }
     requires few { long ≤ 15 }

@@ -11,7 +11,7 @@
 //! Facts never exceed a solution that they were below, so the result is below every solution. If code is numbered along its flow,
 //! it is visited from its end to its start, and a node without a loop after it only once.
 //!
-//! Cost: a visit takes one application of the transfer, the joins of the successors' facts and one more join. A rise wakes only
+//! Cost: a visit needs one application of the transfer, the joins of the successors' facts and one more join. A rise wakes only
 //! the nodes that lead to the node that rose, each in time logarithmic in the number of nodes that wait.
 #![tactic(auto)]
 

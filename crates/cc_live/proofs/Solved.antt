@@ -42,7 +42,7 @@ behind_is ns facts i n e r = ap (λ row. holds (joined nothing either facts row)
 pub graph_length : (ns : List Labelled) → length (graph_of ns) ≡ length ns
 graph_length ns = length-map ns (λ (n : Labelled). map (position_of ns) (successors n.node))
 
--- ---- a solution gives live sets
+-- ---- a solution yields live sets
 
 pub solved : (strong : Bool) (ns : List Labelled) (rows : List (List ℕ)) → SolvesBy strong ns (facts_at nothing rows) → AreLiveAs strong ns (rows_at ns rows)
 solved strong ns rows solves label node e =
@@ -106,7 +106,7 @@ module _ (strong : Bool) (rtl : Rtl) (is : IsRtl rtl) (other : Sets) (live : Are
           let both = in_those (other (label_at rtl.nodes (position_of rtl.nodes label))) (bound rtl.nodes) r (under (cut rtl.nodes other) cut_solves (position_of rtl.nodes label) r h) in
           subst (λ l. IsTrue (other l r)) (label_of_position rtl.nodes label (subst IsSome (sym e) refl)) both.1
 
--- the solution that lies below every other gives the least live sets
+-- the solution that lies below every other yields the least live sets
 pub least_solved : (strong : Bool) (rtl : Rtl) → IsRtl rtl → (rows : List (List ℕ)) → length rows ≡ length rtl.nodes → SolvesBy strong rtl.nodes (facts_at nothing rows)
     → ((facts : ℕ → List ℕ) → SolvesBy strong rtl.nodes facts → LiesUnder Below (facts_at nothing rows) facts) → AreLeastAs strong rtl.nodes (rows_at rtl.nodes rows)
 least_solved strong rtl is rows long solves under = record {

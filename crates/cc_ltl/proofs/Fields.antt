@@ -73,7 +73,7 @@ pub record Takes (bytes text rest : List ℕ) : Type 0 where
 Takes-then : (a x b y c : List ℕ) → Takes a x b → Takes b y c → Takes a (x ++ y) c
 Takes-then a x b y c p q = record { parts = p.parts ∙ ap (λ (t : List ℕ). x ++ t) q.parts ∙ sym (append_assoc x y c); are = q.are }
 
--- a field: reading takes what writing gives, and each good value that was written is read again
+-- a field: reading consumes what writing produces, and each good value that was written is read again
 pub record IsField {X : Type 0} (read : Reader X) (write : X → List ℕ) (Good : X → Type 0) : Type 0 where
   pub takes : (bytes : List ℕ) (x : X) (rest : List ℕ) → AreBytes bytes → read bytes ≡ Some (x, rest) → Takes bytes (write x) rest
   pub again : (x : X) (rest : List ℕ) → Good x → read (write x ++ rest) ≡ Some (x, rest)

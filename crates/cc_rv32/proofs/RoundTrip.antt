@@ -1,5 +1,5 @@
--- Decoding the word of an instruction gives the instruction, and encoding the instruction of a word gives the word. If a word is
--- made of some fields, they are its fields: this is linear arithmetic. The rest follows from the table by computation.
+-- Decoding the word of an instruction yields the instruction, and encoding the instruction of a word yields the word. If a word
+-- is made of some fields, they are its fields: this is linear arithmetic. The rest follows from the table by computation.
 use Rattle.std.proofs.Common.{◌≡◌, ℕ, ◌+◌, ◌*◌, ◌%◌, ◌^◌, ◌<◌, Some, refl, ap, ◌∙◌, lit<, arith}
 use Rattle.std.proofs.lemmas.Bool.Decides.{nat_tests}
 use Rattle.cc_rv32.specs.declared.instr.Instr.{Instr}
@@ -263,7 +263,7 @@ ecall_instruction : instruction_of 0x73 ≡ Some Ecall
 unfolding instruction_of
 ecall_instruction = refl
 
--- decoding the word of an instruction gives the instruction
+-- decoding the word of an instruction yields the instruction
 pub decoded : (i : Instr) → IsEncodable i → instruction_of (encoding_of i) ≡ Some i
 unfolding encoding_of
 decoded (Op o d s1 s2) h = operation_instruction _ o d s1 s2 (HasFields-fields_word 0x33 d _ s1 s2 _ (lit< tt) h.0 (operation_below o).0 h.1 h.2 (operation_below o).1)

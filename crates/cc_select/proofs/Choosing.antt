@@ -112,7 +112,7 @@ module _ (arity : ℕ → ℕ) (code : List LinearItem) where
       by None = tt
       by (Some v) = b v
 
-  -- if both runs compute the same word, they do the same when they write it to a register
+  -- if both runs compute the same word, they stay alike when they write it to a register
   put_alike : (x y : Option ℕ) (to : ℕ) (k : Known) (is : List LinearItem) (l : Locations) (h : World) (ws : List ℕ) → Holds k l → x ≡ y
       → Both (tried x (λ w. Goes (at_items is (put (Register to) w l) h ws))) (tried y (λ w. Goes (at_steps (chosen (forget to k) is) (put (Register to) w l) h ws)))
   put_alike x y to k is l h ws p e =

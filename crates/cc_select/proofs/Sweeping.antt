@@ -231,7 +231,7 @@ settled_more : (n : ℕ) (t : Table) (code : List Step) → 0 < n → settled_in
 settled_more zero t code lt = absurd (omega arith)
 settled_more (suc n) t code lt = (let e : n ≡ suc n - 1 = omega arith in ap (λ k. if fits (swept_rows t code) code then swept_rows t code else settled_in k (swept_rows t code) code) e)
 
--- `left` more sweeps, starting from `table`, give the wanted table
+-- `left` more sweeps, starting from `table`, yield the wanted table
 pub record Settling (steps : List Step) (wanted : Table) (left : ℕ) (table : rows.LiveTable) (behind : List bits.Registers) : Type 0 where
   pub long : length behind ≡ length steps
   pub from : Table

@@ -357,7 +357,7 @@ module _ (code : List LinearItem) (ts : Tests) (stands : (n : ℕ) (t : LinearIt
             related = inl on_at_label;
           }
 
-      -- the old run comes to the label and makes the test there
+      -- the old run reaches the label and makes the test
       enters : (items : List LinearItem) (m : ℕ) (d : Configuration) → place code n ≡ Label n ∷ items → new d ≡ does arity made (way k t n ∷ Label n ∷ threaded_by ts unknown true items) l h ws → Owes (does arity code items l h ws) m h d
       enters items m d at moves =
           let q : items ≡ t ∷ rest = behind_label n t items e at in

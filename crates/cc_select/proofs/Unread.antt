@@ -126,7 +126,7 @@ module _ (arity : ℕ → ℕ) (code : List Step) (at : ℕ → Registers) (sett
       by None = tt
       by (Some v) = b v
 
-  -- if both runs compute the same word, they do the same when they write it to a register
+  -- if both runs compute the same word, they stay alike when they write it to a register
   made_alike : (x y : Option ℕ) (to : ℕ) (ss : List Step) (l k : Locations) (h : World) (ws : List ℕ) → x ≡ y → Agree (without to (live at ss)) l k
       → Both (tried x (λ w. Goes (at_steps ss (put (Register to) w l) h ws))) (tried y (λ w. Goes (at_steps ss (put (Register to) w k) h ws)))
   made_alike x y to ss l k h ws e g = tried_alike x y (λ w. Goes (at_steps ss (put (Register to) w l) h ws)) (λ w. Goes (at_steps ss (put (Register to) w k) h ws)) e (λ v. same ss _ _ h ws (put_agrees to v v (live at ss) l k refl g))

@@ -122,8 +122,8 @@ immediate_of operators.DivU w = if_power w (ShrU, exponent w)
 immediate_of operators.RemU w = if_power w (And, w - 1)
 immediate_of operator w = None
 
--- the form with the word on the left: the same if the order of operands makes no difference; "the word is less than the register's" is "the
--- register's is more than the word"
+-- the form with the word on the left: as on the right if the order of operands makes no difference; "the word is less than the register's"
+-- is "the register's is more than the word"
 abbrev pub immediate_of_left : binary.Binary → (word : ℕ) → Option Form
 immediate_of_left operators.Add w = Some (Add, w)
 immediate_of_left operators.And w = Some (And, w)
@@ -148,7 +148,7 @@ is_comparison operators.LeS = true
 is_comparison operators.LeU = true
 is_comparison o = false
 
--- whether a branch on a comparison with the word takes fewer instructions than the comparison and a branch on its value: one if the
+-- whether a branch on a comparison with the word needs fewer instructions than the comparison and a branch on its value: one if the
 -- comparison is with 0, and for others two instead of three
 abbrev pub gains : WordOperator → (word : ℕ) → Bool
 gains Eq w = true

@@ -1,5 +1,5 @@
 -- Which registers are live: those that may be read on some path before they are written. Each call counts as reading x10 to x17. A
--- table gives the registers that are live at each label.
+-- table has the registers that are live at each label.
 use Rattle.std.specs.Prelude.{ℕ, Bool, false, not, ◌&&◌, ◌||◌, ◌==◌, nat_le, List, [], ◌∷◌}
 use Rattle.cc_simulation.specs.Unknown.{survives}
 use Rattle.cc_ltl.specs.declared.operation.Move.{Move}

@@ -57,7 +57,7 @@ truth_of (One (Unary IsZero to a)) = Some (record { register = to; branch = λ n
 -- words are equal exactly if their xor is 0: this is how C's == and != arrive here
 truth_of (One (Binary Xor to a b)) = Some (record { register = to; branch = λ nonzero n. Branch Ne nonzero a b n })
 truth_of (One (Binary o to a b)) = if_so (is_comparison o) (record { register = to; branch = λ nonzero n. Branch o nonzero a b n })
--- a comparison with a word, if the branch takes fewer instructions
+-- a comparison with a word, if the branch needs fewer instructions
 truth_of (Immediate o to a w) = if_so (gains o w) (record { register = to; branch = λ nonzero n. BranchImmediate o nonzero a w n })
 truth_of step = None
 

@@ -100,7 +100,7 @@ pub(crate) fn is_comparison(operator: Binary) -> bool
     )
 }
 
-/// Whether a branch on a comparison by this operator with the word takes fewer instructions than the comparison and a branch on
+/// Whether a branch on a comparison by this operator with the word needs fewer instructions than the comparison and a branch on
 /// its value.
 pub(crate) fn gains(operator: WordOperator, word: u32) -> bool
     ensures { result ≡ gains operator word }

@@ -1,4 +1,4 @@
--- Reading a function from left to right: each field gives a value and the bytes after it, or nothing.
+-- Reading a function from left to right: each field yields a value and the bytes after it, or nothing.
 use Rattle.std.specs.Prelude.{◌≡◌, ℕ, zero, suc, ◌&&◌, List, [], ◌∷◌, length, take, drop, Option, Some, None, Result, Ok, Err, slice_get, nat_lt, nat_le, ◌==◌, if◌then◌else◌}
 use Rattle.std.specs.Option.{option_map}
 use Rattle.std.specs.Int.{w16, w32, from_le_bytes}
@@ -33,7 +33,7 @@ Gives view (Err OutOfMemory) read = Unit {0}
 abbrev pub Reads : {A : Type 0} → Option (A × List ℕ) → Option A → List ℕ → Type 0
 Reads read result after = option_map (λ x. (x, after)) result ≡ read
 
--- a reader of a value gives the value and the bytes after it, or nothing
+-- a reader of a value yields the value and the bytes after it, or nothing
 abbrev pub Reader : Type 0 → Type 0
 Reader A = List ℕ → Option (A × List ℕ)
 
@@ -80,7 +80,7 @@ unary_operators = Neg ∷ Complement ∷ IsZero ∷ []
 abbrev pub binary_operators : List BinaryOperator
 binary_operators = Add ∷ Sub ∷ Mul ∷ DivS ∷ DivU ∷ RemS ∷ RemU ∷ Shl ∷ ShrS ∷ ShrU ∷ And ∷ Or ∷ Xor ∷ Eq ∷ Ne ∷ LtS ∷ LtU ∷ LeS ∷ LeU ∷ []
 
--- reads the position of an element in a list, as one byte, and gives the element
+-- reads the position of an element in a list, as one byte, and returns the element
 abbrev pub one_of : {A : Type 0} → List A → Reader A
 one_of xs bytes = byte_in bytes >>= λ b. slice_get xs b.0 >>= λ x. Some (x, b.1)
 

@@ -224,7 +224,7 @@ long_mask = refl
 
 -- ---- what is forgotten
 
--- words are forgotten at a label, since runs come to it from elsewhere
+-- words are forgotten at a label, since runs reach it from elsewhere
 at_a_label : selected (Const 7 3 ∷ Label 1 ∷ Load Word 0 10 7 ∷ Return ∷ []) ≡ One (Const 7 3) ∷ One (Label 1) ∷ One (Load Word 0 10 7) ∷ One Return ∷ []
 unfolding table
 at_a_label = refl
