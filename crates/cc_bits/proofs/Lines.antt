@@ -163,7 +163,7 @@ nowhere_moved width from to at target words a t = record {
   moved = none_moved from to (bit width words);
 }
 
--- one more row; it is one of the table's rows, so the new bit lies before their end
+-- one more row, which is one of the table's rows, so the new bit lies before the end of the rows
 module _ (r width from to at target : ℕ) (old now next : List ℕ) (h : MovedTo r width from to at target old now) (f : from < 64 * width) (t : to < 64 * width) where
   -- a row that has a word is among the rows that hold the words
   inside : (many : ℕ) → length now ≤ width * many → at < length now → r < many

@@ -354,7 +354,7 @@ abbrev pub uppered : Remembered → State → ℕ → State
 uppered Nothing s b = record s { pc = s.pc + 4; registers = with_register s.registers 6 (high b * 2 ^ 12) }
 uppered known s b = s
 
--- the state after the sum of a base in one register and a distance in another goes into x5
+-- the state after the sum of a base in one register and a distance in another is written to x5
 abbrev pub added : State → (base distance : ℕ) → State
 added s q r = record s { pc = s.pc + 4; registers = with_register s.registers 5 (add (s.registers r) (s.registers q)) }
 

@@ -150,7 +150,7 @@ branches _ = λ v. refl
 
 -- ---- a step joined with the test after it
 
--- a branch in place of a step and the test, or the step
+-- a branch in place of a step and the test after it, or the step unchanged
 abbrev put_branch : Option Step → Step → (done : List Step) → List Step
 put_branch None s done = s ∷ done
 put_branch (Some b) s done = b ∷ behind done

@@ -330,7 +330,7 @@ module _ (code : List LinearItem) (ts : Tests) (stands : (n : ℕ) (t : LinearIt
       by_jump_on : (d : Configuration) → leads t l ≡ false → new d ≡ Goes (at_items (place made n) l h ws) → Moves (led (leads t l)) d
       by_jump_on d q m = subst (λ b. Moves (led b) d) (sym q) (advance (led false) (at_items (place made n) l h ws) d m on_at_label)
 
-      -- the test, and the label after it
+      -- the new run makes the test that comes before the label
       entered : (d : Configuration) → new d ≡ does arity made (way k t n ∷ Label n ∷ threaded_by ts unknown false rest) l h ws → Moves (led (leads t l)) d
       entered d =
           way_gives (λ w. new d ≡ does arity made (w ∷ Label n ∷ threaded_by ts unknown false rest) l h ws → Moves (led (leads t l)) d) k l holds n t is (by_jump_there d) (by_jump_on d)
@@ -340,7 +340,7 @@ module _ (code : List LinearItem) (ts : Tests) (stands : (n : ℕ) (t : LinearIt
           by true m = advance (led true) _ d m there
           by false m = advance (led false) _ d m (on (Label n ∷ threaded_by ts unknown false rest) refl)
 
-      -- the test, and the jump to the label after it
+      -- the new run makes the test that comes before a jump to the label
       passed : (d : Configuration) (behind : List LinearItem) → new d ≡ does arity made (before_jump (way k t n) n ++ behind) l h ws → Moves (led (leads t l)) d
       passed d behind =
           way_gives (λ w. new d ≡ does arity made (before_jump w n ++ behind) l h ws → Moves (led (leads t l)) d) k l holds n t is (by_jump_there d) (by_jump_on d)

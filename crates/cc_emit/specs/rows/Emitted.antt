@@ -309,8 +309,8 @@ on_registers : function_items (λ g. 0) 0 (One (Label 1) ∷ Branch LtS true 10 
     ≡ branch Blt 10 11 0 ∷ branch Bltu 11 10 0xfffffffc ∷ branch Bge 11 10 0xfffffff8 ∷ branch Bne 10 11 0xfffffff4 ∷ []
 on_registers = refl
 
--- comparisons with a word, each replaced by a comparison with 0: equal to 0, at least 0, more than 0, the same unsigned, less than 0; less
--- than 1, at most 0, at most -1; less than 1 and at most 0, unsigned; not at least 1, unsigned
+-- comparisons with a word, each replaced by a comparison with 0: equal to 0, at least 0, more than 0, also unsigned, less than 0; less than
+-- 1, at most 0, at most -1; less than 1 and at most 0, unsigned; not at least 1, unsigned
 against_zero : function_items (λ g. 0) 0
     (One (Label 1) ∷ BranchImmediate immediate.Eq true 10 0 1 ∷ BranchImmediate immediate.GeS true 10 0 1 ∷ BranchImmediate immediate.GtS true 10 0 1 ∷ BranchImmediate immediate.GtU true 10 0 1 ∷ BranchImmediate immediate.LtS true 10 0 1
     ∷ BranchImmediate immediate.LtS true 10 1 1 ∷ BranchImmediate immediate.LeS true 10 0 1 ∷ BranchImmediate immediate.LeS true 10 0xffffffff 1 ∷ BranchImmediate immediate.LtU true 10 1 1 ∷ BranchImmediate immediate.LeU true 10 0 1 ∷ BranchImmediate immediate.GeU false 10 1 1 ∷ [])
