@@ -1,4 +1,5 @@
--- What x3 and the scratch registers hold on the machine: each remembered word is there, and a change of another register leaves it.
+-- What x3 and the scratch registers hold on the machine: each remembered word is there, and a change of another register does not
+-- change it.
 use Rattle.std.proofs.Common.{◌≡◌, ℕ, ◌+◌, ◌*◌, ◌%◌, ◌^◌, ◌-◌, ◌<◌, ◌≤◌, Bool, true, false, Option, Some, None, refl, sym, ap, ◌∙◌, inl, inr, arith}
 use Rattle.std.specs.Prelude.{if◌then◌else◌, ◌==◌, ◌&&◌, nat_le, nat_lt}
 use Rattle.std.proofs.lemmas.Bool.Decides.{nat_tests}

@@ -115,8 +115,8 @@ largest_frame = 2032
 abbrev pub most_open : ℕ
 most_open = 1024
 
--- A call of the function f has enough bytes: for its frame, and in each call that its items make, for its frame plus what the called
--- function has. So `need` may be exact or more; for example `largest_frame` for each call that the limit still allows.
+-- A call of the function f has enough bytes: those of its frame, and for each call that its items make, those of its frame and of the
+-- called function. So `need` may be exact or more; for example `largest_frame` for each call that the limit still allows.
 pub record IsEnough (need : (function opened : ℕ) → ℕ) (f frame : ℕ) (items : List PieceItem) : Type 0 where
   pub own : (opened : ℕ) → opened < most_open → frame ≤ need f opened
   pub calls : (opened : ℕ) → opened < most_open → EachCalled (λ g. frame + need g (suc opened) ≤ need f opened) items

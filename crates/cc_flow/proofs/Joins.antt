@@ -87,7 +87,7 @@ module _ {F : Type 0} (below : F → F → Type 0) (bottom : F) (lub : F → F �
         | inr n ↦ elim (done l within) [ inl w ↦ inl (others_wait flags node l n ∙ w) | inr s ↦ inr s ]
       ]
 
-      -- after a node rose, and if all nodes that read it wait, each node waits or is settled
+      -- after a node rose, each node waits or is settled, if all nodes that read the risen node wait
       pub done_risen : (flags flags' : List Bool) (facts : List F) (node : ℕ) (new : F) → node < length facts → below (carried bottom lub carries graph (facts_at bottom facts) node) new
           → ((l : ℕ) → waits (set flags node false) l ≡ true → waits flags' l ≡ true) → ((l : ℕ) → Contains (successors_of graph l) node → waits flags' l ≡ true)
           → IsDone flags facts → IsDone flags' (set facts node new)

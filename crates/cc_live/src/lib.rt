@@ -11,8 +11,8 @@
 //! nothing of what it reads. The least strongly live sets show all dead nodes at once. They are also the least live sets of what is left,
 //! in which no node is dead.
 //!
-//! `set` has a set of registers, and one such set for each node, `transfer` the step over a node and what the solver answers, `live` and
-//! `dead` the calls.
+//! `set` has a set of registers, and one such set for each node; `transfer` has the step over a node, and what the solver answers; `live`
+//! and `dead` have the calls.
 #![tactic(auto)]
 
 mod dead;

@@ -199,7 +199,7 @@ immediate_truth o to a w gains = record {
   branches = λ arity code steps l h ws nonzero n u e. ap (λ z. tried z (λ v. Goes (at_steps (led nonzero v steps (place code n)) l h ws))) e;
 }
 
--- a property of the branch for the word that a step computes, if there is such a branch
+-- if `if_so b u` is `v`, and `u` has a property if b is true, `v` has that property
 if_is : (P : Truth → Type 0) (b : Bool) (u v : Truth) → (b ≡ true → P u) → if_so b u ≡ Some v → P v
 if_is P true u v p e = let q : u ≡ v = cc in subst P q (p refl)
 if_is P false u v p e = none_some v e

@@ -257,7 +257,7 @@ ends = Const 10 0 ∷ Return ∷ Label 1 ∷ Const 10 1 ∷ Return ∷ []
 abbrev ends_selected : List Step
 ends_selected = One (Const 10 0) ∷ One Return ∷ One (Label 1) ∷ One (Const 10 1) ∷ One Return ∷ []
 
--- a branch on a constant that is certain to be taken is a jump, and nothing reads the constant
+-- a branch on a constant becomes a jump if it is certain to be taken, and nothing reads the constant
 taken_at_1 : selected (Const 7 1 ∷ IfNonzero 7 1 ∷ ends) ≡ One (Jump 1) ∷ ends_selected
 unfolding table
 taken_at_1 = refl
