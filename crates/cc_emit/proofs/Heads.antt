@@ -118,7 +118,7 @@ put_merged to v l slots = λ i k. at k i
 
 -- ---- the machine
 
--- if a step makes these moves, the machine arrives at the steps after the step
+-- if a step makes these moves, the machine arrives at the steps that follow
 stepped_to : (x : Site) (ops next : List Step) (l k : Locations) (h : World) (u : State) → ((ws : List ℕ) → selected_move x.meaning.arity x.steps (at_steps ops l h ws) ≡ Goes (at_steps next k h ws)) → Stepped x ops l h u → Reaches x next k h u
 stepped_to x ops next l k h u f z =
     let e : Goes (at_steps next k h (z.prefix ++ [])) ≡ Goes (at_steps z.next z.locations z.world []) = sym (f (z.prefix ++ [])) ∙ z.moves [] in

@@ -109,8 +109,8 @@ unary_instr Neg to from = instr.Op operation.Sub to 0 from
 unary_instr Complement to from = instr.OpImm Xori to from (2 ^ 32 - 1)
 unary_instr IsZero to from = instr.OpImm Sltiu to from 1
 
--- the instructions for an operator on two words: one instruction; or one, with the operands as they are or exchanged, and one that tests
--- whether its result is 0; or one and one that tests whether it is not 0
+-- the instructions for an operator on two words: one instruction; one, with the operands as they are or exchanged, then one that tests
+-- whether its result is 0; or one, then one that tests whether it is not 0
 abbrev pub recipe : binary.Binary → Recipe
 recipe Add = Direct operation.Add
 recipe Sub = Direct operation.Sub
@@ -206,7 +206,7 @@ items_of_one base f near labels place known Return = epilogue f
 -- ---- the items of the other steps
 
 -- the instructions for an operator on a register and a word: one instruction with an immediate, a shift, or one instruction on 0 and the
--- register; or an instruction with an immediate and one that tests whether its result is 0, or whether it is not
+-- register; or an instruction with an immediate, then one that tests whether its result is 0, or whether it is not
 abbrev pub word_recipe : WordOperator → (word : ℕ) → WordRecipe
 word_recipe immediates.Add w = WithImmediate Addi (low w)
 word_recipe immediates.Sub w = WithImmediate Addi (low (neg w))

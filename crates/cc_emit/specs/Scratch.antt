@@ -3,7 +3,7 @@
 -- the object's distance from x3. So the next access to a nearby object needs no upper part, and the next one to elements with the same
 -- number, in any object that is reached the same way, takes one instruction.
 --
--- A function sets x3 to the global pointer if its accesses then take fewer instructions, including those that set it: from there an access
+-- A function sets x3 to the global pointer if its accesses then need fewer instructions, including those that set it: from there an access
 -- reaches the first 4 KiB of the globals. An access in a loop counts as eight. Each step says which of these applies to its access, and
 -- nothing else decides the size of the access.
 use Rattle.std.specs.Prelude.{ℕ, ◌*◌, ◌+◌, ◌^◌, Bool, true, false, ◌&&◌, ◌||◌, ◌==◌, nat_le, nat_lt, if◌then◌else◌, Option, Some, None, List, [], ◌∷◌}

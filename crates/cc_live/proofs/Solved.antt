@@ -1,5 +1,6 @@
 -- The solution that lies below every other one is the least live sets: what comes back to a node is what the node reads and what
--- is live after it, except its result. Other live sets, cut down to the registers that some node reads, are a solution too.
+-- is live after it, except the node's result. Other live sets, cut down to the registers that some node reads, are a solution
+-- too.
 use Rattle.std.proofs.Common.{◌≡◌, ℕ, ◌<◌, List, [], ◌∷◌, length, map, get_or, refl, sym, ap, ◌∙◌, subst, Bool, true, false, ◌&&◌, ◌||◌, IsTrue, arith, inl, inr}
 use Rattle.std.specs.Prelude.{Option, Some, None, IsSome, slice_get}
 use Rattle.std.proofs.lemmas.Option.{slice_get_within, slice_get-get_or}

@@ -204,7 +204,7 @@ between = refl
 word_between : function_items near_by 0 (One (Load Word 0 10 7) ∷ One (Const 11 0x12345678) ∷ One (Load Word 0 12 7) ∷ []) ≡ whole (load_word 10 5 0) (Plain (Lui 11 0x12345) ∷ addi 11 11 0x678 ∷ load_word 12 5 0 ∷ [])
 word_between = refl
 
--- after a label or a call nothing is known about either register; a branch that is not taken leaves both
+-- after a label or a call nothing is known about either register; a branch that is not taken leaves both known
 label_between : function_items near_by 0 (One (Load Word 0 10 7) ∷ One (Label 1) ∷ One (Load Word 0 11 7) ∷ []) ≡ whole (load_word 10 5 0) (whole (load_word 11 5 0) [])
 label_between = refl
 
