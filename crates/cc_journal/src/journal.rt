@@ -83,7 +83,7 @@ impl<D: Disk> Journal<D> {
         &self.bodies
     }
 
-    /// Adds a record with this body. At Ok it is kept: every crash from then on leaves it.
+    /// Adds a record with this body. After Ok the record is kept: every crash from then on leaves it.
     ///
     /// Refusals, in this order: 36 if the journal is closed; 34 if the record, which takes its body and 5 bytes, does not fit
     /// after the records, with the closed gate after it; 40 if memory ran out. These three make no device call and change
