@@ -128,7 +128,7 @@ impl<N: Queued + Send + Sync + 'static> Pool<N> {
     }
 
     /// Hands in a unit for pieces in a mode: an item for each of its functions, in the order of their definitions and with the
-    /// job's number, is put after what the pass has sent. This waits while the queue is full.
+    /// job's number, is added to what the pass has sent. Waits while the queue is full.
     ///
     /// Refusals: 40 if memory ran out; 41 if the queue is closed or 2^64 - 1 jobs were handed in. Some items may have been sent
     /// before a refusal: the first few of one job, and nothing else.
