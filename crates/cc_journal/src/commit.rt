@@ -20,8 +20,8 @@ pub const OPEN: u8 = 0xa5;
 /// The closed gate, as it is written.
 pub const CLOSED: u8 = 0;
 
-/// What one commit writes, and where: the bytes of its first write, and the one byte of its second write, which decides. A clause
-/// sees both with their offsets.
+/// What one commit writes, with the offsets: the bytes of its first write, and the one byte of its second write, which decides. A
+/// clause sees both with their offsets.
 #[derive(Drop)]
 pub struct Commit {
     offset: usize,

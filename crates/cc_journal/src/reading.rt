@@ -23,7 +23,7 @@ pub const LARGEST_AREA: usize = 1 << 30;
 /// The number of bytes of the header, which comes before the two areas.
 pub const HEADER: usize = 16;
 
-/// The records that a disk holds, and where they are.
+/// The records that a disk holds, and their places.
 #[derive(Drop)]
 pub struct Found {
     pub bodies: Vec<Body>,

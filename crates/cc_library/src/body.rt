@@ -166,7 +166,7 @@ fn unit_length(unit: &StoredUnit) -> usize
     of_source + of_code + of_globals + of_certificate
 }
 
-// The number of bytes that a certificate takes, or 0 if there is none.
+// The number of bytes that a certificate takes, or 0 without a certificate.
 fn certificate_length(certificate: &Option<Certificate>) -> usize
     ensures length { result ≡ length (certificate_part certificate.now) }
     ensures small { result < 2 ^ 63 + 4 }
@@ -212,7 +212,7 @@ fn put_unit(body: &mut Vec<u8>, unit: &StoredUnit) -> Result<(), AllocError>
     put_certificate(body, &unit.certificate)
 }
 
-// Adds the length of a certificate and the certificate, or nothing if there is none.
+// Adds the length of a certificate and the certificate, or nothing if the unit has no certificate.
 fn put_certificate(body: &mut Vec<u8>, certificate: &Option<Certificate>) -> Result<(), AllocError>
     requires { IsShort certificate.now }
     ensures put { OnOk result (body.new.items ≡ body.old.items ++ certificate_part certificate.now) }

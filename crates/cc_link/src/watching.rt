@@ -1,4 +1,4 @@
-// Where a function's allocation comes from, and the watcher of a function on its way through the passes.
+// The sources of a function's allocation, and the watcher of a function on its way through the passes.
 
 use cc_cminor::CminorPair;
 use cc_linear_language::LinearPair;
@@ -7,7 +7,7 @@ use cc_rtl::Rtl;
 use cc_select::SelectedPair;
 use std::alloc::AllocError;
 
-/// Where a function's allocation comes from. No source is trusted: the validator judges every allocation.
+/// The source of a function's allocation. No source is trusted: the validator judges every allocation.
 #[derive(Drop)]
 pub enum Allocation {
     /// Registers, or, if the validator refuses these, a slot for each value.

@@ -142,7 +142,7 @@ fn room(bodies: &[&[PieceItem]]) -> usize {
     words
 }
 
-/// The code of the functions, of which number `main` is called first.
+/// The code of the functions. It calls the function with the number `main` first.
 pub(crate) fn code(alloc: Global, main: usize, bodies: &[&[PieceItem]]) -> Result<Code, AllocError>
     requires main { main < length bodies.now }
     requires few { code_words (lent bodies.now) ≤ most_code }

@@ -94,7 +94,7 @@ fn append_commit(lines: &mut Vec<Line>, of: u64) -> Result<(), AllocError> {
     lines.extend_from_slice(&[WriteGate, SyncGate, Ack(of)])
 }
 
-// The lines that a line stands for, each of one event.
+// The lines of single events that a line expands to.
 fn lines_of(alloc: Global, line: Line) -> Result<Vec<Line>, AllocError> {
     match line {
         Make(by, of, source) => Vec::from_slice(alloc, &[Take(by, of, 0), Done(by, source, 0)]),
@@ -116,7 +116,7 @@ fn lines_of(alloc: Global, line: Line) -> Result<Vec<Line>, AllocError> {
     }
 }
 
-// The event of a line that stands for a single event.
+// The event of a line that is a single event.
 fn event<B: Scripted>(alloc: Global, line: Line) -> Result<Event<B::Piece>, Fail> {
     match line {
         Add(of, name, source) => {
@@ -171,7 +171,7 @@ fn number_in(answer: &Result<Option<Reply>, CoreFault>) -> u32 {
     }
 }
 
-// Whether a line that stands for a single event gives this answer.
+// Whether a line that is a single event gives this answer.
 fn answers_one<B: Scripted>(
     alloc: Global,
     state: &mut State<B>,
@@ -205,7 +205,7 @@ fn answers_line<B: Scripted>(
 }
 
 /// Whether these events, played in order, give these answers: 0 for no reply, 1 for done, otherwise the number of the refusal or the
-/// fault. If a line stands for several events, its answer is that of the last event, and each event before it gives no reply.
+/// fault. If a line expands to several events, its answer is that of the last event, and each event before it gives no reply.
 pub fn answers<B: Scripted>(
     alloc: Global,
     state: &mut State<B>,

@@ -7,7 +7,7 @@ use std::alloc::Global;
 use std::test::Fail;
 use tests_texts::verdict::{each_passes, passes};
 
-// Bytes of the row's disk that are changed, and the number of the refusal, or 0 if there is none.
+// Bytes of the row's disk that are changed, and the number of the refusal, or 0 if the disk is opened.
 type Row = (&'static [(usize, u8)], u32);
 
 fn is_refused(alloc: Global, row: &Row) -> Result<bool, Fail> {

@@ -1,4 +1,4 @@
-// Disks of random bytes, each of which must be read as the format says.
+// Disks of random bytes. Each must be read as the format says.
 
 use crate::helpers::{ROW, SIZE, are_bodies, disk_of, part};
 use cc_journal::Journal;
