@@ -91,7 +91,7 @@ IsKept (Rewriting commit due) store order acknowledged = HoldsRewrite commit due
 IsKept (Failed failed) store order acknowledged = HoldsEnds store order acknowledged
 IsKept Crashed store order acknowledged = HoldsCrash store order acknowledged
 
--- one more record represents one more command
+-- if one more record is added for an accepted command, the records represent the order with this command
 pub stand_more : (bodies : List (List ℕ)) (prefix : List Numbered) (numbered : Numbered) (order : List Numbered) → order ≡ prefix ++ numbered ∷ [] → StandFor bodies (library_of (commands prefix)) → IsCommand numbered.command
     → IsOk (apply (library_of (commands prefix)) numbered.command) → StandFor (bodies ++ body_of numbered.command ∷ []) (library_of (commands order))
 stand_more bodies prefix numbered order is stand spelled taken =

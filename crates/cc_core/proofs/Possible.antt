@@ -126,12 +126,12 @@ begun old client (Ok command) = (
 )
 begun old client (Err refused) = (Some (replies.Refused refused), ticked old, (refl, refl))
 
--- if a result is an error, what holds for an error holds
+-- if a result is an error, and an error implies `X`, then `X` is true
 pub where_refused : {T E X : Type 0} (r : Result T E) → OnErr r X → true ≡ is_err r → X
 where_refused (Ok value) kept err = absurd (cc)
 where_refused (Err fault) kept err = kept
 
--- if a result is Ok, what holds for Ok holds
+-- if a result is Ok, and Ok implies `X`, then `X` is true
 pub where_done : {T E X : Type 0} (r : Result T E) → OnOk r X → false ≡ is_err r → X
 where_done (Ok value) done err = done
 where_done (Err fault) done err = absurd (cc)
@@ -214,7 +214,7 @@ module _ {P : Type 0} where
 
   -- ---- how a handler answers
 
-  -- if a step of the core is answered, and jobs and workers stay the same, the whole event is answered
+  -- if an answer is right for a step of the core, and jobs and workers stay the same, it is right for the whole event
   pub core_answers : (step : Core → Option Reply → Core → Type 0) (old new : Contents P) (result : Result (Option Reply) CoreFault) → Answers (step old.core) result old.core new.core
       → new.jobs ≡ old.jobs → new.workers ≡ old.workers → Answers (StepsCore step old) result old new
   core_answers step old new (Ok reply) a jobs workers = (
@@ -230,7 +230,8 @@ module _ {P : Type 0} where
     λ i. record { core = a.3 i; jobs = jobs i; workers = workers i },
   )
 
-  -- if a step of the core is refused, and jobs and workers stay the same, then the event that would also end a job is refused
+  -- if a refusal is right for a step of the core, and jobs and workers stay the same, it is right for the event that also
+  -- ends a job
   pub ends_refused : (client : ClientId) (step : Core → Option Reply → Core → Type 0) (old new : Contents P) (fault : CoreFault) → Answers (step old.core) (Err fault) old.core new.core
       → new.jobs ≡ old.jobs → new.workers ≡ old.workers → Answers (EndsJob client step old) (Err fault) old new
   ends_refused client step old new fault a jobs workers = (
@@ -249,8 +250,8 @@ module _ {P : Type 0} where
     λ i. record { core = a.3 i; jobs = jobs i; workers = workers i },
   )
 
-  -- if the failure of a commit's device step is refused in the core, and jobs and workers stay the same, the whole event is
-  -- refused
+  -- if a refusal is right for the failure of a commit's device step, and jobs and workers stay the same, it is right for
+  -- `FailsJob`
   pub fails_refused : (client : ClientId) (numbered : Numbered) (d : Due) (old new : Contents P) (fault : CoreFault) → old.core.phase ≡ Committing client numbered d
       → Answers (Fails client old.core) (Err fault) old.core new.core → new.jobs ≡ old.jobs → new.workers ≡ old.workers → Answers (FailsJob old) (Err fault) old new
   fails_refused client numbered d old new fault committing a jobs workers = (

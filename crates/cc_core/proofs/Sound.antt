@@ -209,7 +209,7 @@ nothing_held m k x is found = let none = sym (get-empty nat_cmp k) ∙ ap (λ n.
 crashed_is_image : (cells : List Cell) (choice image : List ℕ) → IsImage (crashed cells choice) image → IsImage cells image
 crashed_is_image cells choice image now = subst (IsImage cells) (sym (crashed_alone cells choice image now)) (crashed_image cells choice)
 
--- what holds for the core after any events
+-- the core has everything that is kept after any events
 pub record IsSoundCore (is_right : StoredUnit → Type 0) (s : Core) : Type 0 where
   pub replay : s.library ≡ live s.phase s.order
   pub accepted : AreAccepted empty (commands s.order)
@@ -273,7 +273,7 @@ module _ {P : Type 0} (rules : Rules P) (keeps : P → Type 0) where
   AllNamed-empty : (jobs : FinMap nat_cmp (Job P)) → jobs ≡ empty → AllNamed jobs
   AllNamed-empty jobs is client job found = absurd (nothing_held jobs client job is found)
 
-  -- what holds for the contents after any events
+  -- the contents have everything that is kept after any events
   pub record IsSound (is_right : StoredUnit → Type 0) (s : Contents P) : Type 0 where
     pub core : IsSoundCore is_right s.core
     pub named : AllNamed s.jobs

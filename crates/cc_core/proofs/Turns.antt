@@ -50,7 +50,7 @@ tied_at Less e = absurd (cc)
 tied_at Equal e = refl
 tied_at Greater e = absurd (cc)
 
--- two keys are the same, or they do not compare as equal
+-- two keys are equal, or they do not compare as equal
 apart_or : (k n : ℕ) → (k ≡ n) ⊎ (eq_by_cmp nat_cmp k n ≡ false)
 apart_or k n = at (eq_by_cmp nat_cmp k n) refl
   where

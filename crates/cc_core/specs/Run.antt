@@ -70,7 +70,7 @@ pub record Survives (image : List ℕ) (order acknowledged : List Numbered) : Ty
   pub acked : All (Contains kept) acknowledged
   pub recovers : RecoversAlone image (library_of (commands kept))
 
--- every image of the disk survives in this way
+-- every image of the disk survives
 abbrev pub EachImageSurvives : Core → Type 0
 EachImageSurvives s = (image : List ℕ) → IsImage s.store.cells image → Survives image s.order s.acknowledged
 

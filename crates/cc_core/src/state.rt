@@ -161,7 +161,7 @@ impl<B: Build> State<B> {
         ensures leaves { OnErr result (self.new ≡ self.old) }
         // A command that goes into the order has a spelling: the types of names and units keep this.
         ensures puts { OnOk result (PutsCommand self.old.core self.new.core) }
-        // A piece that a worker hands in keeps what its type keeps.
+        // A piece that a worker hands in has what its type keeps.
         ensures hands { OnOk result (HandsIn B.keeps event) }
     {
         take_step(&self.build, alloc, &mut self.contents, event)

@@ -142,7 +142,7 @@ pub fn make<D: Disk>(disk: &mut D, commit: &Commit) -> Result<(), DiskFault>
     ensures failures { D.failures disk.new ≡ (if is_ok result then D.failures disk.old else D.failures disk.old + 1) }
     ensures committed { OnOk result (IsTrue D.honest → IsCommitted commit.now (D.seen disk.old) (D.seen disk.new)) }
     ensures alone { OnOk result (IsTrue D.honest → LeavesAlone (D.seen disk.new) (D.may_leave disk.new)) }
-    // The step at which the commit failed decides what is left on the disk.
+    // A failed commit leaves what the first write may leave, or what the deciding write may leave.
     ensures failed { OnErr result (IsTrue D.honest → LeavesAlone (D.seen disk.old) (D.may_leave disk.old) → FailsIn commit.now (D.seen disk.old) (D.may_leave disk.new)) }
     ensures moments { IsTrue D.honest → LeavesAlone (D.seen disk.old) (D.may_leave disk.old)
         → LeavesOnly D.moment D.left_since disk.old disk.new (IsMidCommit commit.now (D.seen disk.old)) }

@@ -107,7 +107,7 @@ not_two : (version : ℕ) → (version ≡ 1) ⊎ (version ≡ 2) → eqb versio
 not_two version (inl one) e = one
 not_two version (inr two) e = let no = sym (ap (λ (v : ℕ). eqb v 2) two) ∙ e in absurd (cc)
 
--- if a certificate, or none, occurs in this version, the version is the one that it needs
+-- if a certificate, or none, occurs in this version, the version is the one that the certificate needs
 asked : (version : ℕ) (certificate : Option (List ℕ)) → (version ≡ 1) ⊎ (version ≡ 2) → StandsIn version certificate → version ≡ certificate_version certificate
 asked version None known stands = not_two version known stands
 asked version (Some certificate) known stands = eqb-true _ _ stands

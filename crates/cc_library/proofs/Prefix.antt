@@ -13,7 +13,7 @@ use Rattle.cc_library.proofs.Fields.{both_true}
 
 -- ---- the number of a prefix
 
--- the number of a prefix after one more byte
+-- taking byte `k` into the number of a prefix leaves the bytes from `k + 1` on
 at_byte : (a n k : ℕ) (bytes : List ℕ) → prefix_number a (suc n) (drop k bytes) ≡ prefix_number (a * 256 + get_or bytes k 0) n (drop (suc k) bytes)
 unfolding prefix_number
 at_byte a n zero [] = ap (λ (m : ℕ). prefix_number m n []) (omega arith)

@@ -66,7 +66,7 @@ turned : {A : Type 0} (b : Bool) (x y : A) → cond (not b) x y ≡ cond b y x
 turned true x y = refl
 turned false x y = refl
 
--- if a name is removed from a map, its entries are the others, in the same order
+-- if a name is removed from a map, the other entries stay, in the same order
 pub entries-remove : (units : Units) (name : List ℕ) → (p : List ℕ → Bool) × (map.entries (map.remove units name) ≡ filter (λ (e : Entry). p e.0) (map.entries units))
 entries-remove units name = (p, ap map.entries same ∙ map.entries-from_sorted R others sorted)
   where

@@ -32,7 +32,7 @@ pub record IsConfirmedIn (mode : Mode) (text certificate : List ℕ) (image : Im
   pub keep_up : ∥ EachKeepsUpIn mode tree spells.ltls ∥₁
   pub made : IsMadeIn mode (record { source = text; image = image; certificate = Some certificate })
 
--- an audit reports that the certificate is missing exactly if it is, and confirms only what holds
+-- an audit reports a missing certificate exactly if there is no certificate, and confirms only what `IsConfirmedIn` says
 abbrev pub AuditSaysIn : Mode → (text : List ℕ) → (certificate : Option (List ℕ)) → Image → Audit → Type 0
 AuditSaysIn mode text None image audit = audit ≡ NoCertificate
 AuditSaysIn mode text (Some certificate) image Confirmed = IsConfirmedIn mode text certificate image
@@ -45,8 +45,8 @@ AuditSays text certificate image audit = AuditSaysIn Plain text certificate imag
 
 -- ---- which part is not confirmed
 
--- the text is a program's; the name of one of its functions begins at this offset and has this many bytes, and each function before it has a
--- piece
+-- the text is a program; the name of one of its functions begins at this offset and has this many bytes, and each function before
+-- it has a piece
 pub record IsFunctionAt (mode : Mode) (text : List ℕ) (at count : ℕ) : Type 0 where
   pub tree : List External
   pub is : IsProgramText text tree

@@ -54,8 +54,8 @@ IsPieceRefusal unit f fault = IsPieceRefusalIn Plain unit f fault
 
 -- ---- why a text has no image
 
--- the text is a program's, and the fault names this function of that program: 22 names a function of more than 256 tokens (177
--- for a checked piece), 24 may name any function; whether it has a piece is not stated
+-- the text is a program, and the fault names this function of the program: 22 names a function of more than 256 tokens (177 for
+-- a checked piece), 24 may name any function; whether it has a piece is not stated
 pub record IsBlamedIn (mode : Mode) (text : List ℕ) (function : ℕ) (fault : PieceFault) : Type 0 where
   pub tree : List External
   pub is : IsProgramText text tree
@@ -70,7 +70,7 @@ pub record HasPieceIn (mode : Mode) (text : List ℕ) (function : ℕ) : Type 0 
   pub text_is : (source piece.unit).text ≡ text
   pub function_is : piece.function ≡ function
 
--- the text is a program's; the fault names one of its functions, and each function before it, in the order of their definitions, has a piece
+-- the text is a program; the fault names one of its functions, and each function defined before that one has a piece
 pub record IsFirstWithoutIn (mode : Mode) (text : List ℕ) (fault : PieceFault) : Type 0 where
   pub function : ℕ
   pub none : IsBlamedIn mode text function fault

@@ -53,7 +53,7 @@ is_live Owner = 1
 is_live Out = 1
 is_live Joined = 0
 
--- both lists weigh the same, however items are weighed: each item is in one as often as in the other
+-- both lists weigh the same, however items are weighed: each item occurs in both equally often
 abbrev pub SameItems : List Item → List Item → Type 0
 SameItems xs ys = (h : Item → ℕ) → sum_by h xs ≡ sum_by h ys
 

@@ -1,4 +1,4 @@
-// The pieces of the tests' own builds: each has the source, its part's number, and a unit.
+// The pieces of the tests' own builds: each has a unit, with the source in it, and the number of its part.
 
 ghost use Rattle.std.specs.Prelude.{◌≡◌, ◌↔◌, IfOk, IsTrue};
 ghost use Rattle.std.specs.Arc.{arc_value};
