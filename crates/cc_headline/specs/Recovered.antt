@@ -22,10 +22,10 @@ AfterEveryRun Holds =
 abbrev pub EachUnitAgrees : Core → Type 0
 EachUnitAgrees s = (image : List ℕ) (library : Units) → IsImage s.store.cells image → Recovers image library → EachUnit is_right library
 
--- all units agree if those that were found at the opening do
+-- all units agree with their sources, if those found at the opening do
 abbrev pub AgreesWhereFound : Units → Core → Type 0
 AgreesWhereFound found s = EachUnit is_right found → EachUnitAgrees s
 
--- each unit is one of those that were found at the opening, or agrees with its source
+-- each unit was found at the opening, or agrees with its source
 abbrev pub IsFoundOrAgrees : Units → Core → Type 0
 IsFoundOrAgrees found s = (image : List ℕ) (library : Units) → IsImage s.store.cells image → Recovers image library → EachUnit (IsRightOr is_right found) library

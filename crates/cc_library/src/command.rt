@@ -28,8 +28,9 @@ impl Kind {
     }
 }
 
-/// A change of a library: Add sets the unit of an absent name, Replace that of a present one, Withdraw removes a present name.
-/// What a change carries for the unit depends on who makes it: the unit itself, a compiled unit, or the unit's source.
+/// A change of a library: Add sets the unit of an absent name, Replace sets that of a present name, and Withdraw removes a
+/// present name. What a change carries as `U` depends on who makes the change: the unit itself, a compiled unit, or the unit's
+/// source.
 #[derive(Drop)]
 pub enum Change<U> {
     Add(Name, U),
@@ -37,7 +38,7 @@ pub enum Change<U> {
     Withdraw(Name),
 }
 
-/// A change that carries the unit.
+/// A change that carries the unit itself.
 pub type LibraryCommand = Change<SharedUnit>;
 
 /// A step of `Library::run`: a change of the map, or `Library::compact`.

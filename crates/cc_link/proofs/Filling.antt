@@ -1,4 +1,4 @@
--- Items, and then functions, that are filled in one after the other.
+-- Items filled in one after the other, and then functions filled in one after the other.
 use Rattle.std.proofs.Common.{◌≡◌, ℕ, zero, suc, ◌+◌, ◌-◌, ◌*◌, ◌%◌, ◌^◌, ◌<◌, ◌≤◌, List, [], ◌∷◌, ◌++◌, length, get_or, take, drop, refl, sym, ap, ◌∙◌, subst, arith, append_assoc}
 use Rattle.std.proofs.lemmas.List.{at_drop_more, drop_more, map-append}
 use Rattle.std.specs.Borrow.{Bor}
@@ -31,7 +31,7 @@ leads_of places place items (Go n) are h stay = place_at (length places) place n
 pub leads_at : (places : List ℕ) (place i : ℕ) (items : List PieceItem) (d : PieceItem) → ArePlaces places → CanStand (length places) place items → i < length items → Leads places place (get_or items i d)
 leads_at places place i items d are h lt = leads_of places place items (get_or items i d) are h (stays_at (length places) (length items) i items d lt h.stay)
 
--- one more word
+-- once the word of item i is added, the words so far and those of the items left make up the same list
 pub word_added : (p : ℕ → ℕ) (place a i w : ℕ) (items : List PieceItem) (d : PieceItem) (instr : Instr) (ws all : List ℕ) → i < length items → w ≡ encoding_of instr → instr ≡ filled p place a (get_or items i d)
     → ws ++ encoded (fill p place a (drop i items)) ≡ all → (ws ++ (w ∷ [])) ++ encoded (fill p place (a + 4) (drop (i + 1) items)) ≡ all
 word_added p place a i w items d instr ws all lt e f h =

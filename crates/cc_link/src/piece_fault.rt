@@ -14,7 +14,8 @@ pub enum PieceFault {
         at: usize,
         length: usize,
     },
-    /// 24: it is not shown that the allocated code does what the function does; the proof failed at this label.
+    /// 24: the validator could not show that the allocated code does what the function does; its check failed at
+    /// this label.
     #[error("Unvalidated")]
     Unvalidated {
         at: usize,

@@ -22,7 +22,7 @@ pub enum PoolFault {
 }
 
 impl PoolFault {
-    /// The fault's number: that of the piece's fault, 41 or 40.
+    /// The fault's number: the number of the piece's fault, or 41 or 40.
     pub fn number(&self) -> u32
         ensures { result ≡ pool_fault_number self.now }
     {

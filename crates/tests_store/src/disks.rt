@@ -6,7 +6,7 @@ use std::alloc::Global;
 use std::test::Fail;
 use tests_texts::verdict::{each_passes, passes};
 
-// Whether a crash with that choice leaves these bytes.
+// Whether a crash with this choice leaves these bytes.
 fn crash_leaves(
     alloc: Global,
     disk: &MemoryDisk,
@@ -34,7 +34,8 @@ fn a_crash_chooses_the_unsettled_bytes(rt: HostRuntime) -> Result<(), Fail> {
     passes(is_chosen(rt.alloc()))
 }
 
-// The mode of a fuse that lets one call pass; the answers to two writes and a sync, what the disk then has, and the failures.
+// The mode of a fuse that lets one call pass; whether two writes and a sync succeed; what the disk then has; and how many
+// calls failed.
 type Row = (FuseMode, [bool; 3], [u8; 2], u64);
 
 fn is_row(alloc: Global, row: &Row) -> Result<bool, Fail> {

@@ -7,7 +7,7 @@ use std::alloc::Global;
 use std::test::Fail;
 use tests_texts::verdict::{each_passes, passes};
 
-// Bytes of the row's disk that are changed, and the number of the refusal, or 0.
+// Bytes of the row's disk that are changed, and the number of the refusal, or 0 if the disk is opened.
 type Row = (&'static [(usize, u8)], u32);
 
 fn is_refused(alloc: Global, row: &Row) -> Result<bool, Fail> {
@@ -18,7 +18,7 @@ fn is_refused(alloc: Global, row: &Row) -> Result<bool, Fail> {
 fn each_change_of_the_row(rt: HostRuntime) -> Result<(), Fail> {
     let table: [Row; 13] = [
         (&[], 0),
-        // The name, the reserved bytes, an area below 64, an area that is larger than the disk.
+        // Another name, other reserved bytes, an area below 64 bytes, an area that is larger than the disk.
         (&[(1, 0x44)], 38),
         (&[(7, 0x30)], 38),
         (&[(12, 1)], 38),
@@ -31,7 +31,7 @@ fn each_change_of_the_row(rt: HostRuntime) -> Result<(), Fail> {
         (&[(17, 0x3a)], 0),
         (&[(17, 0x3b)], 37),
         (&[(17, 0xff), (18, 0xff), (19, 0xff), (20, 0xff)], 37),
-        // An open gate with too few bytes after it for a length.
+        // An open gate that is followed by too few bytes for a length.
         (&[(17, 0x36), (75, 0xa5)], 37),
     ];
     each_passes(rt.alloc(), &table, is_refused)
@@ -67,8 +67,8 @@ fn each_value_of_the_first_gate(rt: HostRuntime) -> Result<(), Fail> {
     Ok(())
 }
 
-// Whether a record with the body 77 goes after the first record of area A, or to the start of area B, depending on that area
-// byte.
+// Whether a record with the body 77 is added after the first record of area A, or at the start of area B, depending on the
+// area byte.
 fn is_added(alloc: Global, area_byte: u8) -> Result<bool, Fail> {
     let mut journal = opened(alloc, row_disk(alloc, &[(0, area_byte)])?)?;
     journal.append(alloc, &[0x77])?;
@@ -88,7 +88,7 @@ fn each_value_of_the_area_byte(rt: HostRuntime) -> Result<(), Fail> {
     Ok(())
 }
 
-// Opening a disk syncs, as it is, what was written before without a sync.
+// Opening a disk syncs what was written before without a sync, and does not change it.
 #[test]
 fn opening_settles_what_was_written(rt: HostRuntime) -> Result<(), Fail> {
     passes(is_settled(rt.alloc()))

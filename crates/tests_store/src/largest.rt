@@ -57,7 +57,8 @@ fn its_header(rt: HostRuntime) -> Result<(), Fail> {
     passes(Ok(pairs.all(|((_, byte), wanted)| byte == wanted)))
 }
 
-// The area byte of a disk, the length of the open record with which its area begins, and the number of the refusal, or 0.
+// The area byte of a disk, the length of the body of the open record at the beginning of its area, and the number of the
+// refusal, or 0.
 type Edge = (u8, u32, u32);
 
 fn is_edge(alloc: Global, row: &Edge) -> Result<bool, Fail> {

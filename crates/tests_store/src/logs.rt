@@ -10,14 +10,14 @@ use tests_texts::verdict::{each_passes, passes};
 // The body of the worked row.
 const ROW_BODY: [u8; 4] = [1, 3, 1, 0x61];
 
-// What is done to a log, and the number of the right answer, 0 for Ok.
+// What is done to a log, and the number of the answer that is right, 0 for Ok.
 #[derive(Clone, Copy)]
 enum Step {
     // The body of the row is added, by itself, or with what is around it in its record.
     Row { is_framed: bool },
     // A body of this many bytes, each with this value, is added.
     Append(u8, usize, u32),
-    // All is written again as one body of this many bytes, each 1.
+    // The records are replaced with one body of this many bytes, each 1.
     Rewrite(usize, u32),
 }
 
@@ -54,7 +54,8 @@ fn appends<D: Disk>(
     }
 }
 
-// Whether writing all again as a body of this many bytes, each 1, is answered with this number, and that body is handed over.
+// Whether replacing the records with one body of this many bytes, each 1, is answered with this number, and the body is handed
+// back.
 fn rewrites<D: Disk>(
     alloc: Global,
     log: &mut Log<D>,
@@ -68,7 +69,7 @@ fn rewrites<D: Disk>(
     }
 }
 
-// Whether a step is answered as it has to be.
+// Whether a step is answered as it should be.
 fn is_done<D: Disk>(alloc: Global, log: &mut Log<D>, step: Step) -> Result<bool, Fail> {
     match step {
         Step::Row { is_framed: true } => Ok(appends(alloc, log, framed(alloc)?, &ROW_BODY, 0)),
@@ -90,7 +91,8 @@ fn appends_bytes<D: Disk>(
     Ok(appends(alloc, log, body, bytes, number))
 }
 
-// The disk, whose log has records with these bodies, after these steps were answered as they have to be. No step closes the log.
+// A disk whose log has records with these bodies, after these steps, which must be answered as they should be. No step closes
+// the log.
 fn played(
     alloc: Global,
     disk: MemoryDisk,
@@ -124,10 +126,11 @@ fn has_records(alloc: Global, disk: MemoryDisk, wanted: &[&[u8]]) -> bool {
     }
 }
 
-// If 54 bytes are left, a second body of 50 bytes does not fit: it would need 55 with its gate.
+// If 54 bytes are left, a second body of 50 bytes does not fit: its record takes 55.
 const SECOND: [Step; 2] = [Step::Append(2, 50, 34), Step::Append(2, 49, 0)];
 
-// Whether the row is made from its body, and a second body then has as much room as it should.
+// Whether adding the body of the row makes the bytes of the row, and there is then as much room for a second body as there
+// should be.
 fn writes_the_row(alloc: Global, is_framed: &bool) -> Result<bool, Fail> {
     let step = Step::Row {
         is_framed: *is_framed,
@@ -169,7 +172,7 @@ fn is_written_anew(alloc: Global) -> Result<bool, Fail> {
         Step::Append(1, 54, 34),
     ];
     let mut disk = played(alloc, formatted(alloc)?, &[], &steps)?;
-    // Area B counts: it has an open gate, a body of no bytes, and a closed gate.
+    // Area B is in use: it has an open gate, an empty body, and a closed gate.
     let right = has_parts(alloc, &mut disk, &[(0, &[1]), (80, &[0xa5, 0, 0, 0, 0, 0])])?;
     let disk = played(alloc, disk, &[&[]], &[Step::Append(1, 53, 0)])?;
     Ok(right && has_records(alloc, disk, &[&[], &[1; 53]]))
@@ -180,7 +183,7 @@ fn a_log_written_anew(rt: HostRuntime) -> Result<(), Fail> {
     passes(is_written_anew(rt.alloc()))
 }
 
-// A log whose disk fails at the call after this many. Opening makes three.
+// A log whose disk fails at the call after this many calls. Opening makes three calls.
 fn closed_after(alloc: Global, passes: u64) -> Result<Log<FuseDisk<MemoryDisk>>, Fail> {
     let fuse = FuseDisk::new(formatted(alloc)?, passes, FuseMode::Once);
     let mut log = opened(alloc, fuse, &[])?;
@@ -191,7 +194,7 @@ fn closed_after(alloc: Global, passes: u64) -> Result<Log<FuseDisk<MemoryDisk>>,
     }
 }
 
-// Whether a log that is closed at such a call answers 36, and its disk has the same bytes after that.
+// Whether a log that such a call has closed answers 36, and its disk has the same bytes after this answer.
 fn stays_closed(alloc: Global, passes: &u64) -> Result<bool, Fail> {
     let before = bytes_of(alloc, &mut closed_after(alloc, *passes)?.into_disk())?;
     let mut log = closed_after(alloc, *passes)?;

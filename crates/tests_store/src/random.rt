@@ -1,4 +1,4 @@
-// Disks of random bytes: each is read as the format says.
+// Disks of random bytes. Each must be read as the format says.
 
 use crate::helpers::{ROW, SIZE, are_bodies, disk_of, part};
 use cc_journal::Journal;
@@ -6,7 +6,7 @@ use std::alloc::Global;
 use std::test::Fail;
 use tests_texts::verdict::passes;
 
-// The next byte of numbers that look random, the same in each run.
+// The next byte of a sequence that looks random but is the same in each run.
 fn next_byte(state: &mut u64) -> u8 {
     *state = state
         .wrapping_mul(6_364_136_223_846_793_005)
@@ -14,7 +14,7 @@ fn next_byte(state: &mut u64) -> u8 {
     state.to_be_bytes()[0]
 }
 
-// The bytes of a disk: mostly the right header with any area byte, a first gate that is open, and after it many zeros.
+// The bytes of a disk: mostly a valid header with any area byte, an open first gate, and many zeros after it.
 fn random_disk(alloc: Global, state: &mut u64) -> Result<Vec<u8>, Fail> {
     let mut bytes = vec![in alloc; 0u8; SIZE]?;
     for (i, byte) in bytes.iter_mut().enumerate() {
@@ -52,7 +52,8 @@ fn bodies_in<'a>(area: &'a [u8], bodies: &mut Vec<&'a [u8]>) -> Result<bool, Fai
     Ok(false)
 }
 
-// Whether a disk of these bytes is refused with the number that the format says, or has the records that it says.
+// Whether a disk of these bytes is refused with the number that the format gives, or has the records that the format
+// gives.
 fn is_read(alloc: Global, bytes: &[u8]) -> Result<bool, Fail> {
     let start = match bytes {
         [first, ..] if first % 2 == 1 => 80,

@@ -10,18 +10,18 @@ use std::alloc::Global;
 use std::test::Fail;
 use tests_texts::verdict::passes;
 
-// What is done to a journal with areas of 64 bytes, and the number of the right answer, 0 for Ok.
+// What is done to a journal with areas of 64 bytes, and the number of the answer that is right, 0 for Ok.
 #[derive(Clone, Copy)]
 enum Step {
     // A body of this many bytes, each with this value, is added.
     Append(u8, usize, u32),
-    // All is written again as one body of this many bytes, each 1.
+    // The records are replaced with one body of this many bytes, each 1.
     Rewrite(usize, u32),
-    // All is written again as no body at all.
+    // The records are replaced with no record.
     Clear(u32),
 }
 
-// Whether a step is answered as it has to be.
+// Whether a step is answered as it should be.
 fn is_done(alloc: Global, journal: &mut Journal<MemoryDisk>, step: Step) -> Result<bool, Fail> {
     match step {
         Step::Append(byte, count, wanted) => {
@@ -36,7 +36,7 @@ fn is_done(alloc: Global, journal: &mut Journal<MemoryDisk>, step: Step) -> Resu
     }
 }
 
-// A new journal, once these steps were answered as they have to be.
+// A new journal after these steps, which must be answered as they should be.
 fn played(alloc: Global, steps: &[Step]) -> Result<Journal<MemoryDisk>, Fail> {
     let mut journal = opened(alloc, formatted(alloc)?)?;
     let mut right = true;
@@ -62,7 +62,7 @@ fn format_and_append(rt: HostRuntime) -> Result<(), Fail> {
     passes(writes_the_row(rt.alloc()))
 }
 
-// The disk after a journal on it was given one more body.
+// The disk after one more body was appended to the journal on it.
 fn appended(alloc: Global, disk: MemoryDisk, body: &[u8]) -> Result<MemoryDisk, Fail> {
     let mut journal = opened(alloc, disk)?;
     journal.append(alloc, body)?;
@@ -79,7 +79,8 @@ fn the_journal_goes_on_after_it_was_opened_again(rt: HostRuntime) -> Result<(), 
     passes(Ok(holds(alloc, disk, &[&[0, 0], &[1, 1], &[2, 2]])))
 }
 
-// A record with a body of 58 bytes fills area A of a journal. Then all is written again as one empty record.
+// A record with a body of 58 bytes fills area A of a journal. Then the records are replaced with one empty
+// record.
 const FULL: Step = Step::Append(7, 58, 0);
 
 const MOVED: Step = Step::Rewrite(0, 0);
@@ -89,7 +90,7 @@ fn is_moved(alloc: Global) -> Result<bool, Fail> {
     let has_one = are_bodies(journal.records(), &[&[]]);
     let mut disk = journal.into_disk();
     let is_in_b = has_parts(alloc, &mut disk, &[(0, &[1]), (80, &[0xa5, 0, 0, 0, 0, 0])])?;
-    // What area A has does not count from then on.
+    // From then on, what is in area A does not count.
     Ok(has_one && is_in_b && holds(alloc, disk, &[&[]]))
 }
 
@@ -98,7 +99,7 @@ fn a_rewrite_goes_to_the_other_area(rt: HostRuntime) -> Result<(), Fail> {
     passes(is_moved(rt.alloc()))
 }
 
-// Whether the moved journal answers this step as it has to, and its disk has the same bytes after it.
+// Whether the moved journal answers this step as it should, and its disk has the same bytes after the step.
 fn leaves_all(alloc: Global, step: Step) -> Result<bool, Fail> {
     let before = bytes_of(alloc, &mut played(alloc, &[FULL, MOVED])?.into_disk())?;
     let journal = played(alloc, &[FULL, MOVED, step])?;

@@ -1,4 +1,4 @@
-// Bodies of both versions on a disk: files that were written before there were certificates, and units with one.
+// Bodies of both versions on a disk: files that were written before there were certificates, and units with a certificate.
 
 use crate::library::helpers::{formatted, name, number, opened, refusal, unit};
 use cc_disk::MemoryDisk;
@@ -10,8 +10,8 @@ use std::sync::Arc;
 use std::test::Fail;
 use tests_texts::verdict::{each_passes, passes};
 
-// An Add of `a` with the source `int main(void){}` and one code word 0, as it is written: without a certificate, with a certificate
-// of no bytes, and with one of two bytes.
+// An Add of `a` with the source `int main(void){}` and one code word 0, as it is written: without a certificate, with an empty
+// certificate, and with a certificate of two bytes.
 static NONE: [u8; 36] =
     *b"\x01\x01\x01a\x10\x00\x00\x00int main(void){}\x01\x00\x00\x00\x00\x00\x00\x00\x00\x00\x00\x00";
 
@@ -21,7 +21,7 @@ static EMPTY: [u8; 40] =
 static TWO: [u8; 42] =
     *b"\x02\x01\x01a\x10\x00\x00\x00int main(void){}\x01\x00\x00\x00\x00\x00\x00\x00\x00\x00\x00\x00\x02\x00\x00\x00hi";
 
-// A Withdraw of `a` of version 1.
+// A Withdraw of `a` in version 1.
 static WITHDRAW: [u8; 4] = *b"\x01\x03\x01a";
 
 // The journal on a disk.
@@ -54,7 +54,7 @@ fn has_records(alloc: Global, disk: MemoryDisk, bodies: &[&[u8]]) -> Result<bool
     )
 }
 
-// Whether `a` is the only unit, and has that certificate.
+// Whether `a` is the only unit, and has this certificate.
 fn has_certificate(library: &Library<MemoryDisk>, wanted: Option<&[u8]>) -> Result<bool, Fail> {
     let Some(unit) = library.get(&name(b'a')?) else {
         return Ok(false);
@@ -69,7 +69,7 @@ fn has_certificate(library: &Library<MemoryDisk>, wanted: Option<&[u8]>) -> Resu
 // A record, and the certificate that it gives `a`.
 type Row = (&'static [u8], Option<&'static [u8]>);
 
-// Whether a disk with this record has `a` with that certificate, and `compact` writes the same record.
+// Whether a disk with this record has `a` with the certificate of the row, and `compact` writes the same record.
 fn is_kept(alloc: Global, row: &Row) -> Result<bool, Fail> {
     let (body, wanted) = *row;
     let mut library = opened(alloc, disk_with(alloc, &[body])?)?;
@@ -90,7 +90,7 @@ fn compact_keeps_each_certificate(rt: HostRuntime) -> Result<(), Fail> {
     each_passes(rt.alloc(), &table, is_kept)
 }
 
-// These bytes with another first byte.
+// The bytes of a body with another version.
 fn of_version(alloc: Global, version: u8, body: &[u8]) -> Result<Vec<u8>, Fail> {
     let mut bytes = vec![in alloc; version; 1]?;
     for byte in body.iter().skip(1) {
@@ -106,8 +106,8 @@ fn is_refused(alloc: Global, row: &(u8, &'static [u8])) -> Result<bool, Fail> {
 
 #[test]
 fn records_that_are_no_commands(rt: HostRuntime) -> Result<(), Fail> {
-    // Version 2 without its last field, and with a certificate that ends early; version 1 with a certificate; a number that is no
-    // version.
+    // Version 2 without its last field, and with a certificate that ends early; version 1 with a certificate; a number that is not
+    // a version.
     let table: [(u8, &[u8]); 4] = [(2, &NONE), (2, &TWO[..41]), (1, &EMPTY), (3, &TWO)];
     each_passes(rt.alloc(), &table, is_refused)
 }
@@ -150,6 +150,7 @@ fn is_answered(alloc: Global, row: &(usize, u32)) -> Result<bool, Fail> {
 
 #[test]
 fn a_certificate_that_has_no_room(rt: HostRuntime) -> Result<(), Fail> {
-    // A record takes 45 bytes and its certificate, and there is the closed gate: 18 bytes are left in an area of 64.
+    // The record takes 45 bytes and its certificate, and the closed gate takes one: 18 bytes of an area of 64 are left for the
+    // certificate.
     each_passes(rt.alloc(), &[(18, 0), (19, 34), (1000, 34)], is_answered)
 }

@@ -18,10 +18,10 @@ fn is_refused(alloc: Global, row: &Row) -> Result<bool, Fail> {
 #[test]
 fn each_change_of_the_row(rt: HostRuntime) -> Result<(), Fail> {
     let table: [Row; 13] = [
-        // Withdraw of an absent name, in both versions.
+        // A Withdraw of an absent name, in both versions.
         (&[], 37),
         (&[(21, 2)], 37),
-        // A body of 58 bytes that is no command; another version, another kind, a bad name.
+        // A body of 58 bytes that is not a command; another version, another kind, a bad name.
         (&[(17, 0x3a)], 37),
         (&[(21, 3)], 37),
         (&[(21, 0)], 37),
@@ -39,7 +39,7 @@ fn each_change_of_the_row(rt: HostRuntime) -> Result<(), Fail> {
     each_passes(rt.alloc(), &table, is_refused)
 }
 
-// Whether this gate is an open one, or the row's disk with it is an empty library.
+// Whether this gate is open, or the row's disk with this gate is an empty library.
 fn is_empty(alloc: Global, gate: u8) -> Result<bool, Fail> {
     let disk = row_disk(alloc, &[(16, gate)])?;
     Ok(gate == 0xa5 || recovers(alloc, disk, (None, None))?)
@@ -84,12 +84,12 @@ fn a_failure_hands_the_disk_back(rt: HostRuntime) -> Result<(), Fail> {
     passes(is_handed_back(rt.alloc()))
 }
 
-// The number of the fault with which a disk of these bytes is refused, or 0.
+// The number of the fault with which a disk of these bytes is refused, or 0 if it is opened.
 fn refusal_of(alloc: Global, bytes: &[u8]) -> Result<u32, Fail> {
     Ok(refusal(alloc, disk_of(alloc, bytes)?))
 }
 
-// Whether the disk with three records is opened, and no shorter one is.
+// Whether the disk with three records is opened, and no shorter prefix of its bytes is.
 fn has_no_prefix(alloc: Global, moved: &bool) -> Result<bool, Fail> {
     let bytes = three_records(alloc, *moved)?;
     let mut right = bytes.len() == SIZE && refusal_of(alloc, &bytes)? == 0;
@@ -104,7 +104,7 @@ fn every_prefix_is_refused(rt: HostRuntime) -> Result<(), Fail> {
     each_passes(rt.alloc(), &[false, true], has_no_prefix)
 }
 
-// The number of the fault with which this disk is refused after one byte was changed, or 0.
+// The number of the fault with which this disk is refused once one byte is changed, or 0 if it is opened.
 fn refusal_with(alloc: Global, bytes: &[u8], offset: usize, byte: u8) -> Result<u32, Fail> {
     let mut changed = Vec::from_slice(alloc, bytes)?;
     if offset < changed.len() {
@@ -113,7 +113,7 @@ fn refusal_with(alloc: Global, bytes: &[u8], offset: usize, byte: u8) -> Result<
     refusal_of(alloc, &changed)
 }
 
-// Whether this disk, with any byte in this place, is opened, or refused with 37 or 38.
+// Whether this disk, with any byte at this offset, is opened or is refused with 37 or 38.
 fn are_opened_or_refused(alloc: Global, bytes: &[u8], offset: usize) -> Result<bool, Fail> {
     for byte in 0..=255u8 {
         let number = refusal_with(alloc, bytes, offset, byte)?;

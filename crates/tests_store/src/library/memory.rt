@@ -1,5 +1,5 @@
 // Lack of memory. If there is enough memory, each change below meets a device that fails; `rt try --test --fail-alloc N` refuses
-// growth number N, and then no device call is made.
+// allocation number N, and then no device call is made.
 
 use crate::library::helpers::{Step, does, formatted, holds, opened, steps_done};
 use cc_disk::{Disk, FuseDisk, FuseMode, MemoryDisk};
@@ -8,7 +8,7 @@ use std::alloc::Global;
 use std::test::Fail;
 use tests_texts::verdict::each_passes;
 
-// A library with `a` added, on a device whose every call after those of opening fails.
+// A library with `a` added, on a device that fails at every later call.
 fn with_a(alloc: Global) -> Result<Library<FuseDisk<MemoryDisk>>, Fail> {
     let mut library = opened(alloc, formatted(alloc, 64)?)?;
     if steps_done(alloc, &mut library, &[Step::Add(b'a', 1)])? != 1 {
@@ -20,7 +20,7 @@ fn with_a(alloc: Global) -> Result<Library<FuseDisk<MemoryDisk>>, Fail> {
     )
 }
 
-// Whether a step is refused, and changes nothing: one call failed, or none was made.
+// Whether a step is refused and changes nothing: one device call failed, or none was made.
 fn changes_nothing(alloc: Global, step: &Step) -> Result<bool, Fail> {
     let mut library = with_a(alloc)?;
     let number = does(alloc, &mut library, *step)?;

@@ -9,19 +9,19 @@ use std::alloc::Global;
 use std::test::Fail;
 use tests_texts::verdict::{each_passes, passes};
 
-// The body of Add of `a` with the source `int main(void){}`, one code word 0 and no global words.
+// The body of an Add of `a` with the source `int main(void){}`, one code word 0 and no global words.
 static ADD: [u8; 36] =
     *b"\x01\x01\x01a\x10\x00\x00\x00int main(void){}\x01\x00\x00\x00\x00\x00\x00\x00\x00\x00\x00\x00";
 
-// The same in version 2, with a certificate of no bytes.
+// The body of this Add in version 2, with an empty certificate.
 static CERTIFIED: [u8; 40] =
     *b"\x02\x01\x01a\x10\x00\x00\x00int main(void){}\x01\x00\x00\x00\x00\x00\x00\x00\x00\x00\x00\x00\x00\x00\x00\x00";
 
-// A Replace of `a` without source, with the code word 7 and a certificate of three bytes.
+// The body of a Replace of `a` with an empty source, the code word 7 and a certificate of three bytes.
 static REPLACE: [u8; 27] =
     *b"\x02\x02\x01a\x00\x00\x00\x00\x01\x00\x00\x00\x07\x00\x00\x00\x00\x00\x00\x00\x03\x00\x00\x00xyz";
 
-// The body of a Withdraw of `a`, as it is written, and in the other form that is read too.
+// The body of a Withdraw of `a`: as it is written, and in the other version, which is read too.
 static WITHDRAW: [u8; 4] = *b"\x02\x03\x01a";
 
 static WITHDRAW_1: [u8; 4] = *b"\x01\x03\x01a";
@@ -50,17 +50,18 @@ fn is_name(bytes: &[u8]) -> bool {
     }
 }
 
-// Whether the body of Add of `a` with that source has these bytes.
+// Whether the body of an Add of `a` with that source has these bytes.
 fn is_add_body(alloc: Global, wanted: &[u8]) -> Result<bool, Fail> {
     let stored = unit(alloc, b"int main(void){}", 0)?;
     let body = command_body(alloc, Kind::Add, &name(b'a')?, Some(&stored))?;
     Ok(body.as_slice() == wanted)
 }
 
-// The bytes of a command, and those of its body.
+// Bytes that spell a command, and the body of that command as it is written.
 type Row = (&'static [u8], &'static [u8]);
 
-// Whether the command that these bytes spell has the wanted body, and a body of as many bytes as these.
+// Whether the command that the first bytes spell has the second bytes as its body, and as many bytes as the
+// first.
 fn is_spelled(alloc: Global, row: &Row) -> Result<bool, Fail> {
     let (bytes, wanted) = *row;
     let command = read_command(alloc, bytes)?;
@@ -74,7 +75,7 @@ fn is_spelled(alloc: Global, row: &Row) -> Result<bool, Fail> {
 // The bytes of an Add or a Replace, and the certificate of its unit.
 type Certified = (&'static [u8], Option<&'static [u8]>);
 
-// Whether the unit of the Add or Replace in these bytes has that certificate.
+// Whether the unit of the Add or Replace in these bytes has the certificate of the row.
 fn is_certified(alloc: Global, row: &Certified) -> Result<bool, Fail> {
     let (bytes, wanted) = *row;
     let command = read_command(alloc, bytes)?;
@@ -86,7 +87,7 @@ fn is_certified(alloc: Global, row: &Certified) -> Result<bool, Fail> {
     }
 }
 
-// Whether a unit has that certificate.
+// Whether a unit has this certificate.
 fn has_certificate(unit: &StoredUnit, wanted: Option<&[u8]>) -> bool {
     match (&unit.certificate, wanted) {
         (None, None) => true,
@@ -118,7 +119,7 @@ fn an_empty_certificate_is_not_none(rt: HostRuntime) -> Result<(), Fail> {
     each_passes(rt.alloc(), &table, is_certified)
 }
 
-// Whether these bytes are refused because they are no command.
+// Whether these bytes are refused because they are not a command.
 fn is_refused(alloc: Global, bytes: &[u8]) -> bool {
     match read_command(alloc, bytes) {
         Err(ReadFault::NoCommand) => true,

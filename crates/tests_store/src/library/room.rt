@@ -1,4 +1,5 @@
-// What a `compact` makes room for. A unit of one word without a source takes 25 bytes under a name of one letter.
+// What a `compact` makes room for. The record of a unit of one word with an empty source, under a name of one letter, takes 25
+// bytes.
 
 use crate::library::helpers::{Step, answers, formatted, name, number, opened, steps_done, unit};
 use cc_disk::{Disk, FuseDisk, FuseMode};
@@ -8,7 +9,7 @@ use std::sync::Arc;
 use std::test::Fail;
 use tests_texts::verdict::{each_passes, passes};
 
-// An area of 101 bytes has room for these four records and the closed gate. After compaction there are two records.
+// An area of 101 bytes has room for these four records and the closed gate. After a compaction there are two records.
 const FOUR: [Step; 4] = [
     Step::Add(b'a', 1),
     Step::Add(b'b', 2),
@@ -18,7 +19,7 @@ const FOUR: [Step; 4] = [
 
 const AREA: u32 = 101;
 
-// The device calls of opening an empty library, and of the four changes.
+// How many device calls opening an empty library and the four changes make.
 const CALLS: u64 = 3 + 4 * 4;
 
 fn full<D: Disk + Drop>(alloc: Global, disk: D) -> Result<Library<D>, Fail> {
@@ -30,13 +31,13 @@ fn full<D: Disk + Drop>(alloc: Global, disk: D) -> Result<Library<D>, Fail> {
     }
 }
 
-// A unit with this many bytes of source, which its record has besides 25 others.
+// A unit with this many bytes of source; its record takes 25 bytes more.
 fn sized(alloc: Global, count: usize) -> Result<SharedUnit, Fail> {
     let source = vec![in alloc; b' '; count]?;
     Ok(SharedUnit::new(Arc::new(alloc, unit(alloc, &source, 5)?)?))
 }
 
-// Whether a command has room once a library is compacted, and whether a `compact` would remove the reason for its refusal.
+// Whether a command would fit once the library is compacted, and whether a `compact` would remove the reason for refusing it.
 fn looks<D: Disk>(library: &Library<D>, command: &LibraryCommand) -> (bool, bool) {
     (
         library.has_room_compacted(command),
@@ -53,7 +54,7 @@ fn added(alloc: Global, count: usize) -> Result<LibraryCommand, Fail> {
 // The number of bytes of a source, and whether the unit fits.
 type Row = (usize, bool);
 
-// Whether a full library answers such an Add as it has to, before it is compacted and after that.
+// Whether a full library answers such an Add as it should, before it is compacted and after.
 fn is_right(alloc: Global, row: &Row) -> Result<bool, Fail> {
     let (count, fits) = *row;
     let first = added(alloc, count)?;
@@ -70,7 +71,7 @@ fn is_right(alloc: Global, row: &Row) -> Result<bool, Fail> {
     )
 }
 
-// Two records take 50 bytes, and a third has 51 with its closed gate, so at most 25 bytes of source fit.
+// Two records take 50 bytes, and 51 are left for a third and the closed gate, so at most 25 bytes of source fit.
 #[test]
 fn up_to_the_last_byte(rt: HostRuntime) -> Result<(), Fail> {
     for count in 0..60 {
@@ -79,7 +80,7 @@ fn up_to_the_last_byte(rt: HostRuntime) -> Result<(), Fail> {
     Ok(())
 }
 
-// Whether a `compact` removes the reason for which a full library refuses a Replace, or does not.
+// Whether a full library says of a Replace, as the row does, that a `compact` would remove the reason for refusing it.
 fn is_replaced(alloc: Global, row: &Row) -> Result<bool, Fail> {
     let unit = sized(alloc, row.0)?;
     let command = LibraryCommand::Replace(name(b'a')?, unit);
@@ -87,8 +88,8 @@ fn is_replaced(alloc: Global, row: &Row) -> Result<bool, Fail> {
     Ok(library.is_mended_by_compact(&command) == row.1)
 }
 
-// The old unit stays until its successor is there: there is room for 25 bytes of source after two records, not for 50 in place of
-// one.
+// The old unit stays until the new one is there: there is room for 25 bytes of source after the two records, not for 50 in place
+// of one record.
 #[test]
 fn a_replace_needs_room_beside_the_old_unit(rt: HostRuntime) -> Result<(), Fail> {
     each_passes(
@@ -114,7 +115,8 @@ fn a_withdrawal(rt: HostRuntime) -> Result<(), Fail> {
     passes(is_withdrawn(rt.alloc()))
 }
 
-// Whether an Add of `a`, a Replace of `c` and a Withdraw of `c` have room in a full library as it is.
+// Whether a full library says that an Add of `a`, a Replace of `c` and a Withdraw of `c` would fit after a `compact`, but would
+// still be refused.
 fn have_room(alloc: Global) -> Result<bool, Fail> {
     let add = LibraryCommand::Add(name(b'a')?, sized(alloc, 0)?);
     let replace = LibraryCommand::Replace(name(b'c')?, sized(alloc, 0)?);
@@ -127,7 +129,7 @@ fn have_room(alloc: Global) -> Result<bool, Fail> {
     )
 }
 
-// 31 and 32 come before 34.
+// A change that is refused with 31 or 32 is not refused with 34.
 #[test]
 fn what_is_not_refused_by_34(rt: HostRuntime) -> Result<(), Fail> {
     passes(have_room(rt.alloc()))
@@ -145,7 +147,7 @@ fn an_empty_library(rt: HostRuntime) -> Result<(), Fail> {
     passes(has_room_empty(rt.alloc()))
 }
 
-// Whether a thousand looks at a full library each say that a `compact` would help.
+// Whether a full library, asked a thousand times, always says that a `compact` would help.
 fn stays_mended<D: Disk>(library: &Library<D>, command: &LibraryCommand) -> bool {
     for _ in 0..1000 {
         if !library.is_mended_by_compact(command) {
@@ -155,8 +157,8 @@ fn stays_mended<D: Disk>(library: &Library<D>, command: &LibraryCommand) -> bool
     true
 }
 
-// Whether a library is closed by the first device call after the changes, and a look says what it should before that and after
-// it.
+// Whether the first device call after the changes closes the library, and asking the library gives the right answers before that
+// call and after it.
 fn is_closed(alloc: Global) -> Result<bool, Fail> {
     let command = added(alloc, 25)?;
     let disk = FuseDisk::new(formatted(alloc, AREA)?, CALLS, FuseMode::Once);
@@ -169,7 +171,7 @@ fn is_closed(alloc: Global) -> Result<bool, Fail> {
     )
 }
 
-// A closed library answers 36. Until then no look has called the device: the call that fails is the first after the changes.
+// A closed library answers 36. Asking a library makes no device call, so the call that fails is the first after the changes.
 #[test]
 fn a_closed_library(rt: HostRuntime) -> Result<(), Fail> {
     passes(is_closed(rt.alloc()))
@@ -192,7 +194,7 @@ fn is_measured(alloc: Global) -> Result<bool, Fail> {
     Ok(empty && one && four && compacted && withdrawn && takes(&library, 59, 25, 1))
 }
 
-// The record of a withdrawal takes 5 bytes and 4 more: version, kind, and the name with its length.
+// The record of a withdrawal takes 5 bytes and 4 more, for the version, the kind, and the name with its length.
 #[test]
 fn how_much_is_taken(rt: HostRuntime) -> Result<(), Fail> {
     passes(is_measured(rt.alloc()))

@@ -11,11 +11,12 @@ use std::alloc::Global;
 use std::test::Fail;
 use tests_texts::verdict::{each_passes, passes};
 
-// The device calls of opening a library with one record: a sync, the header, and the records, which are read ahead.
+// How many device calls opening a library with one record makes: a sync, a read of the header, and a read ahead of the
+// records.
 const OPENING: u64 = 3;
 
-// Whether these steps on a new library with areas of this many bytes are answered with these numbers, and its disk then holds
-// these units.
+// Whether these steps on a new library with areas of this many bytes are answered with these numbers, and the library's disk
+// then holds these units.
 fn are_answered(
     alloc: Global,
     area: u32,
@@ -39,7 +40,7 @@ fn changes(rt: HostRuntime) -> Result<(), Fail> {
 
 #[test]
 fn a_full_area(rt: HostRuntime) -> Result<(), Fail> {
-    // Two records of 25 bytes and the closed gate leave 13 bytes: one Withdraw of 9 fits, a third unit does not.
+    // Two records of 25 bytes and the closed gate leave 13 bytes: a Withdraw of 9 bytes fits, and a third unit does not.
     let steps = [
         (Step::Add(b'a', 1), 0),
         (Step::Add(b'b', 2), 0),
@@ -89,7 +90,7 @@ fn are_names(names: &[Name], wanted: &[&[u8]]) -> bool {
             .all(|(name, bytes)| name.bytes() == *bytes)
 }
 
-// Adds a unit under that name. The result is whether the answer is Ok.
+// Adds a unit under this name. The result is whether the answer is Ok.
 fn is_added<D: Disk>(alloc: Global, library: &mut Library<D>, name: &[u8]) -> Result<bool, Fail> {
     let unit = word_unit(alloc, 0)?;
     Ok(library.add(alloc, Name::new(name)?, unit).is_ok())
@@ -114,7 +115,7 @@ fn names_come_in_the_order_of_their_bytes(rt: HostRuntime) -> Result<(), Fail> {
     ))
 }
 
-// A library with `a` added, on a disk of 144 bytes whose next calls meet a fuse.
+// A library with `a` added, on a disk of 144 bytes with a fuse that passes this many more calls.
 fn with_a(alloc: Global, passes: u64) -> Result<Library<FuseDisk<MemoryDisk>>, Fail> {
     let mut library = opened(alloc, formatted(alloc, 64)?)?;
     if steps_done(alloc, &mut library, &[Step::Add(b'a', 1)])? != 1 {
@@ -126,7 +127,8 @@ fn with_a(alloc: Global, passes: u64) -> Result<Library<FuseDisk<MemoryDisk>>, F
     )
 }
 
-// The disk after an Add of `b` whose device calls meet the fuse once this many have passed, and a crash with that choice.
+// The disk after an Add of `b` that meets the fuse once this many of its device calls have passed, and a crash with this
+// choice.
 fn torn(alloc: Global, passes: u64, choice: &[u8]) -> Result<MemoryDisk, Fail> {
     let mut library = with_a(alloc, OPENING.saturating_add(passes))?;
     if does(alloc, &mut library, Step::Add(b'b', 2))? != 35 {
@@ -135,7 +137,7 @@ fn torn(alloc: Global, passes: u64, choice: &[u8]) -> Result<MemoryDisk, Fail> {
     Ok(library.into_disk().into_disk().crash(alloc, choice)?)
 }
 
-// Whether these units are left by a crash before the gate is settled, if it leaves this byte wherever it may leave anything.
+// Whether these units are left by a crash before the gate is settled, if the crash leaves this byte at every unsettled offset.
 fn is_decided(alloc: Global, row: &(u8, Held)) -> Result<bool, Fail> {
     recovers(alloc, torn(alloc, 2, &[row.0; 144])?, row.1)
 }
@@ -149,8 +151,8 @@ fn the_gate_decides(rt: HostRuntime) -> Result<(), Fail> {
 #[test]
 fn a_torn_body_counts_for_nothing(rt: HostRuntime) -> Result<(), Fail> {
     let alloc = rt.alloc();
-    // The record of `a` ends with byte 40, the gate of the next is byte 41. After it the crash leaves a whole record, Withdraw
-    // of `a`, and an open gate.
+    // The record of `a` ends with byte 40, and byte 41 is the gate of the next record. After this gate the crash leaves a
+    // whole record, a Withdraw of `a`, and an open gate.
     let mut choice = [0xa5u8; 144];
     for (i, byte) in [4u8, 0, 0, 0, 1, 3, 1, b'a', 0xa5].iter().enumerate() {
         if i < 9 {
@@ -160,7 +162,7 @@ fn a_torn_body_counts_for_nothing(rt: HostRuntime) -> Result<(), Fail> {
     passes(recovers(alloc, torn(alloc, 0, &choice)?, (Some(1), None)))
 }
 
-// The library with `a`, closed by a `compact` over a fuse that lets two calls pass.
+// The library with `a`, closed by a `compact` whose first two device calls pass the fuse.
 fn cut_off(alloc: Global) -> Result<Library<FuseDisk<MemoryDisk>>, Fail> {
     let mut library = with_a(alloc, OPENING.saturating_add(2))?;
     if does(alloc, &mut library, Step::Compact)? != 35 {
@@ -169,7 +171,7 @@ fn cut_off(alloc: Global) -> Result<Library<FuseDisk<MemoryDisk>>, Fail> {
     Ok(library)
 }
 
-// The row of that `compact`: the area byte is torn.
+// The row of a `compact` that is cut off while the area byte is written, so that this byte is torn.
 #[test]
 fn a_torn_area_byte_keeps_the_map(rt: HostRuntime) -> Result<(), Fail> {
     let alloc = rt.alloc();
@@ -194,7 +196,7 @@ fn still_answers(alloc: Global) -> Result<bool, Fail> {
         (Step::Withdraw(b'a'), 36),
     ];
     let right = answers(alloc, &mut library, &steps)? && holds(alloc, &library, (Some(1), None))?;
-    // No call but the one that met the fuse reached the device.
+    // Only one device call failed: the one that met the fuse.
     Ok(right && library.into_disk().failures() == 1)
 }
 
@@ -213,7 +215,7 @@ fn is_compacted(alloc: Global) -> Result<bool, Fail> {
         Step::Compact,
     ];
     let done = steps_done(alloc, &mut library, &steps)?;
-    // Area B begins at 144: an Add of `a` and one of `b`, each of 25 bytes, and a closed gate.
+    // Area B begins at 144: it has an Add of `a` and an Add of `b`, each of 25 bytes, and a closed gate.
     let parts: [(usize, &[u8]); 9] = [
         (0, &[1]),
         (144, &[0xa5]),

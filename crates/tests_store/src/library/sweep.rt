@@ -1,5 +1,5 @@
-// Every point of failure of add, add, replace, compact, withdraw, in each mode, and a crash after each; and the same through
-// `run`.
+// Every point of failure of add, add, replace, compact, withdraw, in each mode, and a crash after each; and the same steps
+// through `run`.
 
 use crate::library::helpers::{
     Held, Step, crash_leaves, edits, formatted, next_byte, opened, refusal, steps_done,
@@ -21,7 +21,7 @@ const STEPS: [Step; 5] = [
     Step::Withdraw(b'b'),
 ];
 
-// What `a` and `b` hold after this many of the steps.
+// What the library holds under `a` and `b` after this many of the steps.
 fn map_after(done: usize) -> Held {
     match done {
         0 => (None, None),
@@ -32,7 +32,7 @@ fn map_after(done: usize) -> Held {
     }
 }
 
-// A new library's disk whose calls meet a fuse.
+// A new library's disk, with a fuse in this mode that passes this many calls.
 fn fused(alloc: Global, passes: u64, mode: FuseMode) -> Result<FuseDisk<MemoryDisk>, Fail> {
     Ok(FuseDisk::new(formatted(alloc, 128)?, passes, mode))
 }
@@ -78,7 +78,7 @@ fn is_right(alloc: Global, disk: &MemoryDisk, done: usize) -> Result<bool, Fail>
     Ok(true)
 }
 
-// Whether the steps are right over a fuse that lets this many calls pass.
+// Whether each crash leaves the right map if the steps meet a fuse that passes this many calls.
 fn survives(alloc: Global, calls: u64, mode: FuseMode) -> Result<bool, Fail> {
     let (disk, done) = changed(alloc, fused(alloc, calls, mode)?)?;
     Ok((done == 5 || calls < CALLS) && is_right(alloc, &disk, done)?)
@@ -94,8 +94,8 @@ fn every_failure_and_a_crash(rt: HostRuntime) -> Result<(), Fail> {
     Ok(())
 }
 
-// What a run of the steps over a fuse left: its disk, the fault with which it stopped (0: none), how many numbers it gave,
-// and how many of these are 35.
+// What a run of the steps over a fuse left: the disk, the number of the fault that stopped the run (0: none), how many
+// numbers the run gave, and how many of these are 35.
 #[derive(Drop)]
 struct Ran {
     disk: MemoryDisk,
