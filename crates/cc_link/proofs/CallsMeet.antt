@@ -45,7 +45,7 @@ slower_piece meaning layout f frame rate other items le piece code places place 
     slower meaning.objects layout code (rate * c) (other * c) n s _ (mul-le-mul_right c le) (piece code places place a b p enough at d c below one calls ws h s n enters)
 
 module _ (meaning : Meaning) (layout : ObjectLayout meaning.objects) (rate : ℕ) (code : Code) (places : ℕ → ℕ) (pieces : Pieces meaning layout rate code places) where
-  -- if no step is left, or the source has failed, the contract is met without any move
+  -- if no step is left, the contract is met without any move
   idle : (c : ℕ) (s : State) (h : World) (e : Effect) → s.output ≡ h.output → e ≡ Unfinished h.output → Meets layout code c c 0 s e
   idle c s h e o u = subst (Meets layout code c c 0 s) (sym u) (0, s, refl, o, omega arith)
 
