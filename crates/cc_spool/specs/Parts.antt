@@ -28,7 +28,7 @@ abbrev pub AreParts : List Part → Type 0
 AreParts [] = Unit {0}
 AreParts (part ∷ parts) = IsPart part × AreParts parts
 
--- a newline comes after each line and each source, which may have any bytes
+-- the source, which may have any bytes, and a newline after it; nothing if there is no source
 abbrev pub source_text : Option (List ℕ) → List ℕ
 source_text None = []
 source_text (Some source) = source ++ 10 ∷ []
