@@ -87,7 +87,7 @@ done_as mode a b c d first last other one two three it =
     (subst (λ (g : Given). HasDone mode c first g last) two (subst (λ (g : Given). HasDone mode g first b last) one it))
 
 module _ (mode : Mode) {P : Type 0} (given : P → Given) (member : P → MemberView) where
-  -- each client with its spool
+  -- each client did what its own spool gave
   abbrev pub Each : (olds news : List P) → Type 0
   Each olds news = (i : ℕ) (d : P) → i < length olds → HasDone mode (given (get_or olds i d)) (member (get_or olds i d)) (given (get_or news i d)) (member (get_or news i d))
 
