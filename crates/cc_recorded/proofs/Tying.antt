@@ -55,7 +55,7 @@ pub record TurnLaw {P : Type 0} (rules : Rules P) (keeps : P → Type 0) : Type 
       → HasBuilt rules keeps command → CanBeReady rules keeps old client worker command
 
 module _ {P : Type 0} where
-  -- the kind of an event, by which those are told apart that hand in a job, give a worker a piece, hand in a piece, or begin a commit
+  -- the kind of an event: one number each for those that hand in a job, give a worker a piece, hand in a piece, or begin a commit
   abbrev kind : Event P → ℕ
   kind (event.Submit client call request) = 0
   kind (event.Take worker client part) = 1

@@ -195,7 +195,7 @@ impl<N: Based, D: Disk> Book<N, D> {
     }
 
     /// Makes a change as `commit` does. But if `commit` would refuse the change with 34 now, and would not after a `compact`, the library
-    /// is compacted first. That makes no entry in the history, and the map stays the same.
+    /// is compacted first. The compaction makes no entry in the history, and the map stays the same.
     ///
     /// Refuses as `commit` does. It answers 34, without a device call, if the record would not fit even after a `compact`. It also answers
     /// 34 if `compact` was refused: then the change was not begun, and every crash leaves the map as it was; but if the device failed, the
@@ -237,7 +237,7 @@ impl<N: Based, D: Disk> Book<N, D> {
         self.recorded.is_mended_by_compact(client, command)
     }
 
-    /// Tells the prover what the type of a book keeps about what a crash leaves now; at run time this does nothing.
+    /// Shows the prover what the type of a book keeps about what a crash leaves now; at run time this does nothing.
     pub fn kept(&self)
         ensures images { AllRecover D.Disk self.now.book }
         ensures idle { self.now.book.library.closed ≡ false → self.now.book.failed ≡ [] }

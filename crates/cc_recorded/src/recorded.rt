@@ -98,7 +98,7 @@ impl<N: Based, D: Disk> RecordedLibrary<N, D> {
         library.into_disk()
     }
 
-    /// Tells the prover what the type keeps; at run time this does nothing.
+    /// Shows the prover what the type keeps; at run time this does nothing.
     pub(crate) fn kept(&self)
         ensures base { IsTrue D.honest → self.now.base ≡ N.base }
         ensures replays { Replays (chronicle_of self.now) }

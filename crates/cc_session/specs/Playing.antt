@@ -77,7 +77,7 @@ pub record IsSentTwice (mode : Mode) (name : List ℕ) (expected_count count : �
 abbrev pub words_of : (bytes : List ℕ) → Option (List ℕ)
 words_of bytes = if nat_le (length bytes) 65536 then input_in bytes else None
 
--- the unit under the name is run on the words; if there are none, the answer is 50
+-- the unit under the name is run on the words; if the bytes are not words, the answer is 50
 abbrev pub CallsOn : (name : List ℕ) (steps : ℕ) → (words : Option (List ℕ)) → (old new : Talk) → Type 0
 CallsOn name steps (Some words) old new = CallsAndWrites (GetAnswers name) (SaysRunOn words steps) old new
 CallsOn name steps None old new = Writes (script_fault_text BadLine) old new

@@ -16,7 +16,7 @@ use cc_service::ServiceFault;
 use std::alloc::Global;
 use std::io::Write;
 
-// Where in the source the fault of a refusal lies.
+// The place in the source to which a refusal refers.
 fn stands_of(fault: &ServiceFault) -> Stands<'_>
     ensures { (source : List ℕ) → position_text source result ≡ where_text source fault.now }
 {

@@ -12,7 +12,7 @@ pub record IsAnswered (old new : Option (List ℕ)) (told : Option ℕ) : Type 0
   pub tells : Tells answer told
 
 -- The contents of the writer before and after. If there is no answer, it got nothing; if the answer was not read to its end, it
--- got the first bytes of the answer. Nothing is said about the writer of an answer that could not be written.
+-- got the first bytes of the answer. If the answer could not be written, nothing is known about the writer.
 abbrev pub HasWritten : (old new : Option (List ℕ)) → Submission → Type 0
 HasWritten old new (Answered told) = IsAnswered old new told
 HasWritten old new NotTaken = new ≡ old

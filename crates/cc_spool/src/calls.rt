@@ -141,7 +141,7 @@ impl FolderLayout {
         }
     }
 
-    /// Moves a script's file to another place, where it replaces whatever is there.
+    /// Moves a script's file to another place, replacing whatever is there.
     pub(crate) fn rename(&self, name: &str, from: Place, to: Place) -> Result<(), Refusal> {
         self.rename_along(self.path_of(from, name), self.path_of(to, name))
     }

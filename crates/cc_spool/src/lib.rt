@@ -10,7 +10,7 @@
 //! is refused. `log` has who did what: `script_file` has the lines of a script as it is read, `answer_words` how each was
 //! answered.
 //!
-//! The crate knows nothing about libraries. Of `cc_disk` it uses only the history, which only contracts read. The only handles
+//! The crate knows nothing about libraries. It uses only the history of `cc_disk`, which only contracts read. The only handles
 //! that it needs are those for files and the clock. It exports `Spool`, `MemorySpool` and `Answered`; `FolderSpool`,
 //! `FolderLayout`, `SpoolFault`, and what a server (`take_folder`, `wide_parts`, `recover`, `clear_old`, `count_entries`) and a
 //! client (`submit`) do in a folder; how a source is written in an answer (`frame`, `source_in`, `fault_lines`); and which names

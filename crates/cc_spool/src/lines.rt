@@ -17,7 +17,7 @@ const SOURCE: [u8; 7] = *b"source ";
 /// The fault that an answer reports if it ends within a source.
 const INTERRUPTED: u32 = 55;
 
-// Where in an answer the next byte lies.
+// The place of the next byte in an answer.
 #[derive(Clone, Copy, Drop)]
 enum Place {
     // After this many bytes of the beginning of a fault's line. After 0 bytes, this is the beginning of any line.
@@ -145,7 +145,7 @@ impl Lines {
         }
     }
 
-    /// Whether the bytes read so far end with a whole line or source, or there are none.
+    /// Whether the bytes read so far end with a whole line or source, or no byte has been read.
     pub(crate) fn is_between(&self) -> bool
         ensures { IsTrue result ↔ (self.now.place ≡ place.Fault 0) }
     {

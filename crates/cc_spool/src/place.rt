@@ -15,7 +15,7 @@ pub(crate) enum Place {
     Answer,
     /// `done/ID`: its answer, once it is complete.
     Done,
-    /// In the folder itself, where the only such files are those with which a start tests the folder.
+    /// In the folder itself: only the files with which a start tests the folder.
     Top,
 }
 

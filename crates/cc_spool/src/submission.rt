@@ -183,7 +183,7 @@ fn publish(layout: &FolderLayout, process: u32, written: &str) -> Result<String,
     }
 }
 
-// Puts a script where a server finds it; none if it can't be read to its end. If it is not put there, nothing is left of it.
+// Puts a script into `new`; none if it can't be read to its end. If it is not put there, nothing is left of it.
 fn put<S: Read>(
     layout: &FolderLayout,
     process: u32,
@@ -363,7 +363,7 @@ impl Waiting {
     }
 }
 
-// How long a script has waited, and whether a person was told.
+// How long a script has waited, and whether a person knows that it waits.
 #[derive(Clone, Copy, Drop)]
 struct Patience {
     // The moment up to which the milliseconds are counted.
@@ -402,7 +402,7 @@ impl Patience {
         Ok(passed)
     }
 
-    // Notes that a look succeeded. The result is whether to tell a person now that the script waits.
+    // Notes that a look succeeded. The result is whether to write now, for a person, that the script waits.
     fn look(&mut self) -> bool {
         self.failing = 0;
         let is_due = !self.is_told && TELL <= self.waited;

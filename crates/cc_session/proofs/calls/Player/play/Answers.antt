@@ -1,4 +1,4 @@
--- Each line is a step. Where the script stopped, its client is as these steps left it, or has made one more call, whose answer could
+-- Each line is a step. If the script stopped, its client is as these steps left it, or has made one more call, whose answer could
 -- not be written.
 use Rattle.std.proofs.Common.{rules, ◌<◌, refl}
 use Rattle.cc_session.specs.Playing.{talk}
