@@ -58,7 +58,7 @@ fn put(judged: &mut Judged, name: &Name, audit: Audit) -> Result<(), AllocError>
     Ok(())
 }
 
-// Audits the units with these names, each of which has one, in the order of the names. A newline goes to `seen` for each unit.
+// Audits the units with these names, in the order of the names. Each name has a unit. A newline goes to `seen` for each unit.
 fn judge<S: Write>(
     alloc: Global,
     units: &UnitMap,
