@@ -17,7 +17,7 @@ use Rattle.cc_copy.specs.declared.choosing.ChooseFault.TheVariants as fault
 abbrev pub is_among : (names : List (List ℕ)) (name : List ℕ) → Bool
 is_among names name = list_any (bytes_eq name) names
 
--- each of the names has a unit in the map, and the chosen units are these and no others
+-- each of the names has a unit in the map, and the chosen units are exactly these
 pub record IsChosen (units : Units) (names : List (List ℕ)) (copied : Units) : Type 0 where
   pub there : All (λ name. IsTrue (contains_key units name)) names
   pub chosen : (name : List ℕ) → get copied name ≡ (if is_among names name then get units name else None)

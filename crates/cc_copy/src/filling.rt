@@ -44,7 +44,7 @@ fn write_units<D: Disk>(
 }
 
 /// Makes a new library with these units on a disk, with areas of `area` bytes. The disk is handed back. After Ok, every crash
-/// leaves these units and no others.
+/// leaves exactly these units.
 ///
 /// Refusals: 34 if the units don't fit in such an area, or two such areas don't fit on the disk, which is then as before; 35 if
 /// the device failed; 40 if memory ran out.

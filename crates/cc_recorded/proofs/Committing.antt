@@ -29,7 +29,7 @@ agreed-push history entry old new k found at =
     elim (snoc_cases history entry found k at) [ inl a ↦ old k found a.1 | inr b ↦ subst (λ (e : Entry). HasAgreedUnit e.asked) (sym b.1) new ]
 
 module _ {Disk : Type 0} where
-  -- the book with one more entry, over this library
+  -- the book with one more entry, and with this library
   abbrev pub entered : BookView Disk → View Disk → Receipt → BookView Disk
   entered before library receipt = record before { library = library; history = before.history ++ receipt.entry ∷ [] }
 

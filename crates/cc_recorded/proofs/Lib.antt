@@ -3,7 +3,7 @@
 -- a lemma over those relations (Tying, Sinces). A commit is some steps of the core, by cases on its answer (Cores, Rewriting); what remains
 -- is that the bytes and images of the library's disk are those of the core's store (Disks).
 --
--- what each exit of a commit owes
+-- what has to be shown at each exit of a commit
 pub mod Committing
 -- the core's store still shows the library's disk after the steps of a commit
 pub mod Disks

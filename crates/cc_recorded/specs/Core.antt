@@ -42,7 +42,7 @@ pub record ShowsOrder {D : Type 0} (book : BookView D) (order acknowledged : Lis
   pub in_order : order ≡ acknowledged ++ failing
   pub failed : commands failing ≡ book.failed
 
--- the phase is idle; once the device has failed, it is failed, with the change that failed, if there was one
+-- the phase is Idle; or, once the device has failed, Failed, with the change that failed, if there was one
 abbrev pub IsPhase : (closed : Bool) (failed : List LibraryCommand) → Phase → Type 0
 IsPhase false failed phase = (failed ≡ []) × (phase ≡ Idle)
 IsPhase true [] phase = phase ≡ Failed None
@@ -58,7 +58,7 @@ pub record ShowsDisk {Disk : Type 0} (D : Ghosts Disk) (view : View Disk) (store
   pub holds : IsTrue D.honest → view.closed ≡ false → (h : HoldsRecords (D.seen view.disk) view.area view.bodies) × (h.area_byte ≡ store.area_byte)
 
 module _ {Disk P : Type 0} (D : Ghosts Disk) where
-  -- the book shows this state: live map, order, phase and disk
+  -- the book shows this state: its live map, its order, its phase and its disk
   pub record Shows (book : BookView Disk) (s : Contents P) : Type 0 where
     pub library : s.core.library ≡ book.library.units
     pub order : ShowsOrder book s.core.order s.core.acknowledged

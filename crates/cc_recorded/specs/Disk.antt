@@ -1,5 +1,5 @@
--- What a change, and what a compaction, does to the bytes of an honest disk. After 35 the call failed in one of its two writes, which is
--- the same one for all images.
+-- How a change, or a compaction, changes the bytes of an honest disk. After 35 the call failed in one of its two writes: the same one
+-- for all images.
 use Rattle.std.specs.Prelude.{ℕ, Result, Ok, Err}
 use Rattle.cc_disk.specs.declared.disk.Disk.{Ghosts}
 use Rattle.cc_disk.specs.Images.{LeavesAlone}

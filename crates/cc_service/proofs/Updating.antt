@@ -175,15 +175,15 @@ module _ {Disk : Type 0} (D : Ghosts Disk) where
   look_leaves before after_it old new asked book.Closed it = absurd it
   look_leaves before after_it old new asked book.DiskFault it = absurd it
 
-  -- if the book is unchanged, a crash leaves what it may leave around a change, whatever that change is
+  -- if the book is unchanged, a crash leaves what it may leave during a change, whatever that change is
   pub nothing_at_once : (before after_it : BookView Disk) (command : Command) → after_it ≡ before
       → (IsTrue D.honest → (image : List ℕ) → D.left_since before.library.disk (D.moment before.library.disk) image → D.may_leave before.library.disk image) → AllRecover D before
       → (before.library.closed ≡ false → before.failed ≡ []) → ChangesAtOnce D command before after_it
   nothing_at_once before after_it command same only_now images idle =
       subst (λ (b : BookView Disk). ChangesAtOnce D command before b) (sym same) (no_call_between D before (after before.library.units command) only_now images idle)
 
-  -- what a crash leaves around a change, it leaves around a look-up and then that change, since a look-up leaves the library
-  -- as it was
+  -- what a crash may leave during a change, it may leave during a look-up and then that change, since a look-up leaves the
+  -- library as it was
   pub at_once_after : (before between after_it : BookView Disk) (command : Command) → between.library ≡ before.library → ChangesAtOnce D command between after_it → ChangesAtOnce D command before after_it
   at_once_after before between after_it command same moments =
       subst (λ (l : View Disk). IsTrue D.honest → l.closed ≡ false → LeavesOnly D.moment D.left_since l.disk after_it.library.disk (RecoversOneOf l.units (after l.units command))) same moments

@@ -119,7 +119,7 @@ impl<N: Named + Send + Sync + 'static, D: Disk> Service<N, D> {
         requires queue { fresh.queue ≡ N.queue }
         requires named { IsTrue D.honest → (units : Units) → Recovers (D.seen disk) units → units ≡ N.base }
         // The parameter also names a moment up to now, what a crash may have left since then (`finish` says what a crash leaves later), and
-        // at most the number of device calls that had failed.
+        // a number of failed device calls that is at most the actual one.
         requires past { IsTrue D.honest → IsPast D.Disk N.from N.left disk }
         requires failures { N.failures ≤ D.failures disk }
         requires some { 1 ≤ workers }
@@ -166,7 +166,7 @@ impl<N: Named + Send + Sync + 'static, D: Disk> Service<N, D> {
         R: Threads + Wait + Copy + Send + 'static,
         G: Gate + Drop + Send + Sync + 'static,
         // The parameter names this ledger and this queue. On an honest disk it names the library's map and a moment up to now; on any disk,
-        // at most the number of device calls that had failed.
+        // a number of failed device calls that is at most the actual one.
         requires ledger { fresh.ledger ≡ N.name }
         requires parts { N.parts ≡ 1025 }
         requires queue { fresh.queue ≡ N.queue }

@@ -62,7 +62,7 @@ read_same : (x : Option (List ℕ)) (n : ℕ) (Q : List ℕ → List ℕ → Typ
 read_same None n Q it = tt
 read_same (Some b) n Q it = record { taken = []; prefix = refl; counted = omega arith; holds = it b }
 
--- if nothing was read, whatever holds of any list and itself holds of what was left before and after
+-- if nothing was read, a relation between each list and itself holds between what was left before and after
 pub between_none : (x : Ahead) (Q : List ℕ → List ℕ → Type 0) → ((b : List ℕ) → Q b b) → Between x x Q
 between_none x Q it = read_same x.rest x.left Q it
 

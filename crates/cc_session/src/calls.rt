@@ -111,8 +111,8 @@ impl<'a, N: Named + Send + Sync + 'static, H: Wait, D: Disk, P: Patience> Player
         tell_change(self.alloc, answer, source, answers, explanations)
     }
 
-    // Writes the answer of a unit that was put. If memory was refused, or a worker is gone, all hints are dropped, and the unit is
-    // put once more.
+    // Writes the answer for a unit that was put. If memory was refused, or a worker is gone, all hints are dropped, and the unit
+    // is put once more.
     fn settle<W: Write, E: Write>(
         &self,
         answer: Result<Receipt, ServiceFault>,
@@ -568,8 +568,8 @@ impl<'a, N: Named + Send + Sync + 'static, H: Wait, D: Disk, P: Patience> Player
         }
     }
 
-    // Audits the units under these names, up to the first that is not found or whose audit says nothing. The result is whether
-    // there was no such unit.
+    // Audits the units under these names, up to the first that is not found or whose audit says nothing. The result is whether all
+    // units were audited.
     fn audit_names<W: Write, E: Write>(
         &self,
         client: &mut Client<N>,

@@ -3,7 +3,7 @@
 use Rattle.std.specs.Prelude.{◌≡◌, ◌≢◌, ◌⊎◌, ◌<◌, ℕ, min, All, List, [], ◌∷◌, ◌++◌, length, Option, Some, None, codes}
 use Rattle.std.specs.Str.Parse.{AllDigits, digits_value}
 
--- the line says that a source of this many bytes comes after it: `source` and a number, which counts up to 32 bits
+-- the line says that a source of this many bytes comes after it: `source` and a number, which counts as at most 4294967295
 pub record IsHeader (line : List ℕ) (count : ℕ) : Type 0 where
   pub digits : List ℕ
   pub some : 0 < length digits

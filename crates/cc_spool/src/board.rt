@@ -32,8 +32,8 @@ const MOST_PASS: u64 = 30;
 /// A look is made after this many seconds even if `new` is unchanged.
 const LOOK_AGAIN: u64 = 10;
 
-/// At most this many names that were passed over are tried again in one go; then the pause between two goes, in seconds. All
-/// names that are kept are tried again in less time than the longest pass.
+/// At most this many names that were passed over are tried again in one go. `AGAIN` is the pause between two goes, in seconds. So
+/// all names that are kept are tried again in less time than the longest pass.
 const MOST_AGAIN: usize = 5_000;
 
 const AGAIN: u64 = 1;

@@ -20,8 +20,8 @@ const BLOCK: u64 = 4096;
 /// How old an answer has to be before it is removed to make room, in seconds.
 const LEAST_AGE: i64 = 600;
 
-/// The time between two clearings of answers, in seconds; then that time while the answers that may not be removed yet take more
-/// room than allowed.
+/// The time between two clearings of answers, in seconds. `EACH_IF_FULL` is this time while the answers that may not be removed yet
+/// take more room than allowed.
 const EACH: u64 = 3600;
 
 const EACH_IF_FULL: u64 = 10;

@@ -20,11 +20,11 @@ const INTERRUPTED: u32 = 55;
 // The place of the next byte in an answer.
 #[derive(Clone, Copy, Drop)]
 enum Place {
-    // After this many bytes of the beginning of a fault's line. After 0 bytes, this is the beginning of any line.
+    // After this many bytes of `fault ` at the beginning of a line. 0 is the beginning of any line.
     Fault(usize),
     // In the number of a fault, with this value so far.
     Number(u32),
-    // After this many bytes of the beginning of a line after which a source comes.
+    // After this many bytes of `source ` at the beginning of a line.
     Source(usize),
     // In the number of the source's bytes, with this value so far.
     Length(u32),
@@ -48,7 +48,7 @@ fn with_digit(number: u32, byte: u8) -> u32
         .saturating_add(u32::from(byte - b'0'))
 }
 
-// The place after a byte other than a newline, when this many bytes of the beginning of a fault's line were read.
+// The place after a byte other than a newline, when this many bytes of `fault ` were read.
 fn in_fault(count: usize, byte: u8) -> Place
     ensures { result ≡ in_fault count byte }
 {

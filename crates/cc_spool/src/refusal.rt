@@ -15,7 +15,7 @@ const NOT_FOUND: i32 = 2;
 pub(crate) enum Refusal {
     /// The system refused the call, with this number.
     System(i32),
-    /// There is no memory.
+    /// Memory ran out.
     NoMemory,
     /// The call did less than it was asked to.
     CutShort,
