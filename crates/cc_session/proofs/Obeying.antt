@@ -18,7 +18,7 @@ use Rattle.cc_session.specs.internal.Calls.{CallsAndTells, DoesAndTells}
 use Rattle.cc_session.specs.internal.Steps.{IsDone, IsObeyed}
 use Rattle.cc_session.proofs.Playing.{appended, does_of}
 
--- if a step was done, or was not, its line was obeyed, or was not
+-- if a step was done, its line was obeyed; if the step was not done, the line was not obeyed
 obeyed_from : (mode : Mode) → {T : Type 0} (answer : Result T ScriptFault) (most : Option ℕ) (asked : Option ScriptRequest) (x z : Ahead) (old new : Talk)
     → IsDone (λ b a o n. Obeys mode asked b a o n) (λ rest. IsCutShort asked rest) (λ rest. HasUnended asked rest) x z old new answer → IsObeyed mode most asked x z old new answer
 obeyed_from mode (Ok done) most asked x z old new it = it
@@ -29,7 +29,7 @@ obeyed_from mode (Err ReadFault) most asked x z old new it = it
 obeyed_from mode (Err WriteFault) most asked x z old new it = it
 obeyed_from mode (Err Stopped) most asked x z old new it = absurd it
 
--- if `asked` is what the step is for, its line was obeyed, or was not
+-- if a step was for what the line asks for, the line was obeyed exactly if the step was done
 pub obeyed_as : (mode : Mode) → {T : Type 0} (most : Option ℕ) (answer : Result T ScriptFault) (asked wanted : Option ScriptRequest) (x z : Ahead) (old new : Talk) → wanted ≡ asked
     → IsDone (λ b a o n. Obeys mode wanted b a o n) (λ rest. IsCutShort wanted rest) (λ rest. HasUnended wanted rest) x z old new answer → IsObeyed mode most asked x z old new answer
 obeyed_as mode most answer asked wanted x z old new same it =

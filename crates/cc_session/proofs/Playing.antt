@@ -113,7 +113,8 @@ pub appended : (a : Option (List ℕ)) (text : List ℕ) → Appends a (append_k
 appended None text = tt
 appended (Some bytes) text = refl
 
--- if the text of a step was written, or could not be written, the step was done, or was not
+-- if the text of a step was written, the step was done; if the text could not be written, the step was not
+-- done
 pub done_of : {T : Type 0} (answer : Result T ScriptFault) (Does : List ℕ → List ℕ → Talk → Talk → Type 0) (IsShort IsBad : List ℕ → Type 0) (x y : Ahead) (old new : Talk) (text : List ℕ)
     → Tells old.written new.written text answer
     → ((written : Option (List ℕ)) → Appends old.written written text → Between x y (λ b a. Does b a old (talk new.client written))) → IsDone Does IsShort IsBad x y old new answer
@@ -259,7 +260,7 @@ some_left x y next line it other = known_by x y (λ b a. IsNext b next line a) (
 
 -- ---- lines that are refused, and sources
 
--- if 50 was written for a line, and the line was skipped, or could not be, its step was done, or was not
+-- if 50 was written for a line and the line was skipped, its step was done; else the step was not done
 pub skipped : {T : Type 0} (answer : Result T ScriptFault) (Does : List ℕ → List ℕ → Talk → Talk → Type 0) (IsShort IsBad : List ℕ → Type 0) (x y z : Ahead) (left : ℕ) (old new : Talk)
     (P : List ℕ → List ℕ → Type 0) → new.client ≡ old.client → Between x y P → OnOk answer (Between y z (λ b a. (rest : List ℕ) × IsLine b rest a))
     → OnOk answer (Appends old.written new.written (script_fault_text BadLine))
