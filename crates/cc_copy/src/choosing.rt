@@ -20,7 +20,7 @@ pub enum ChooseFault {
     OutOfMemory,
 }
 
-// Adds this unit with this name to a map, if the map has no unit with the name.
+// Adds this unit under this name to a map, if the name has no unit in it.
 fn add(chosen: &mut UnitMap, name: &Name, unit: &Arc<StoredUnit>) -> Result<(), AllocError>
     ensures { OnOk result (chosen.new ≡ after chosen.old (command.Add name.now (arc_value unit.now))) }
 {
@@ -33,7 +33,7 @@ fn add(chosen: &mut UnitMap, name: &Name, unit: &Arc<StoredUnit>) -> Result<(), 
 
 /// The units with these names in a map; each name must have one.
 ///
-/// Refusals: 32 with the index of the first name that has none, 40 if memory ran out.
+/// Refusals: 32, with the index of the first name that has no unit; 40 if memory ran out.
 pub fn choose(alloc: Global, units: &UnitMap, names: &[Name]) -> Result<UnitMap, ChooseFault>
     ensures chosen { IfOk result (IsChosen units.now names.now) }
     ensures refused { IfErr result (IsNotChosen units.now names.now) }

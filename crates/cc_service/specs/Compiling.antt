@@ -34,7 +34,7 @@ pub record HasHandedIn (text : List ℕ) (before after : List Item) : Type 0 whe
   pub job : ℕ
   pub sent : after ≡ before ++ pieces_of job (length (functions tree))
 
--- Why a text is not handed in: it is not a program; 41, if it is a program; 40.
+-- Why a text is not handed in: it is not a program; or, if it is one, 41; or 40.
 abbrev pub IsNotPrepared : List ℕ → ServiceFault → Type 0
 IsNotPrepared text (Text f) = IsTextRefusal text f
 IsNotPrepared text WorkersGone = IsProgram text
@@ -48,7 +48,7 @@ IsNotPrepared text (Book f) = ⊥
 IsNotPrepared text (Changed receipt) = ⊥
 
 -- A text that is not a program is refused as such. Only a program can have another fault: 22 or 24 for the first function that has no piece
--- in the mode; 41; 25 if linking refuses with it, given pieces of all functions.
+-- in the mode; 41; or 25, if linking refuses with 25, given pieces of all functions.
 abbrev pub IsCompileRefusal : Mode → List ℕ → ServiceFault → Type 0
 IsCompileRefusal mode text (Text f) = IsTextRefusal text f
 IsCompileRefusal mode text (Piece function f) = IsProgram text × IsJobRefusal mode text (pool.Piece function f)

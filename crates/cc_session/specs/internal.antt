@@ -1,4 +1,4 @@
--- What only private contracts use. First: what a command does and writes.
+-- what a command does and writes
 pub mod Calls
 -- how far a script has been done
 pub mod Steps

@@ -1,4 +1,4 @@
-// The commands of a script, done by one client.
+// How a client does the commands of a script.
 
 ghost use Rattle.std.specs.Prelude.{◌≡◌, ◌⊎◌, true, [], List, ℕ, Option, Ok, Err, IfOk, IfSome};
 ghost use Rattle.std.specs.Option.{option_map};
@@ -55,7 +55,7 @@ pub(crate) struct Player<'a, N: Named, H, D: Disk, P> {
 }
 
 impl<'a, N: Named + Send + Sync + 'static, H: Wait, D: Disk, P: Patience> Player<'a, N, H, D, P> {
-    // The text of a source that is read up to here, as it was handed to the workers before its turn, or is now.
+    // The text of a source that is read up to here, which was handed to the workers before its turn or is handed to them now.
     fn begun<R: Read>(
         &self,
         client: &mut Client<N>,
@@ -92,7 +92,7 @@ impl<'a, N: Named + Send + Sync + 'static, H: Wait, D: Disk, P: Patience> Player
         }
     }
 
-    // Puts a unit of this source, whatever was handed in before.
+    // Puts a unit compiled from this source, regardless of what was handed in before.
     fn put_anew<W: Write, E: Write>(
         &self,
         client: &mut Client<N>,
@@ -111,7 +111,8 @@ impl<'a, N: Named + Send + Sync + 'static, H: Wait, D: Disk, P: Patience> Player
         tell_change(self.alloc, answer, source, answers, explanations)
     }
 
-    // Writes the answer of a unit that was put. If memory was refused, or a worker is gone, no hint stays, and it is put once more.
+    // Writes the answer for a unit that was put. If memory was refused, or a worker is gone, all hints are dropped, and the unit
+    // is put once more.
     fn settle<W: Write, E: Write>(
         &self,
         answer: Result<Receipt, ServiceFault>,
@@ -135,7 +136,8 @@ impl<'a, N: Named + Send + Sync + 'static, H: Wait, D: Disk, P: Patience> Player
         tell_change(self.alloc, answer, source, answers, explanations)
     }
 
-    // Adds or replaces a unit, whose source this is. While it waits for the workers they have the sources of the next commands too.
+    // Adds or replaces a unit with this source. While the client waits for the workers, they also have the sources of the next
+    // commands.
     fn change<R: Read, W: Write, E: Write>(
         &self,
         client: &mut Client<N>,
@@ -228,7 +230,8 @@ impl<'a, N: Named + Send + Sync + 'static, H: Wait, D: Disk, P: Patience> Player
         tell_change(self.alloc, answer, source, answers, explanations)
     }
 
-    // The same with the source that comes next, unless there was no room for the expected one.
+    // Replaces the unit under a name with one compiled from the source that comes next, unless there was no room for the expected
+    // source.
     fn update_from<R: Read, W: Write, E: Write>(
         &self,
         client: &mut Client<N>,
@@ -261,7 +264,7 @@ impl<'a, N: Named + Send + Sync + 'static, H: Wait, D: Disk, P: Patience> Player
         }
     }
 
-    // Replaces the unit under a name, if its source is the one that comes next; the new unit's source comes after that.
+    // Replaces the unit under a name, if the source that comes next is its source. The new unit's source comes after that one.
     fn update<R: Read, W: Write, E: Write>(
         &self,
         client: &mut Client<N>,
@@ -333,7 +336,7 @@ impl<'a, N: Named + Send + Sync + 'static, H: Wait, D: Disk, P: Patience> Player
         }
     }
 
-    // Runs the image of a unit that was found, or begins to.
+    // Runs the image of a unit that was found, to its end or until the run is cut off.
     fn run_found<W: Write, E: Write>(
         &self,
         found: Found,
@@ -496,7 +499,7 @@ impl<'a, N: Named + Send + Sync + 'static, H: Wait, D: Disk, P: Patience> Player
         }
     }
 
-    // Compacts the library. This is no client's call.
+    // Compacts the library. This is not a call of a client.
     fn compact<W: Write, E: Write>(
         &self,
         answers: &mut W,
@@ -508,7 +511,7 @@ impl<'a, N: Named + Send + Sync + 'static, H: Wait, D: Disk, P: Patience> Player
         tell_done(self.alloc, answer, answers, explanations)
     }
 
-    // Writes how much of its area the library takes. This is no client's call.
+    // Writes how much of its area the library takes. This is not a call of a client.
     fn space<W: Write, E: Write>(
         &self,
         answers: &mut W,
@@ -565,8 +568,8 @@ impl<'a, N: Named + Send + Sync + 'static, H: Wait, D: Disk, P: Patience> Player
         }
     }
 
-    // Audits the units under these names, up to the first that is not found or whose audit says nothing. The result is whether
-    // there was no such unit.
+    // Audits the units under these names, up to the first that is not found or whose audit says nothing. The result is whether all
+    // units were audited.
     fn audit_names<W: Write, E: Write>(
         &self,
         client: &mut Client<N>,
@@ -712,7 +715,8 @@ impl<'a, N: Named + Send + Sync + 'static, H: Wait, D: Disk, P: Patience> Player
         }
     }
 
-    // Does what a script of this dialect asks for, up to its end or a fault that ends it, whose line `tell_halt` writes.
+    // Does what a script of this dialect asks for, up to its end or a fault that ends it; `tell_halt` writes the line for that
+    // fault.
     pub(crate) fn play<R: Read, W: Write, E: Write>(
         &self,
         client: &mut Client<N>,
@@ -761,7 +765,7 @@ fn is_short(answer: &Result<Receipt, ServiceFault>) -> bool
     }
 }
 
-// Writes the line of the fault that ended a script. If that cannot be written the fault is 54.
+// Writes the line of the fault that ended a script. If the line cannot be written, the fault is 54.
 fn tell_line<W: Write, E: Write>(
     fault: ScriptFault,
     answers: &mut W,
@@ -777,7 +781,7 @@ fn tell_line<W: Write, E: Write>(
     }
 }
 
-// Writes the line of the fault that ended a script, if one did: how the script ended.
+// Writes the line of the fault that ended a script, if one did. The result is how the script ended.
 pub(crate) fn tell_halt<W: Write, E: Write>(
     halted: Result<(), ScriptFault>,
     answers: &mut W,

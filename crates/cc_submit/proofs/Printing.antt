@@ -1,4 +1,4 @@
--- What was printed, given what the folder's client and the rest of the command say.
+-- What was printed, given what is known about `submit` of `cc_spool` and about the rest of the command.
 use Rattle.std.proofs.Common.{◌≡◌, ◌++◌, ◌∷◌, ◌⊎◌, inl, inr, ℕ, Bool, true, false, IsTrue, List, [], Option, None, Some, Result, Ok, Err, Vec, Global, codes, refl, subst, sym, append_assoc}
 use Rattle.std.specs.Io.KnownBytes.{Appends}
 use Rattle.std.proofs.KnownBytes.{Appends-trans}
@@ -13,7 +13,7 @@ use Rattle.cc_submit.specs.declared.submitting.Ended.{Ended}
 use Rattle.cc_submit.specs.declared.submitting.Sent.{Sent}
 use Rattle.cc_submit.specs.declared.submitting.Sent.TheVariants.{Fetch, Line, Script, Source}
 
--- a line is printed after what was written, and a newline before it
+-- if a newline and a line are written after some text, the text, the newline and the line are printed
 pub after : (old between new : Option (List ℕ)) (begun line : List ℕ) → Appends old between begun → Appends between new (10 ∷ line) → Appends old new ((begun ++ 10 ∷ []) ++ line)
 after old between new begun line was is =
     subst (λ (text : List ℕ). Appends old new text) (sym (append_assoc begun (10 ∷ []) line)) (Appends-trans old between new begun (10 ∷ line) was is)
@@ -39,7 +39,7 @@ pub refused_in_line : (old between new : Option (List ℕ)) (is_written : Bool) 
     → SaysRefused is_written old new (10 ∷ [])
 refused_in_line old between new is_written was says = λ (yes : IsTrue is_written). either_in_line old between new was (says yes)
 
--- the same holds for what is handed back
+-- if what is handed back is `came`, what was printed for `came` was printed for it
 pub handed : (fetches : Bool) (came : Option Submission) (old new : Option (List ℕ)) (ended : Ended) → ended.came ≡ came → Prints fetches came old new ended.is_written ended.status
     → Prints fetches ended.came old new ended.is_written ended.status
 handed fetches came old new ended is prints = subst (λ (c : Option Submission). Prints fetches c old new ended.is_written ended.status) (sym is) prints
@@ -86,7 +86,7 @@ pub unread : (line : Option (List ℕ)) (old new : Option (List ℕ)) (is_writte
 unread line old new is_written is says =
     subst (λ (b : Bool). EndsAs b (fetches line) old new (record { came = Some Unread; status = 1; is_written = is_written })) (sym is) (refl, says)
 
--- what is sent is a fetch only if it is a line whose answer is a source
+-- if what is sent is not a Fetch, its answer is not to be a source
 pub not_fetch : (sent : Sent) → ((bytes : Vec ℕ Global) → sent ≡ Fetch bytes → ⊥) → is_fetch sent ≡ false
 not_fetch Script other = refl
 not_fetch (Line bytes) other = refl

@@ -1,4 +1,4 @@
--- Nothing is chosen before the first name, and each name adds its unit.
+-- At first nothing is chosen, and each name adds its unit.
 use Rattle.std.proofs.Common.{◌≡◌, ◌∙◌, ℕ, List, IsTrue, Some, sym, ap, subst, arith}
 use Rattle.std.specs.Arc.{arc_value}
 use Rattle.std.specs.Ordering.{nat_cmp}
