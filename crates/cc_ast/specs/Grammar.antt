@@ -113,10 +113,9 @@ SpellsType ts t =
     ⊎ (((word : Lexeme) × IsKeyword (sign_word t) word × (ts ≡ word ∷ []))
     ⊎ ((word int : Lexeme) × IsKeyword (sign_word t) word × IsKeyword keyword.Int int × (ts ≡ word ∷ int ∷ [])))
 
--- The tokens of an expression in which each operator outside parentheses binds at least as tightly as the level. A binary
--- operator's left operand has the operator's own level and its right operand the next one, so binary operators group to the left.
--- A conditional expression groups to the right. The operand of a unary operator or of a cast has level 12, so it contains no
--- binary operator outside parentheses.
+-- The tokens of an expression in which each operator outside parentheses binds at least as tightly as the level. A binary operator's left
+-- operand has the operator's own level and its right operand the next one, so binary operators group to the left. A conditional expression
+-- groups to the right. The operand of a unary operator or of a cast has level 12, so it contains no binary operator outside parentheses.
 abbrev mutual
   pub SpellsExpression : ℕ → List Lexeme → Expr → Type 0
   SpellsExpression level ts (Number t n) = (x : Lexeme) × (x.kind ≡ kind.Number t n) × (ts ≡ x ∷ [])

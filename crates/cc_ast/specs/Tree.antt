@@ -33,8 +33,7 @@ pub data Target : Type 0 where
   AtVariable : Name → Target
   AtElement : Name → Expr → Target
 
--- what an expression statement does: it assigns, increments or decrements, or evaluates an expression whose value is not used
--- (C99 6.8.3)
+-- what an expression statement does: it assigns, increments or decrements, or evaluates an expression whose value is not used (C99 6.8.3)
 pub data Action : Type 0 where
   Assign : AssignmentOperator → Target → Expr → Action
   Step : StepOperator → Target → Action

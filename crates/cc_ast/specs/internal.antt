@@ -1,3 +1,2 @@
--- Definitions that only private contracts and proofs use.
--- the tree of a list of arguments
+-- Definitions that only private contracts and proofs use. the tree of a list of arguments
 pub mod Arguments

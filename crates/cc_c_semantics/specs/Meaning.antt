@@ -46,15 +46,13 @@ pub record State : Type 0 where
   pub output : List ℕ
   pub steps : ℕ
 
--- what a part of a run gives: a value and the next state; or no step is left; or the run goes wrong. The last two keep the
--- output.
+-- what a part of a run gives: a value and the next state; or no step is left; or the run goes wrong. The last two keep the output.
 pub data Run (A : Type 0) : Type 0 where
   Gives : A → State → Run A
   Going : List ℕ → Run A
   Wrong : Cause → List ℕ → Run A
 
--- how a statement ends: it falls through to the next one, breaks or continues the loop around it, or returns a word from the
--- function (6.8)
+-- how a statement ends: it falls through to the next one, breaks or continues the loop around it, or returns a word from the function (6.8)
 pub data Flow : Type 0 where
   Falls : Flow
   Breaks : Flow
@@ -121,8 +119,7 @@ write_element x i w s =
 
 -- ---- expressions
 
--- why an operator has no value: a shift because of its count (6.5.7), any other operator because it is a quotient or remainder
--- (6.5.5)
+-- why an operator has no value: a shift because of its count (6.5.7), any other operator because it is a quotient or remainder (6.5.5)
 abbrev pub cause_of : BinaryOperator → Cause
 cause_of ShiftLeft = Shift
 cause_of ShiftRight = Shift
@@ -138,9 +135,8 @@ abbrev pub unless_decided : Option ℕ → (State → Run ℕ) → State → Run
 unless_decided None go s = go s
 unless_decided (Some w) go s = Gives w s
 
--- the value of an expression, given the names in scope. Operands are evaluated from left to right, the right operand of && and ||
--- only if the left one does not decide, and only one branch of a conditional (6.5.13 to 6.5.15). A conversion keeps the word
--- (6.3.1.3).
+-- the value of an expression, given the names in scope. Operands are evaluated from left to right, the right operand of && and || only if
+-- the left one does not decide, and only one branch of a conditional (6.5.13 to 6.5.15). A conversion keeps the word (6.3.1.3).
 abbrev mutual
   pub evaluate : Expr → List Binding → Calls → State → Run ℕ
   evaluate (Number t n) bs call s = Gives n s
@@ -187,8 +183,7 @@ abbrev pub write : Destination → ℕ → State → Run Flow
 write (ToVariable x) w s = Gives Falls (stored x w s)
 write (ToElement x i) w s = write_element x i w s
 
--- the word to write, given the right side's word: for `=` it is that word, else the operator's value for the old value and that
--- word
+-- the word to write, given the right side's word: for `=` it is that word, else the operator's value for the old value and that word
 abbrev pub new_value : Option BinaryOperator → Scalar → Scalar → Destination → ℕ → State → Run ℕ
 new_value None t u d w s = Gives w s
 new_value (Some op) t u d w s = then_do (old_value d s) (λ old v. given op (binary_word op (working_type op t u) old w) v)
@@ -247,8 +242,7 @@ turns (suc n) test body behind s =
 abbrev pub with_local : List ℕ → State → State
 with_local x s = record s { locals = record { name = x; word = 0 } ∷ s.locals }
 
--- declares locals one after another: each is first 0, then gets the value of its initialiser, in which it is in scope (6.2.1,
--- 6.7.8)
+-- declares locals one after another: each is first 0, then gets the value of its initialiser, in which it is in scope (6.2.1, 6.7.8)
 abbrev pub declare : Scalar → List Declarator → Calls → Visible → State → Run Flow
 declare t [] call v s = Gives Falls s
 declare t (d ∷ rest) call v s =
@@ -274,9 +268,8 @@ in_block part s = then_do (part s) (λ flow t. Gives flow (left_scope (length s.
 abbrev pub return : Option Expr → List Binding → Calls → State → Run Flow
 return e bs call s = then_do (evaluate_or 0 e bs call s) (λ w t. Gives (Returns w) t)
 
--- what a statement or a list of statements does, if at most n steps are left (6.8). A block and each part of a statement are
--- scopes, and a `for` header is a scope around the loop's body (6.8.2, 6.8.4, 6.8.5). An absent condition counts as true
--- (6.8.5.3).
+-- what a statement or a list of statements does, if at most n steps are left (6.8). A block and each part of a statement are scopes, and a
+-- `for` header is a scope around the loop's body (6.8.2, 6.8.4, 6.8.5). An absent condition counts as true (6.8.5.3).
 abbrev mutual
   pub execute : Stmt → ℕ → Calls → Visible → State → Run Flow
   execute (Block all) n call v s = in_block (execute_all all n call (opened v)) s

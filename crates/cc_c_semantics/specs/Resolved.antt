@@ -113,8 +113,7 @@ abbrev mutual
 
 -- ---- functions
 
--- function f of a unit: its definition, the environment in which its body begins, and the fact that each name of the body is
--- resolved
+-- function f of a unit: its definition, the environment in which its body begins, and the fact that each name of the body is resolved
 pub record IsResolved (unit : List External) (f : ℕ) : Type 0 where
   pub signature : Signature
   pub body : Stmts

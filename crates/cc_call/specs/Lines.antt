@@ -42,9 +42,8 @@ AnswersLines image counted steps input old (turn ∷ turns) left new =
     (input ≢ []) × (turn.rest ≡ drop_through 10 input) × AnswersLine image counted steps (first_piece 10 input) old turn.written turn.end
     × (IsTrue (is_lack turn) → turns ≡ []) × AnswersLines image counted steps turn.rest turn.written turns left new
 
--- Why not every line of the input was answered with a run: all were answered, and one was no list of words; or memory was refused
--- for the last; or the next one could not be read, 53 or 40, and the line of that fault was written; or there were more of them
--- than are counted.
+-- Why not every line of the input was answered with a run: all were answered, and one was no list of words; or memory was refused for the
+-- last; or the next one could not be read, 53 or 40, and the line of that fault was written; or there were more of them than are counted.
 abbrev pub IsRefused : List LineTurn → (left : List ℕ) (old new : Option (List ℕ)) → Type 0
 IsRefused turns left old new =
     ((left ≡ []) × (new ≡ old) × IsTrue (list_any is_bad turns))

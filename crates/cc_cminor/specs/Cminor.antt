@@ -18,8 +18,7 @@ pub data Expression : Type 0 where
   Binary : two.Binary → Expression → Expression → Expression
   Load : (width : Width) → (object : ℕ) → (index : Expression) → Expression
 
--- a statement. The result of a call or a read goes into a variable or is dropped; a loop runs for ever; `Exit k` leaves k + 1
--- blocks.
+-- a statement. The result of a call or a read goes into a variable or is dropped; a loop runs for ever; `Exit k` leaves k + 1 blocks.
 pub data Statement : Type 0 where
   Skip : Statement
   Set : (variable : ℕ) → Expression → Statement
@@ -45,8 +44,7 @@ abbrev pub then_value : {A B : Type 0} → Option A → (A → Option B) → Opt
 then_value None go = None
 then_value (Some a) go = go a
 
--- the value of an expression; None if an operator has no value, an index is outside its object, or the object's elements have
--- another width
+-- the value of an expression; None if an operator has no value, an index is outside its object, or the object's elements have another width
 abbrev pub value : Expression → Variables → World → Option ℕ
 value (Constant w) l h = Some w
 value (Local i) l h = Some (l i)

@@ -22,8 +22,7 @@ CopyFaults honest size area units before after Exists = ⊥
 CopyFaults honest size area units before after Absent = ⊥
 CopyFaults honest size area units before after Closed = ⊥
 
--- the least area of 64 bytes or more that has room for these units; none exactly if even the greatest area does not have enough
--- room
+-- the least area of 64 bytes or more that has room for these units; none exactly if even the greatest area does not have enough room
 abbrev pub IsLeastArea : Units → Option ℕ → Type 0
 IsLeastArea units None = 2 ^ 30 < room_for units
 IsLeastArea units (Some area) = (64 ≤ area) × (area ≤ 2 ^ 30) × (room_for units ≤ area) × ((less : ℕ) → 64 ≤ less → less < area → less < room_for units)

@@ -40,8 +40,7 @@ IsNotSelectedIn units names OutOfMemory = Unit {0}
 abbrev pub IsSelectedOn : (seen : List ℕ) (names : List (List ℕ)) (confirmed : Bool) → Selection → Type 0
 IsSelectedOn seen names confirmed selection = (units : Units) × Recovers seen units × IsSelectedIn units names confirmed selection
 
--- why no units are selected: the library is not opened; or it is, and no units are selected from the map to which the disk
--- recovers
+-- why no units are selected: the library is not opened; or it is, and no units are selected from the map to which the disk recovers
 abbrev pub IsNotSelectedOn : (honest : Bool) (seen : List ℕ) (before after : ℕ) (names : List (List ℕ)) → PartFault → Type 0
 IsNotSelectedOn honest seen before after names (Library f) = OpenFaults honest seen before after f
 IsNotSelectedOn honest seen before after names BadName = (after ≡ before) × (IsTrue honest → (units : Units) × Recovers seen units × IsNotSelectedIn units names BadName)

@@ -1,5 +1,4 @@
--- The protocol core, one step at a time: which reply an event may give in an old state, if any, and to which new state it may
--- lead.
+-- The protocol core, one step at a time: which reply an event may give in an old state, if any, and to which new state it may lead.
 use Rattle.std.specs.Prelude.{ℕ, ◌≡◌, ◌+◌, ◌<◌, ◌≤◌, ◌⊎◌, IsTrue, List, [], ◌∷◌, ◌++◌, length, map, take, slice_get, Option, Some, None, Result, Ok, Err}
 use Rattle.std.specs.Ordering.{nat_cmp}
 use Rattle.std.specs.FinMap.{FinMap, get, insert, remove, empty}

@@ -138,8 +138,7 @@ pub record Enters (meaning : Meaning) (layout : ObjectLayout meaning.objects) (c
 abbrev pub global_pointer : ℕ
 global_pointer = globals_from + 2048
 
--- what x3 holds after a call: what it held before, or the global pointer; so a function that set it to the pointer still finds it
--- there
+-- what x3 holds after a call: what it held before, or the global pointer; so a function that set it to the pointer still finds it there
 abbrev pub IsKeptOrPointer : (before after : ℕ) → Type 0
 IsKeptOrPointer before after = (after ≡ before) ⊎ (after ≡ global_pointer)
 

@@ -12,8 +12,7 @@ use Rattle.cc_findings.specs.declared.sizing.CyclicCall.{CyclicCall}
 use Rattle.cc_findings.specs.declared.sizing.Measure.{Measure}
 use Rattle.cc_findings.specs.declared.sizing.SizedFunction.{SizedFunction}
 
--- the first function comes after the three words that call main and exit, and each other function directly after the one before
--- it
+-- the first function comes after the three words that call main and exit, and each other function directly after the one before it
 abbrev pub place_by : List FunctionSize → (f : ℕ) → ℕ
 place_by sizes f = 0x1000c + 4 * sum_by (λ (size : FunctionSize). size.words) (take f sizes)
 
@@ -28,8 +27,7 @@ pub record AreFunctions (program : Source) (sizes : List FunctionSize) (function
   pub count : length functions ≡ length sizes
   pub each : (f : ℕ) (one : SizedFunction) → slice_get functions f ≡ Some one → IsFunction program sizes f one
 
--- a call that is part of a cycle of calls, number k of those that were found: the names of the calling function and of the
--- called one
+-- a call that is part of a cycle of calls, number k of those that were found: the names of the calling function and of the called one
 pub record IsCycle (program : Source) (calls : List Recursion) (k : ℕ) (it : CyclicCall) : Type 0 where
   pub of : Recursion
   pub call : slice_get calls k ≡ Some of

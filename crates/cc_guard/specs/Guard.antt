@@ -441,8 +441,7 @@ narrowed objects n ks s before = joined before (turn objects n ks s (widened (tu
 abbrev pub found : List Size → (n : ℕ) → List Limit → Statement → List Limit
 found objects n ks s = still (turn objects n ks s (narrowed objects n ks s (kept n (unset s) ks))) (narrowed objects n ks s (kept n (unset s) ks))
 
--- the bounds found are verified: if a turn does not leave all of them known, nothing is known about the variables that the loop
--- sets
+-- the bounds found are verified: if a turn does not leave all of them known, nothing is known about the variables that the loop sets
 abbrev pub if_again : (after head : List Limit) → List Limit
 if_again after head = if all_again after head then head else []
 
@@ -454,8 +453,7 @@ head objects n ks s = kept n (sets s) ks ++ if_again (turn objects n ks s (found
 abbrev pub with_store : (blocks : ℕ) → Width → (object : ℕ) → Guarded → Guarded → Statement
 with_store b w o i e = guards_then b (i.before ++ e.before) (Store w o i.value e.value)
 
--- a statement with its guards, in b blocks, given what is known before it; the guards of each statement in it set variables from
--- n on
+-- a statement with its guards, in b blocks, given what is known before it; the guards of each statement in it set variables from n on
 abbrev pub code_after : List Size → (n : ℕ) → List Limit → (blocks : ℕ) → Statement → Statement
 code_after objects n ks b Skip = Skip
 code_after objects n ks b (Set x e) = guards_then b (guarded objects ks n e).before (Set x (guarded objects ks n e).value)

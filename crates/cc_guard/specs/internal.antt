@@ -1,5 +1,4 @@
--- Definitions that only private contracts and proofs use.
--- code into which guards can be put
+-- Definitions that only private contracts and proofs use. code into which guards can be put
 pub mod Fits
 -- what remains to be done after a statement
 pub mod Next

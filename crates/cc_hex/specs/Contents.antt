@@ -8,8 +8,7 @@ use Rattle.cc_hex.specs.Format.{AddressedByte, cells_from, read}
 
 -- ---- address by address
 
--- the byte at an address, given words that begin at another address, the lowest byte of each first: one byte, or none outside the
--- words
+-- the byte at an address, given words that begin at another address, the lowest byte of each first: one byte, or none outside the words
 abbrev pub byte_of_words : (from : ℕ) (words : List ℕ) (a : ℕ) → List ℕ
 byte_of_words from words a =
     if nat_le from a && nat_lt a (from + 4 * length words)

@@ -1,7 +1,6 @@
--- What an Intel HEX text says (Intel, Hexadecimal Object File Format Specification, revision A, 1988), defined by a reader that
--- is total on all bytes. It reads the records of data (type 00), end of file (01) and extended linear address (04). A text with
--- anything else says nothing: a record of another type, a wrong digit, length or checksum, no end of file, or anything after
--- that.
+-- What an Intel HEX text says (Intel, Hexadecimal Object File Format Specification, revision A, 1988), defined by a reader that is total on
+-- all bytes. It reads the records of data (type 00), end of file (01) and extended linear address (04). A text with anything else says
+-- nothing: a record of another type, a wrong digit, length or checksum, no end of file, or anything after that.
 use Rattle.std.specs.Prelude.{ℕ, ◌+◌, ◌-◌, ◌*◌, ◌%◌, ◌^◌, ◌&&◌, ◌==◌, nat_le, if◌then◌else◌, List, [], ◌∷◌, ◌++◌, length, take, sum, Option, Some, None}
 use Rattle.cc_hex.specs.internal.Reading.{◌>>=◌}
 

@@ -19,8 +19,7 @@ exists = 31
 abbrev pub absent : ℕ
 absent = 32
 
--- Add sets an absent name, Replace sets a present one, Withdraw removes a present one; otherwise a number says why the command is
--- refused
+-- Add sets an absent name, Replace sets a present one, Withdraw removes a present one; otherwise a number says why the command is refused
 abbrev pub apply : Units → LibraryCommand → Result Units ℕ
 apply units (Add name unit) = if contains_key units name then Err exists else Ok (insert units name unit)
 apply units (Replace name unit) = if contains_key units name then Ok (insert units name unit) else Err absent

@@ -41,8 +41,7 @@ pub record RecoversAlone (image : List ℕ) (units : Units) : Type 0 where
 abbrev pub RecoversOneOf : Units → Units → List ℕ → Type 0
 RecoversOneOf old new image = RecoversAlone image old ⊎ RecoversAlone image new
 
--- what contracts see of a library: its disk, an area's size, its records' bodies, its map, and whether it is
--- closed
+-- what contracts see of a library: its disk, an area's size, its records' bodies, its map, and whether it is closed
 pub record View (D : Type 0) : Type 0 where
   pub disk : D
   pub area : ℕ

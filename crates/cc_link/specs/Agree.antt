@@ -1,5 +1,4 @@
--- When an image agrees with a text: the text spells a program that breaks no rule, and on each input the image's run follows the
--- program's.
+-- When an image agrees with a text: the text spells a program that breaks no rule, and on each input the image's run follows the program's.
 use Rattle.std.specs.Prelude.{ℕ, List}
 use Rattle.cc_rv32.specs.declared.image.Image.{Image}
 use Rattle.cc_rv32.specs.declared.outcome.MachineOutcome.{MachineOutcome}
@@ -39,8 +38,7 @@ pub record Agreement (text : List ℕ) (image : Image) : Type 0 where
   pub typed : IsTyped tree
   pub follows : (input : List ℕ) → AreWords input → Follows (program_behavior (source_with text tree) input) (image_behavior image input)
 
--- The text and the image agree. A typed unit keeps that its text spells its tree, but not how (∥ ∥₁), so nothing more is kept
--- here.
+-- The text and the image agree. A typed unit keeps that its text spells its tree, but not how (∥ ∥₁), so nothing more is kept here.
 abbrev pub Agree : List ℕ → Image → Type 0
 Agree text image = ∥ Agreement text image ∥₁
 

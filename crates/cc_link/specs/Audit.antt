@@ -18,11 +18,10 @@ use Rattle.cc_link.specs.declared.audit_answer.Audit.TheVariants.{Confirmed, NoC
 use Rattle.cc_link.specs.declared.audit_answer.FailedPart.{FailedPart}
 use Rattle.cc_link.specs.declared.audit_answer.FailedPart.TheVariants as part
 
--- The image agrees with the text. The certificate spells one LTL function for each function of the text, and the run of each
--- keeps up with its function. So the certificate has an allocation that was shown to be right, and not just any LTL next to a
--- right image. Pieces that were compiled in the mode link to this text, certificate and image: the image is made of their items,
--- and the certificate of their LTL, which keeps up because a piece's type says so. So the image follows what the program shows in
--- the mode, on every input.
+-- The image agrees with the text. The certificate spells one LTL function for each function of the text, and the run of each keeps up with
+-- its function. So the certificate has an allocation that was shown to be right, and not just any LTL next to a right image. Pieces that
+-- were compiled in the mode link to this text, certificate and image: the image is made of their items, and the certificate of their LTL,
+-- which keeps up because a piece's type says so. So the image follows what the program shows in the mode, on every input.
 pub record IsConfirmedIn (mode : Mode) (text certificate : List ℕ) (image : Image) : Type 0 where
   pub tree : List External
   pub spelled : ∥ SpellsText text tree ∥₁

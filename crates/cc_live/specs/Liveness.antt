@@ -1,5 +1,4 @@
--- The least live sets of a function; strongly live sets, in which what only dead nodes read is not live; and a function without
--- dead nodes.
+-- The least live sets of a function; strongly live sets, in which what only dead nodes read is not live; and a function without dead nodes.
 use Rattle.std.specs.Prelude.{◌≡◌, ◌≢◌, ℕ, List, Contains, Bool, false, IsTrue, Some}
 use Rattle.cc_rtl_language.specs.Rtl.{Rtl, Labelled, Node, node_at}
 use Rattle.cc_rtl_language.specs.Live.{Sets, AreLive, reads, result, live_behind, is_dead, with_nops}

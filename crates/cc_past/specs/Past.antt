@@ -24,8 +24,7 @@ pub record StoresNone (commands : List LibraryCommand) (name : List ℕ) (number
 abbrev pub IsStoredOn : (seen name : List ℕ) (number : ℕ) → StoredUnit → Type 0
 IsStoredOn seen name number unit = (commands : List LibraryCommand) × HasCommands seen commands × IsStored commands name number unit
 
--- why there is no such unit on a disk: the library could not be opened, or the command stored no unit under
--- the name
+-- why there is no such unit on a disk: the library could not be opened, or the command stored no unit under the name
 abbrev pub IsNotStoredOn : (honest : Bool) (seen : List ℕ) (before after : ℕ) (name : List ℕ) (number : ℕ) → PartFault → Type 0
 IsNotStoredOn honest seen before after name number (Library f) = OpenFaults honest seen before after f
 IsNotStoredOn honest seen before after name number BadName = is_name name ≡ false

@@ -40,8 +40,7 @@ abbrev pub HasNoRoom : (seen name : List ℕ) → StoredUnit → Type 0
 HasNoRoom seen name unit =
     (commands : List LibraryCommand) × (has : HasCommands seen commands) × (has.area < room_of (has.bodies ++ body_of (putting (library_of commands) name unit) ∷ []))
 
--- why a unit is not put into a library: the library is not opened; or there is not enough room, and `no_room` holds; or the device
--- failed
+-- why a unit is not put into a library: the library is not opened; or there is not enough room, and `no_room` holds; or the device failed
 abbrev pub IsNotPut : (honest : Bool) (seen : List ℕ) (before after : ℕ) (no_room : Type 0) → LibraryFault → Type 0
 IsNotPut honest seen before after no_room Full = (after ≡ before) × (IsTrue honest → no_room)
 IsNotPut honest seen before after no_room DiskFault = after ≡ before + 1

@@ -38,8 +38,7 @@ pub record HasSentSome (before after : List Item) (most : ℕ) : Type 0 where
   pub within : count ≤ most
   pub sent : after ≡ before ++ pieces_of job count
 
--- All that was sent is a stop item for each worker, followed by what the passes have sent. All that was taken is a permutation of
--- this
+-- All that was sent is a stop item for each worker, followed by what the passes have sent. All that was taken is a permutation of this
 pub record IsDrained (workers : ℕ) (passes : List Lists) (all : Lists) : Type 0 where
   pub sent : all.sent ≡ stops workers ++ sent_by passes
   pub once : IsPermutation all.sent all.taken

@@ -1,3 +1,2 @@
--- Definitions that only private contracts and proofs use.
--- offsets while objects are laid out
+-- Definitions that only private contracts and proofs use. offsets while objects are laid out
 pub mod Laying

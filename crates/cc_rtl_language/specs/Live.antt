@@ -87,9 +87,8 @@ abbrev pub with_nops : (which : (label : ℕ) → Node → Bool) → List Labell
 with_nops which [] = []
 with_nops which (n ∷ ns) = record { label = n.label; node = if which n.label n.node then as_nop n.node else n.node } ∷ with_nops which ns
 
--- These nodes may become nops: some live sets of the code with the nops show that each of them is dead. All are considered
--- together, so that nodes may go that only read one another. Live sets of the code as it is will do too, because a nop needs no
--- more than the node did.
+-- These nodes may become nops: some live sets of the code with the nops show that each of them is dead. All are considered together, so
+-- that nodes may go that only read one another. Live sets of the code as it is will do too, because a nop needs no more than the node did.
 pub record MayBecomeNops (nodes : List Labelled) (which : (label : ℕ) → Node → Bool) : Type 0 where
   pub live : Sets
   pub are_live : AreLive (with_nops which nodes) live

@@ -75,8 +75,7 @@ abbrev pub is_before_gone : Tests → LinearItem → Bool
 is_before_gone ts (Label n) = is_some (ts n)
 is_before_gone ts item = false
 
--- the items with tests before labels, given what is known before them, and whether the first one is a test that was moved before
--- its label
+-- the items with tests before labels, given what is known before them, and whether the first one is a test that was moved before its label
 abbrev pub threaded_by : Tests → Known → (gone : Bool) → List LinearItem → List LinearItem
 threaded_by ts k gone [] = []
 threaded_by ts k true (item ∷ items) = threaded_by ts k false items

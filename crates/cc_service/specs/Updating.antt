@@ -28,8 +28,7 @@ use Rattle.cc_service.specs.declared.fault.ServiceFault.TheVariants.{Opening, To
 -- ---- for a book
 
 module _ {Disk : Type 0} (D : Ghosts Disk) where
-  -- The look-up found that the name's unit has the expected source, and left the library as it was; the change came next, with this
-  -- answer.
+  -- The look-up found that the name's unit has the expected source, and left the library as it was; the change came next, with this answer.
   pub record IsUpdate (before : BookView Disk) (old : MemberView) (name expected : List ℕ) (command : Command) (after : BookView Disk) (new : MemberView) (answer : Result Receipt BookFault) : Type 0 where
     pub seen : Receipt
     pub between : BookView Disk

@@ -1,3 +1,2 @@
--- Definitions for private contracts.
--- what is answered under the lock
+-- Definitions for private contracts. what is answered under the lock
 pub mod Under

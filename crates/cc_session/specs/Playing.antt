@@ -192,9 +192,8 @@ pub record IsPlayed (mode : Mode) (dialect : Dialect) (most : Option ℕ) (scrip
   pub few : IsWithin most (length turns)
   pub plays : Plays mode dialect (IsLight most first.client) script first turns [] last
 
--- A prefix of the script is done. The client at the end is as these steps left it, or as it would be after one more step, whose
--- answer could not be written (for an audit: after an audit that ran out of memory at that point). What the writer holds is not
--- known.
+-- A prefix of the script is done. The client at the end is as these steps left it, or as it would be after one more step, whose answer
+-- could not be written (for an audit: after an audit that ran out of memory at that point). What the writer holds is not known.
 pub record IsPlayedInPart (mode : Mode) (dialect : Dialect) (most : Option ℕ) (script : List ℕ) (first last : Talk) : Type 0 where
   pub turns : List Turn
   pub few : IsWithin most (length turns)

@@ -18,9 +18,8 @@ use Rattle.cc_session.specs.declared.end.SessionEnd.TheVariants.{Finished, Fault
 abbrev pub most_lines : Option ℕ
 most_lines = Some 65536
 
--- How a script of a spool, in the served dialect and the mode, ended, depending on `end`: either the whole script is done; or a
--- fault that ends scripts ended it, and it is done up to the point that the fault says. This concerns scripts whose bytes are
--- known.
+-- How a script of a spool, in the served dialect and the mode, ended, depending on `end`: either the whole script is done; or a fault that
+-- ends scripts ended it, and it is done up to the point that the fault says. This concerns scripts whose bytes are known.
 abbrev pub EndsBy : Mode → (script : Option (List ℕ)) (end : Option ℕ) (old new : Talk) → Type 0
 EndsBy mode script None old new = IfSome script (λ bytes. IsPlayed mode Served most_lines bytes old new)
 EndsBy mode script (Some number) old new = (fault : ScriptFault) × (number ≡ faults.fault_number fault) × IsStopped mode Served most_lines script old new fault

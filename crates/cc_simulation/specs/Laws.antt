@@ -1,7 +1,6 @@
--- The laws of runs. Each is the contract of a function of this crate, for Rust's types. The configurations of our languages are
--- types of specs, so a language's own law uses the lemma of the same form in `proofs/` (`Behaving`, `Cuts`, `Following`). The
--- laws of simulations are only lemmas (`proofs/Simulating`, `proofs/Lockstep`), because they range over relations, which no
--- contract can.
+-- The laws of runs. Each is the contract of a function of this crate, for Rust's types. The configurations of our languages are types of
+-- specs, so a language's own law uses the lemma of the same form in `proofs/` (`Behaving`, `Cuts`, `Following`). The laws of simulations
+-- are only lemmas (`proofs/Simulating`, `proofs/Lockstep`), because they range over relations, which no contract can.
 use Rattle.std.specs.Prelude.{ℕ, suc, ◌<◌, List}
 use Rattle.cc_simulation.specs.Behavior.{Outcome, Follows, FollowsForAll}
 use Rattle.cc_simulation.specs.World.{World}

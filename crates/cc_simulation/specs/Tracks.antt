@@ -21,9 +21,8 @@ pub record Keeping {C : Type 0} (move : C → Move C) (output : C → List ℕ) 
   pub few_steps : steps ≤ most_steps
   pub keeps : Keeps rate n source (work move effect moves steps start) (run move output effect moves steps start)
 
--- A function's run keeps up with its body in the source: at each number of open calls, for each call that the source can make and
--- each number of steps. This is for Cminor and RTL, in which the words of all variables are known (the two limits say nothing
--- here).
+-- A function's run keeps up with its body in the source: at each number of open calls, for each call that the source can make and each
+-- number of steps. This is for Cminor and RTL, in which the words of all variables are known (the two limits say nothing here).
 abbrev pub Tracks : Meaning → (function rate : ℕ) → {C : Type 0} → (C → Move C) → (C → List ℕ) → (start : List ℕ → World → C) → Type 0
 Tracks meaning f rate move output start =
     (opened : ℕ) → opened < most_open → (ws : List ℕ) (h : World) → IsCall meaning f ws h → (n : ℕ)

@@ -1,5 +1,4 @@
--- What an answer consists of (lines, and sources, each after a line that says how many bytes it has), and whether it reports a
--- fault.
+-- What an answer consists of (lines, and sources, each after a line that says how many bytes it has), and whether it reports a fault.
 use Rattle.std.specs.Prelude.{◌≡◌, ◌≢◌, ◌⊎◌, ◌<◌, ℕ, min, All, List, [], ◌∷◌, ◌++◌, length, Option, Some, None, codes}
 use Rattle.std.specs.Str.Parse.{AllDigits, digits_value}
 

@@ -1,8 +1,7 @@
 -- What a spool gave, and what it was handed.
 use Rattle.std.specs.Prelude.{ℕ, List, Option}
 
--- a script that was taken: its bytes, and the contents of the writer of its answer at that time, if these are
--- known
+-- a script that was taken: its bytes, and the contents of the writer of its answer at that time, if these are known
 pub record Taken : Type 0 where
   pub script : Option (List ℕ)
   pub begun : Option (List ℕ)

@@ -73,8 +73,7 @@ fetches (Some line) = asks_source (asked_of Served line)
 abbrev pub Says : (is_written : Bool) (old new : Option (List ℕ)) (text : List ℕ) → Type 0
 Says is_written old new text = IsTrue is_written → Appends old new text
 
--- these bytes are printed, and then the line for the fault that reports that the system refused a call: 40 OutOfMemory, or 56
--- FolderFault
+-- these bytes are printed, and then the line for the fault that reports that the system refused a call: 40 OutOfMemory, or 56 FolderFault
 abbrev pub SaysRefused : (is_written : Bool) (old new : Option (List ℕ)) (begun : List ℕ) → Type 0
 SaysRefused is_written old new begun = IsTrue is_written → Appends old new (begun ++ codes "fault 40 OutOfMemory\n") ⊎ Appends old new (begun ++ codes "fault 56 FolderFault\n")
 
@@ -90,8 +89,7 @@ PrintsWell false answer old new is_written status = (status ≡ 0) × Appends ol
 PrintsWell true answer old new is_written status =
     ((source : List ℕ) × (answer ≡ framed source) × PrintsSource source old new is_written status) ⊎ ((status ≡ 1) × (new ≡ old))
 
--- An answer that reports a fault is printed whole, and the status is 1. If it was to be a source, nothing is stated about what is
--- printed.
+-- An answer that reports a fault is printed whole, and the status is 1. If it was to be a source, nothing is stated about what is printed.
 abbrev pub PrintsFault : (fetches : Bool) (answer : List ℕ) (old new : Option (List ℕ)) (status : ℕ) → Type 0
 PrintsFault false answer old new status = (status ≡ 1) × Appends old new answer
 PrintsFault true answer old new status = status ≡ 1

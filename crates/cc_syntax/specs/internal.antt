@@ -1,5 +1,4 @@
--- Definitions that only private contracts and proofs use.
--- what a token is to the grammar
+-- Definitions that only private contracts and proofs use. what a token is to the grammar
 pub mod Roles
 -- what the parser's functions compute, token by token
 pub mod Parser

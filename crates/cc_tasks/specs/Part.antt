@@ -39,8 +39,7 @@ pub record IsAbsent (units : Units) (name : List ℕ) : Type 0 where
 abbrev pub IsPartIn : Units → (name : List ℕ) → Part → (bytes : List ℕ) → Type 0
 IsPartIn units name part bytes = (unit : StoredUnit) × IsFound units name unit × IsPart part unit bytes
 
--- why there is no such part: 33 exactly if the bytes are no name, 32 exactly if they are a name that no unit has; otherwise
--- memory ran out
+-- why there is no such part: 33 exactly if the bytes are no name, 32 exactly if they are a name that no unit has; otherwise memory ran out
 abbrev pub IsNoPartIn : Units → (name : List ℕ) → PartFault → Type 0
 IsNoPartIn units name BadName = is_name name ≡ false
 IsNoPartIn units name Absent = IsAbsent units name

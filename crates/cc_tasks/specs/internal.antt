@@ -1,5 +1,4 @@
--- What only private contracts use.
--- The program's faults for the stages.
+-- What only private contracts use. The program's faults for the stages.
 pub mod Stages
 -- Why the stages of a text's functions are not shown.
 pub mod Shown

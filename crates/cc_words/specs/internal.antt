@@ -1,3 +1,2 @@
--- Definitions that only private contracts and proofs use.
--- what a word is
+-- Definitions that only private contracts and proofs use. what a word is
 pub mod Word

@@ -41,10 +41,9 @@ abbrev words_of : (a : ℕ) → List PieceItem → List ℕ
 words_of a [] = []
 words_of a (i ∷ is) = encoding_of (filled (λ g. 0) 0x10000 a i) ∷ words_of (a + 4) is
 
--- addi x2, x2, -16; sw x18, 8(x2); sw x19, 12(x2); addi x18, x0, 1; addi x19, x0, 0; beq x18, x0, 20; add x19, x19, x18;
--- addi x7, x0, 1; sub x18, x18, x7; jal x0, -16; sw x19, 4(x2); lw x10, 4(x2);
--- slli x5, x7, 2; lui x6, 513; add x5, x5, x6; sw x10, -1024(x5); lw x10, -1024(x5);
--- addi x17, x0, 1; ecall; lw x18, 8(x2); lw x19, 12(x2); addi x2, x2, 16; jalr x0, 0(x1)
+-- addi x2, x2, -16; sw x18, 8(x2); sw x19, 12(x2); addi x18, x0, 1; addi x19, x0, 0; beq x18, x0, 20; add x19, x19, x18; addi x7, x0, 1;
+-- sub x18, x18, x7; jal x0, -16; sw x19, 4(x2); lw x10, 4(x2); slli x5, x7, 2; lui x6, 513; add x5, x5, x6; sw x10, -1024(x5); lw x10,
+-- -1024(x5); addi x17, x0, 1; ecall; lw x18, 8(x2); lw x19, 12(x2); addi x2, x2, 16; jalr x0, 0(x1)
 loop_words : words_of 0x10000 items
     ≡ 0xff010113 ∷ 0x01212423 ∷ 0x01312623 ∷ 0x00100913 ∷ 0x00000993 ∷ 0x00090a63 ∷ 0x012989b3 ∷ 0x00100393 ∷ 0x40790933 ∷ 0xff1ff06f ∷ 0x01312223 ∷ 0x00412503 ∷ 0x00239293 ∷ 0x00201337 ∷ 0x006282b3 ∷ 0xc0a2a023
     ∷ 0xc002a503 ∷ 0x00100893 ∷ 0x00000073 ∷ 0x00812903 ∷ 0x00c12983 ∷ 0x01010113 ∷ 0x00008067 ∷ []

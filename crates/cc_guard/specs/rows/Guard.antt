@@ -79,15 +79,13 @@ kept_in_loop : guarded_code objects 4 0 (Sequence (Set 1 (Constant 2)) (Sequence
     ≡ Sequence (Set 1 (Constant 2)) (Sequence (Set 2 (Constant 2)) (Loop (Sequence (Set 0 (Load Word 0 (Local 1))) (Sequence (stop_from (Constant 3) (Local 2)) (Set 2 (Load Word 0 (Local 2)))))))
 kept_in_loop = refl
 
--- a loop that counts to a limit: what its condition shows is known in each turn, and the counter at the head is at most that
--- limit
+-- a loop that counts to a limit: what its condition shows is known in each turn, and the counter at the head is at most that limit
 counted : guarded_code objects 4 0
     (Sequence (Set 1 (Constant 0)) (Block (Loop (If (Binary LtS (Local 1) (Constant 3)) (Sequence (Set 0 (Load Word 0 (Local 1))) (Set 1 (Binary Add (Local 1) (Constant 1)))) (Exit 0)))))
     ≡ Sequence (Set 1 (Constant 0)) (Block (Loop (If (Binary LtS (Local 1) (Constant 3)) (Sequence (Set 0 (Load Word 0 (Local 1))) (Set 1 (Binary Add (Local 1) (Constant 1)))) (Exit 0))))
 counted = refl
 
--- a loop that counts one too far; and a loop whose body is a block that an exit leaves: nothing is known about the counter after
--- the block
+-- a loop that counts one too far; and a loop whose body is a block that an exit leaves: nothing is known about the counter after the block
 too_far : guarded_code objects 4 0
     (Sequence (Set 1 (Constant 0)) (Block (Loop (If (Binary LeS (Local 1) (Constant 3)) (Sequence (Set 0 (Load Word 0 (Local 1))) (Set 1 (Binary Add (Local 1) (Constant 1)))) (Exit 0)))))
     ≡ Sequence (Set 1 (Constant 0)) (Block (Loop (If (Binary LeS (Local 1) (Constant 3))

@@ -22,8 +22,7 @@ ReplaysBody old body (Err Absent) = ⊥
 ReplaysBody old body (Err Full) = ⊥
 ReplaysBody old body (Err Closed) = ⊥
 
--- either the image has the old records and recovers only to the old map, or it has the new records and recovers only to the new
--- map
+-- either the image has the old records and recovers only to the old map, or it has the new records and recovers only to the new map
 abbrev pub IsOldOrNew : ℕ → List (List ℕ) → Units → List (List ℕ) → Units → List ℕ → Type 0
 IsOldOrNew area bodies old made new image =
     (HoldsAlone image area bodies × RecoversAlone image old) ⊎ (HoldsAlone image area made × RecoversAlone image new)

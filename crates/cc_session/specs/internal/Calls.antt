@@ -16,8 +16,7 @@ use Rattle.cc_service.specs.Updating.{UpdateAnswers}
 use Rattle.cc_session.specs.Telling.{IsCutOff, IsCutRun, SaysAudit, SaysChange, SaysRun, no_memory_text}
 use Rattle.cc_session.specs.Playing.{AuditsEach, CallsAndWrites, CutsRun, IsBounded, Talk, Writes, talk}
 
--- what `Does` says was done, and its text was written; or the text could not be written, 54, and the client is as if it had
--- been written
+-- what `Does` says was done, and its text was written; or the text could not be written, 54, and the client is as if it had been written
 abbrev pub DoesAndTells : {T : Type 0} → (Does : Talk → Talk → Type 0) (old new : Talk) → Result T ScriptFault → Type 0
 DoesAndTells Does old new (Ok done) = Does old new
 DoesAndTells Does old new (Err fault) = (fault ≡ WriteFault) × (written : Option (List ℕ)) × Does old (talk new.client written)
@@ -28,8 +27,7 @@ abbrev pub CallsAndTells : {T : Type 0} → (Answers : MemberView → MemberView
 CallsAndTells Answers Says old new result =
     (answer : Result Receipt ServiceFault) × Answers old.client new.client answer × (text : List ℕ) × Says answer text × Tells old.written new.written text result
 
--- the line of an audit was written for this answer, and the result is whether the audit says anything; or the line could not be
--- written: 54
+-- the line of an audit was written for this answer, and the result is whether the audit says anything; or the line could not be written: 54
 abbrev pub TellsAudit : Mode → (name : List ℕ) → Result Receipt ServiceFault → (old new : Option (List ℕ)) → Result Bool ScriptFault → Type 0
 TellsAudit mode name answer old new (Ok is_said) = (text : List ℕ) × SaysAudit mode name is_said answer text × Appends old new text
 TellsAudit mode name answer old new (Err fault) = fault ≡ WriteFault

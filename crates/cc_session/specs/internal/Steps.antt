@@ -100,8 +100,7 @@ abbrev pub IsObeyed : Mode → {T : Type 0} → (most : Option ℕ) (asked : Opt
 IsObeyed mode most asked before after old new (Ok done) = Between before after (λ b a. Obeys mode asked b a old new)
 IsObeyed mode most asked before after old new (Err fault) = IsObeyedNot mode most asked before old new fault
 
--- the whole script was done; or a fault ended it, whose line is not written yet, and the script is done up to the point that
--- the fault says
+-- the whole script was done; or a fault ended it, whose line is not written yet, and the script is done up to the point that the fault says
 abbrev pub IsHalted : Mode → {T : Type 0} → Dialect → (most : Option ℕ) (script : Option (List ℕ)) (old new : Talk) → Result T ScriptFault → Type 0
 IsHalted mode dialect most script old new (Ok done) = IfSome script (λ bytes. IsPlayed mode dialect most bytes old new)
 IsHalted mode dialect most script old new (Err fault) = IsEnding most fault × IfSome script (λ bytes. IsStoppedBy mode dialect most fault bytes old new)

@@ -6,8 +6,7 @@ use Rattle.cc_spool.specs.declared.lines.Lines.{Lines}
 use Rattle.cc_spool.specs.declared.submission.Side.{Side}
 use Rattle.cc_spool.specs.declared.submission.Side.TheVariants.{Reader, Writer}
 
--- the reader gave these `count` bytes, the writer got exactly these, and their lines were read; `count` is 0 only at the
--- reader's end
+-- the reader gave these `count` bytes, the writer got exactly these, and their lines were read; `count` is 0 only at the reader's end
 pub record HasPassed (held left old new : Option (List ℕ)) (before after : Lines) (count : ℕ) : Type 0 where
   pub bytes : List ℕ
   pub many : length bytes ≡ count

@@ -130,8 +130,7 @@ negated_void = refl
 missing_value : errors (tree.Definition (record { result = (Some Int); name = (name (codes "main") 4); parameters = [] }) (tree.next (tree.Return 15 None) tree.end) ∷ []) ≡ broken BadReturn 15
 missing_value = refl
 
--- a unit with each kind of statement, part by part
--- int a[3]={1,2};
+-- a unit with each kind of statement, part by part int a[3]={1,2};
 abbrev a_listed : External
 a_listed = tree.Objects Int (tree.Array (name (codes "a") 4) (Some (record { at = 6; expr = (tree.Number Int 3) })) ((record { at = 10; expr = (tree.Number Int 1) }) ∷ (record { at = 12; expr = (tree.Number Int 2) }) ∷ []) ∷ [])
 
