@@ -1,6 +1,6 @@
 -- Each text has exactly one answer. There is at least one, because a text has tokens or a first error, and the parser runs over
--- the tokens (Verdict). There is at most one, because the text determines its tokens, its error and its tree, and of two tokens
--- that break the grammar or a limit only the earlier one comes first.
+-- the tokens (Verdict). There is at most one, because the text determines its tokens, its error and its tree, and only one
+-- token is the first that breaks the grammar or a limit.
 use Rattle.std.proofs.Common.{◌≡◌, ◌<◌, ◌≤◌, ◌+◌, ◌⊎◌, inl, inr, ℕ, zero, suc, List, [], ◌∷◌, ◌++◌, length, take, drop, get_or, Option, Some, None, Result, Ok, Err, refl, sym, ap, subst, ◌∙◌, arith, append_assoc}
 use Rattle.std.proofs.lemmas.List.{map-append, take-append-drop, take_all}
 use Rattle.std.proofs.lemmas.Bool.{cases_lt, cases_order}
@@ -41,7 +41,7 @@ record Broken (text : List ℕ) (f : SyntaxFault) : Type 0 where
   before : IsFineBefore tokens number
   here : RefusedAt text tokens number f
 
--- the three kinds of refusals
+-- the three kinds of refusal
 data Kind (text : List ℕ) (f : SyntaxFault) : Type 0 where
   long : f ≡ fault.SourceTooLarge → 65536 < length text → Kind text f
   erroneous : IsLexicalFault text f → Kind text f

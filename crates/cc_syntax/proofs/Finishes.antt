@@ -27,7 +27,7 @@ abbrev pub IsUnit : List External → Type 0
 IsUnit [] = ⊥
 IsUnit (e ∷ es) = Unit {0}
 
--- some tokens lead to the end of a unit
+-- some tokens lead from the state to the end of a unit
 pub record Finishes (s : State) : Type 0 where
   pub rest : List Measured
   pub tree : List External
@@ -204,7 +204,7 @@ record Ends (c : Context) (n : ℕ) (ws : List Waiting) (e : Expr) : Type 0 wher
 end_token : (c : Context) (n : ℕ) (ws : List Waiting) (e : Expr) → Ends c n ws e → Finishes (operator c n ws e)
 end_token c n ws e h = by _ h.after h.last (h.closes (full_of c ws n) e ∙ h.goes ws) h.finishes
 
--- what ends an expression also ends one that reduces to the same
+-- a token that ends an expression also ends one that reduces to the same expression
 earlier : (c : Context) (n : ℕ) (ws us : List Waiting) (e d : Expr) → reduced 1 us d ≡ reduced 1 ws e → Ends c n ws e → Ends c n us d
 earlier c n ws us e d same h =
     record { last = h.last; after = h.after; closes = h.closes; goes = λ vs. ap (λ (r : Expr × List Waiting). close (full_of c vs n) (role_of h.last) r) same ∙ h.goes vs; finishes = h.finishes }

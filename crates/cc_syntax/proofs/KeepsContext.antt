@@ -1,5 +1,5 @@
 -- Reading a token of a full expression extends what the tokens so far spell: tokens that stay in the expression, and tokens that
--- end one in a function's body.
+-- end an expression in a function's body.
 use Rattle.std.proofs.Common.{◌≡◌, ℕ, suc, true, List, [], ◌∷◌, ◌++◌, Option, Some, None, refl, sym, ap, subst, ◌∙◌, append_assoc}
 use Rattle.std.proofs.lemmas.List.{append-nil}
 use Rattle.cc_syntax.specs.declared.parser.role.Role.{Role}
@@ -21,7 +21,7 @@ starts-more (OfBody b p) xs x h = tt
 starts-more (OfObject es n p) [] x h = absurd h
 starts-more (OfObject es n p) (y ∷ ys) x h = h
 
--- a full expression with one more token
+-- what a full expression's tokens spell is extended by one more token
 pub pushed : (c : Context) (ws us : List Waiting) (k : ℕ) (p q : Phase) (ts : List Measured) (x : Lexeme) → (h : FullSoFar c ws k p ts) → PhaseSoFar q us (h.xs ++ x ∷ []) → FullSoFar c us (suc k) q (ts ++ record { token = x; count = suc k; level = 0 } ∷ [])
 pushed c ws us k p q ts x h s =
     let y : Measured = record { token = x; count = suc k; level = 0 } in

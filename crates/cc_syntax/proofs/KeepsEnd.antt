@@ -17,7 +17,7 @@ use Rattle.cc_syntax.proofs.KeepsBody.{regrouped, can-statement}
 use Rattle.cc_syntax.proofs.SoFarUnit.{FullSoFar, Kept, leads_of}
 use Rattle.cc_syntax.proofs.KeepsContext.{kept-settle, kept-acted, kept-tested}
 
--- rows with one more part
+-- rows, extended by one part
 
 row-last : {A : Type 0} (S : List Measured → A → Type 0) (done : List A) (a : A) (ts one : List Measured) (comma : Lexeme) → SpellsRow S ts done → Marks punctuator.Comma comma → S one a → SpellsRow S (ts ++ outside comma ∷ one) (done ++ a ∷ [])
 row-last S [] a ts one comma h m k = absurd h
@@ -58,7 +58,7 @@ kept-declared w b t ds v i initial before mine ts x behind h k n s same e =
     finish AsLocal inner start d g = kept-settle b (Local t (ds ++ declared v i ∷ [])) before (start ++ inner) ts x 0 k d.0 d.1 tt g
     finish AsHeader inner start d g = (before, start ++ inner, k, d, g)
 
--- the tokens of a full expression, with one more token
+-- the tokens of a full expression are extended by one token
 pub pushed-tokens : (c : Context) (ws : List Waiting) (k : ℕ) (p : Phase) (ts : List Measured) (x : Lexeme) → (h : FullSoFar c ws k p ts) → ts ++ record { token = x; count = suc k; level = 0 } ∷ [] ≡ h.before ++ leads_of c (full (h.prefix ++ (h.xs ++ x ∷ [])))
 pushed-tokens c ws k p ts x h =
     let y : Measured = record { token = x; count = suc k; level = 0 } in
@@ -68,7 +68,6 @@ pushed-tokens c ws k p ts x h =
     ∙ ap (λ (j : ℕ). old ++ record { token = x; count = suc j; level = 0 } ∷ []) (sym h.counted) in
     regrouped ts h.before (leads_of c old) (y ∷ []) h.whole ∙ ap (λ (z : List Measured). h.before ++ z) (sym (h.joins (y ∷ []))) ∙ ap (λ (z : List Measured). h.before ++ leads_of c z) (sym tokens)
 
--- a named object of a declaration, with its value
 valued : (w : Position) (t : Scalar) (ds : List Declarator) (os : List Open) (mine : List Measured) (v : Name) (sign : Lexeme) (value : List Measured) → NamedSoFar w t ds (outside (identifier v) ∷ outside sign ∷ []) os mine → NamedSoFar w t ds (outside (identifier v) ∷ outside sign ∷ value) os (mine ++ value)
 valued w t ds os mine v sign value n =
     (n.0, n.1, n.2, n.3, n.4, n.5, n.6, ap (λ (z : List Measured). z ++ value) n.7 ∙ deep n.0 (map outside n.3) n.1 (outside (identifier v) ∷ outside sign ∷ []) value (first (position_level w os) 0 n.2))

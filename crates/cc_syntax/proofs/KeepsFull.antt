@@ -34,7 +34,7 @@ has_token (Cast t e) l xs h = (h.0, h.2 ++ h.1 ∷ h.3, h.8)
 has_token (Binary op a b) l xs h = subst (λ (z : List Lexeme). HasToken z) (sym h.7) (append-token h.1 h.2 h.0)
 has_token (Conditional c a b) l xs h = subst (λ (z : List Lexeme). HasToken z) (sym h.11) (append-token h.2 (h.3 ++ h.1 ∷ h.4) h.0)
 
--- an operand of one token
+-- if the token `x` spells an operand, the tokens with `x` spell the pending parts and that operand
 pub holds-one : (e : Expr) (ws : List Waiting) (xs : List Lexeme) (x : Lexeme) → SpellsExpression 12 (x ∷ []) e → WaitingSoFar ws xs → Holds ws e (xs ++ x ∷ []) 12
 holds-one e ws xs x h w = record { prefix = xs; part = x ∷ []; level = 12; waits = w; spelled = h; room = room-most ws; tight = omega arith; whole = refl }
 
@@ -102,7 +102,7 @@ kept-index n e ws xs x h l =
     closed e (Element n e) ws xs w.0 (identifier n ∷ w.1 ∷ []) l.part l.prefix x w.2 l.whole w.4
     (w.1, x, l.part, w.3, h, spells-looser e l.level 1 l.part l.tight l.spelled, refl)
 
--- arguments with one more argument
+-- the tokens of an argument after those of earlier arguments spell the extended list
 arguments-last : (es : Exprs) (e : Expr) (xs part : List Lexeme) → ArgumentsSoFar xs es → SpellsExpression 1 part e → SpellsArguments (xs ++ part) (with_argument es e)
 arguments-last none e xs part h k = subst (λ (z : List Lexeme). SpellsExpression 1 (z ++ part) e) (sym h) k
 arguments-last (more d es) e xs part h k =

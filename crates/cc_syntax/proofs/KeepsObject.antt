@@ -1,4 +1,4 @@
--- At file scope: a complete external declaration, a complete object, and the token that ends a constant expression extend what
+-- At file scope, a complete external declaration, a complete object, and the token that ends a constant expression extend what
 -- the tokens so far spell.
 use Rattle.std.proofs.Common.{◌≡◌, ℕ, List, [], ◌∷◌, ◌++◌, map, Option, Some, refl, sym, ap, subst, ◌∙◌, append_assoc, inl, inr}
 use Rattle.std.proofs.lemmas.List.{append-nil}
@@ -50,7 +50,7 @@ pub single-spelled : (t : ObjectKind) (ts : List Measured) (v : Name) (e : Optio
 single-spelled (Words t) ts v e w h = h
 single-spelled Bytes ts v e w h = absurd w
 
--- an array occurs in a declaration of words and in one of `unsigned char`
+-- an array may occur in a declaration of words or of `unsigned char`
 pub array-spelled : (t : ObjectKind) (ts : List Measured) (v : Name) (size : Option ConstantExpr) (values : List ConstantExpr) → SpellsArray ts v size values → SpellsName t ts (array_of t v size values)
 array-spelled (Words t) ts v size values h = h
 array-spelled Bytes ts v size values h = h

@@ -24,7 +24,7 @@ use Rattle.cc_syntax.proofs.KeepsContext.{kept-stays}
 use Rattle.cc_syntax.proofs.KeepsEnd.{kept-end, pushed-tokens}
 use Rattle.cc_syntax.proofs.KeepsObject.{kept-constant}
 
--- if an action is a statement, its first token has the level
+-- tokens appended to those of an action do not change the level of its first token
 pub leads-joins : (p : Spot) (os : List Open) (x : Lexeme) (xs : List Lexeme) (qs : List Measured) → leads p os (full (x ∷ xs) ++ qs) ≡ leads p os (full (x ∷ xs)) ++ qs
 leads-joins AsStatement os x xs qs = refl
 leads-joins AsStart os x xs qs = refl
@@ -110,7 +110,7 @@ target-spelled (Variable n) xs h = h
 target-spelled (Element n e) xs h = h
 target-spelled _ xs h = tt
 
--- the tokens of an action, with one more token
+-- the tokens of an action are extended by one token
 action-tokens : (b : Inside) (p : Spot) (ws : List Waiting) (k : ℕ) (q : Phase) (ts : List Measured) (x : Lexeme) → (h : FullSoFar (OfBody b (ToPerform p)) ws k q ts) → (ts ++ record { token = x; count = suc k; level = 0 } ∷ [] ≡ h.before ++ leads p b.opened (full (h.xs ++ x ∷ []))) × (suc k ≡ count_after 0 (h.xs ++ x ∷ []))
 action-tokens b p ws k q ts x h =
     let none = h.context.3.0 in (

@@ -1,4 +1,4 @@
--- Reading a token extends what the tokens so far spell: at file scope, outside full expressions.
+-- Reading a token at file scope, outside full expressions, extends what the tokens so far spell.
 use Rattle.std.proofs.Common.{◌≡◌, Bool, true, false, List, [], ◌∷◌, ◌++◌, map, Option, Some, None, is_some, refl, sym, ap, subst, ◌∙◌, append_assoc, inl, inr}
 use Rattle.std.proofs.lemmas.Bool.{false≢true, and_parts}
 use Rattle.std.proofs.lemmas.List.{append-nil}
@@ -134,7 +134,7 @@ kept-named (Some t) r v es before mine ts x h k o e =
     kept-object r (record { kind = Words t; objects = []; name = v }) es before mine ts x h k (o.0, [], o.1, inl (refl, refl), o.2) e
 kept-named None r v es before mine ts x h k o e = tt
 
--- parameters so far, with more tokens
+-- the parameters so far stay spelled after more tokens
 parameters-more : (f : Signature) (Row : List Measured → Type 0) (behind mine more : List Measured) → ParametersSoFar f Row behind mine → ParametersSoFar f Row (behind ++ more) (mine ++ more)
 parameters-more f Row behind mine more o =
     let head : List Measured = outside (identifier f.name) ∷ outside o.1 ∷ o.2 in
@@ -146,7 +146,6 @@ parameters-in f Row Next behind mine o h =
     let head : List Measured = outside (identifier f.name) ∷ outside o.1 ∷ [] in
     (o.0, o.1, o.2 ++ behind, o.3, o.4, h, o.6 ∙ ap (λ (z : List Measured). map outside o.0 ++ (outside (identifier f.name) ∷ outside o.1 ∷ z)) (sym (append-nil (o.2 ++ behind))))
 
--- the parenthesis after the parameters
 kept-headed-by : (f : Signature) (Row : List Measured → Type 0) (es : List External) (before mine ts : List Measured) (x : Lexeme) → Marks punctuator.CloseParenthesis x → SpellsExternals before es → (o : ParametersSoFar f Row [] mine) → SpellsParameters o.2 f.parameters → ts ≡ before ++ mine → Kept (Some (AtFile es (Headed f))) ts x 0
 unfolding parameters-more
 kept-headed-by f Row es before mine ts x h k o s e =

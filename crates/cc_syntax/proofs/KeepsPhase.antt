@@ -18,7 +18,7 @@ use Rattle.cc_syntax.specs.internal.Parser.{State, AtFile, InBody, InFull, Full,
 use Rattle.cc_syntax.proofs.SoFar.{WaitingSoFar, Holds, Casts, IsSign}
 use Rattle.cc_syntax.proofs.KeepsFull.{identified, holds-one, kept-colon, kept-parenthesis, kept-index, kept-comma, kept-call, kept-call-none, kept-open-call, kept-open-index}
 
--- which tokens have this role
+-- the token has this role
 abbrev pub HasRole : Role → Lexeme → Type 0
 HasRole role.Identifier x = x.kind ≡ kind.Identifier
 HasRole (role.Number t w) x = x.kind ≡ kind.Number t w
@@ -126,7 +126,8 @@ PhaseSoFar (Operator e) ws xs = Holds ws e xs 12
 PhaseSoFar (CastSign t) ws xs = Casts ws xs (IsSign t)
 PhaseSoFar (CastType t) ws xs = Casts ws xs (λ type. SpellsType type t)
 
--- a token that stays in the full expression
+-- the state, if there is one, is in the same full expression after one more token, and `ys` are the
+-- expression's tokens
 abbrev pub StaysIn : Full → List Lexeme → Option State → Type 0
 StaysIn f ys None = Unit {0}
 StaysIn f ys (Some (AtFile es o)) = ⊥

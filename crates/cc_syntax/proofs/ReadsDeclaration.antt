@@ -1,4 +1,4 @@
--- Each declaration of locals that tokens spell is read from them.
+-- The parser reads each declaration of locals that tokens spell.
 use Rattle.std.proofs.Common.{◌≡◌, ℕ, true, List, [], ◌∷◌, ◌++◌, map, Option, Some, None, refl, sym, ap, subst, ◌∙◌, append_assoc, inl, inr}
 use Rattle.cc_tokens.specs.declared.scalar.Scalar.{Scalar}
 use Rattle.cc_tokens.specs.declared.scalar.Scalar.TheVariants as scalar
@@ -74,7 +74,7 @@ read_initial (Some e) ts z x b w t ds v h k =
     ends Last = declares-state b w t (ds ++ declared v (Some e) ∷ [])
     ends Further = refl
 
--- a state in which a further name is declared
+-- a state in which a further name may be declared
 pub record Names (s : State) (b : Inside) (w : Position) (t : Scalar) (ds : List Declarator) : Type 0 where
   pub named : (v : Name) → role_step s role.Identifier v ≡ Some (InBody b (HasDeclared w t ds v))
   pub begun : 0 ≡ role_level s role.Identifier
@@ -105,7 +105,7 @@ read_row (e ∷ f ∷ es) ts x s b w t ds names h k =
     regroup : (a : List Measured) (p : Measured) (c : List Measured) (q : Measured) → (a ++ p ∷ []) ++ (c ++ q ∷ []) ≡ (a ++ p ∷ c) ++ q ∷ []
     regroup a p c q = simp append_assoc
 
--- a state in which a declaration begins
+-- a state in which a declaration may begin
 pub record Begins (s : State) (b : Inside) (w : Position) (level : ℕ) : Type 0 where
   pub int : (v : Name) → role_step s role.Int v ≡ Some (InBody b (Declaring w scalar.Int []))
   pub sign : (t : Scalar) (v : Name) → role_step s (role.SignWord t) v ≡ Some (InBody b (LocalSign w t))

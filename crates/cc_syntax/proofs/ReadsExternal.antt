@@ -1,4 +1,4 @@
--- Each external declaration, and each unit, that tokens spell is read from them.
+-- The parser reads each external declaration, and each unit, that tokens spell.
 use Rattle.std.proofs.Common.{◌≡◌, ℕ, Bool, true, List, [], ◌∷◌, ◌++◌, map, Option, Some, None, refl, sym, ap, subst, ◌∙◌, arith, append_assoc, inl, inr}
 use Rattle.std.specs.Prelude.{◌&&◌, is_some}
 use Rattle.cc_tokens.specs.declared.scalar.Scalar.{Scalar}
@@ -87,7 +87,7 @@ abbrev behind_parameter : End → List External → Signature → State
 behind_parameter Comma es f = AtFile es (ParameterNext f)
 behind_parameter Parenthesis es f = AtFile es (Headed f)
 
--- a state after the keywords of a parameter's type
+-- the state after the keywords of a parameter's type
 record InParameter (es : List External) (f : Signature) (t : Scalar) (s : State) : Type 0 where
   named : (v : Name) → role_step s role.Identifier v ≡ Some (AtFile es (ParameterNamed (with_parameter f t (Some v))))
   ends : (z : End) (v : Name) → role_step s (role_of (end_kind z)) v ≡ Some (behind_parameter z es (with_parameter f t None))
@@ -191,7 +191,7 @@ read_parameters (p ∷ ps) ts es f x h k e = read_parameter_row (p ∷ ps) ts es
 
 -- a function's result, name and parameters
 
--- a state in which the first name of an external declaration comes
+-- a state in which the first name of an external declaration may come
 record FirstName (es : List External) (r : Option Scalar) (s : State) : Type 0 where
   named : (v : Name) → role_step s role.Identifier v ≡ Some (AtFile es (Named r v))
   begun : 0 ≡ role_level s role.Identifier
@@ -274,7 +274,7 @@ record BehindName (es : List External) (n : Naming) (s : State) : Type 0 where
   bracket_level : 0 ≡ role_level s role.OpenBracket
   single : AreWords n.kind → BehindSingle es n s
 
--- a state in which a further object is named
+-- a state in which a further object may be named
 record NamesObject (es : List External) (t : ObjectKind) (os : List Object) (s : State) : Type 0 where
   next : Name → State
   named : (v : Name) → role_step s role.Identifier v ≡ Some (next v)
@@ -491,7 +491,7 @@ read_externals (u ∷ us) ts es h =
     subst (λ (z : List External). Runs (AtFile (es ++ u ∷ []) Between) h.1 (AtFile z Between)) (append_assoc es (u ∷ []) us) (read_externals us h.1 (es ++ u ∷ []) h.3) in
     subst (λ (z : List Measured). Runs (AtFile es Between) z m) (sym h.4) (runs-append (AtFile es Between) (AtFile (es ++ u ∷ []) Between) m h.0 h.1 (read_external u h.0 es h.2) rest)
 
--- each unit that tokens spell is read from them
+-- the parser reads each unit that tokens spell
 pub read_unit : (tree : List External) (ts : List Measured) → SpellsUnit ts tree → Runs start ts (AtFile tree Between)
 read_unit [] ts h = absurd h
 read_unit (e ∷ es) ts h = read_externals (e ∷ es) ts [] h

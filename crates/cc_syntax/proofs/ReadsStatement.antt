@@ -1,5 +1,5 @@
--- Each statement that tokens spell is read from them, by induction on its tree. After a statement that ends in an open `if`, the
--- next token decides: any token but `else` is read as after a complete statement.
+-- The parser reads each statement that tokens spell, by induction on its tree. After a statement that ends in an open `if`, the
+-- next token decides: any token except `else` is read as it is after a complete statement.
 use Rattle.std.proofs.Common.{◌≡◌, ℕ, true, false, suc, List, [], ◌∷◌, ◌++◌, length, Option, Some, None, refl, sym, ap, subst, ◌∙◌, arith, append_assoc}
 use Rattle.cc_tokens.specs.declared.scalar.Scalar.{Scalar}
 use Rattle.cc_tokens.specs.declared.token.Keyword.TheVariants as keyword
@@ -32,11 +32,11 @@ pub record Leads (b : Inside) (ts : List Measured) (s : Stmt) : Type 0 where
   pub closed : IsClosed s → after ≡ in_body (settled true b b.opened s)
   pub rests : RestsAs after (in_body (settled false b b.opened s))
 
--- a statement that the parser completes at its last token
+-- the tokens of a statement lead to the state after it, if the parser completes the statement at its last token
 leads : (b : Inside) (ts : List Measured) (s : Stmt) → Runs (InBody b Item) ts (in_body (settled true b b.opened s)) → Leads b ts s
 leads b ts s h = record { after = in_body (settled true b b.opened s); runs = h; closed = λ c. refl; rests = settled-rests b b.opened s }
 
--- an action begins like a statement, or at either end of a `for` header
+-- an action may begin a statement, or either end of a `for` header
 
 item-acts : (r : Role) (b : Inside) (v : Name) (m : State) → action_step b AsStatement r v ≡ Some m → item_step b r v ≡ Some m
 item-acts role.OpenBrace b v m h = absurd (none-some _ m refl h)

@@ -1,5 +1,5 @@
--- What the tokens before a state in a body spell. For a statement that has begun, this is described by what would complete it:
--- whatever the missing parts are, with them the tokens spell the statement. So the proof is made once, at the beginning of the
+-- What the tokens before a state in a body spell. A statement that has begun is described by what would complete it: whatever
+-- the missing parts are, the tokens together with them spell the statement. So this is proved once, at the beginning of the
 -- statement, and each further token supplies a part.
 use Rattle.std.proofs.Common.{◌≡◌, ℕ, suc, List, [], ◌∷◌, ◌++◌, ◌⊎◌, length, map, Option, Some}
 use Rattle.cc_tokens.specs.declared.scalar.Scalar.{Scalar}
@@ -86,7 +86,7 @@ ActedSoFar AsStatement a os mine = SpellsStatement (depth os) mine (Perform (Som
 ActedSoFar AsStart a os mine = GoingSoFar (Performs (Some a)) os mine
 ActedSoFar (AsLast s e) a os mine = PartSoFar (λ t. For s e (Some a) t) os mine
 
--- the tokens of an action: if it is a statement, the first one has the level
+-- the tokens of an action; if the action is a statement, its first token has the statement's level
 abbrev pub leads : Spot → List Open → List Measured → List Measured
 leads AsStatement os ts = begins (depth os) ts
 leads _ os ts = ts
@@ -166,7 +166,7 @@ StageSoFar (Stepped op t p k) os mine =
     (before : List Measured) × (x : Lexeme) × (xs : List Lexeme) × SpotSoFar p os before × SpellsAction (x ∷ xs) (Step op t) × (k ≡ count_after 0 (x ∷ xs))
     × (mine ≡ before ++ leads p os (full (x ∷ xs)))
 
--- the place of an action with this purpose
+-- what the action with this purpose is
 abbrev pub spot_of : Purpose → Spot
 spot_of (ToPerform p) = p
 spot_of (ToAssign op t p) = p

@@ -1,4 +1,4 @@
--- What the tokens before any state spell: at file scope, in a body, in a full expression.
+-- What the tokens before any state spell: at file scope, in a body, or in a full expression.
 use Rattle.std.proofs.Common.{◌≡◌, ℕ, List, [], ◌∷◌, ◌++◌, map, Option, IfSome}
 use Rattle.cc_tokens.specs.declared.token.Keyword.TheVariants as keyword
 use Rattle.cc_tokens.specs.declared.token.Punctuator.TheVariants as punctuator
@@ -85,12 +85,12 @@ ContextSoFar (OfBody b p) ts xs =
     (before mine : List Measured) × BodySoFar b.externals b.signature b.finished b.opened before × PurposeSoFar p b.opened mine xs × (ts ≡ before ++ mine)
 ContextSoFar (OfObject es n p) ts xs = (xs ≡ []) × AtFileSoFar es (part_outer n p) ts
 
--- the tokens of a full expression: if its action is a statement, the first one has the level
+-- the tokens of a full expression; if its action is a statement, the first token has the statement's level
 abbrev pub leads_of : Context → List Measured → List Measured
 leads_of (OfBody b p) ts = leads (spot_of p) b.opened ts
 leads_of (OfObject es n p) ts = ts
 
--- a constant expression begins at the offset that was noted
+-- the offset that was recorded, at which the constant expression begins
 abbrev pub offset_of : Part → ℕ
 offset_of (ToSize at) = at
 offset_of (ToSingle at) = at
@@ -111,12 +111,12 @@ pub record FullSoFar (c : Context) (ws : List Waiting) (k : ℕ) (p : Phase) (ts
   pub joins : (qs : List Measured) → leads_of c (full (prefix ++ xs) ++ qs) ≡ leads_of c (full (prefix ++ xs)) ++ qs
   pub whole : ts ≡ before ++ leads_of c (full (prefix ++ xs))
 
--- the tokens so far lead to the state and spell what it has
+-- the tokens so far spell what the state says has been read
 abbrev pub SoFar : State → List Measured → Type 0
 SoFar (AtFile es o) ts = AtFileSoFar es o ts
 SoFar (InBody b s) ts = InBodySoFar (b, s) ts
 SoFar (InFull f p) ts = FullSoFar f.context f.waiting f.count p ts
 
--- if there is a state after a token, the tokens up to and including it lead there
+-- if there is a state after a token, the tokens up to and including that one spell what the state says
 abbrev pub Kept : Option State → List Measured → Lexeme → ℕ → Type 0
 Kept o ts x l = IfSome o (λ m. SoFar m (ts ++ record { token = x; count = count_of m; level = l } ∷ []))
