@@ -1,4 +1,4 @@
--- How a statement ends, in the resolved form; scopes and lists of locals.
+-- How a statement ends in the resolved form, and how scopes and lists of locals are represented there.
 use Rattle.std.proofs.Common.{◌≡◌, ℕ, zero, suc, ◌+◌, ◌-◌, ◌≤◌, List, [], ◌∷◌, ◌++◌, length, reverse, take, drop, Some, slice_get, refl, sym, ap, ◌∙◌, subst, arith, length-append, append_assoc, take-append-drop}
 use Rattle.std.proofs.lemmas.List.{length-map, reverse-append, map-append, drop_at}
 use Rattle.cc_meaning.specs.declared.form.Instruction.TheVariants as instruction
@@ -39,7 +39,7 @@ names_drop zero ls = refl
 names_drop (suc d) [] = refl
 names_drop (suc d) (l ∷ ls) = names_drop d ls
 
--- after a scope, when no name refers to its locals any more
+-- variables that fit inside a scope also fit after it, when no name refers to the scope's locals any more
 pub fits_left : (v : Environment) (extra : List (List ℕ)) (total most before : ℕ) (vs : List ℕ) (t : State) → before ≡ length v.locals → Fits (over extra v) total most vs t → Fits v total most vs (left_scope before t)
 fits_left v extra total most before vs t e h =
     let ls : List Local = t.locals in

@@ -38,7 +38,7 @@ pub record Values (form : FormTree) (cs : List Activation) (total : ℕ) (c : Co
   pub many : length ws ≡ count
   pub leads : Leads form c (conf q vs (reverse ws ++ ops) cs t)
 
--- each call with the right number of words gives in the form what it gives in the source, if fewer than n steps are left
+-- each call with the right number of words does in the form what it does in the source, if fewer than n steps are left
 abbrev pub CallsMeet : FormTree → Layout → (List ℕ → ℕ → Type 0) → List Activation → (total n : ℕ) → Calls → Type 0
 CallsMeet form layout Takes cs total n call =
     (v : Environment) (f ws : List ℕ) (p : ℕ) (vs ops : List ℕ) (s : State) (most : ℕ)
@@ -78,7 +78,7 @@ module _ (form : FormTree) (cs : List Activation) (total : ℕ) where
   element_by v most vs ops p i x s None e h is move = instructed_last form (instruction.Element (extent_of v.layout.objects x)) p vs (i ∷ ops) cs s (outcome.Wrong Index) e move
   element_by v most vs ops p i x s (Some w) e h is move = pushes v most vs (i ∷ ops) ops p (p + 1) w s (instruction.Element (extent_of v.layout.objects x)) e h refl move
 
-  -- what the instruction does, depending on what is in the array
+  -- the move of `Element`, depending on whether the array has the element
   element_move : (v : Environment) (most : ℕ) (vs ops : List ℕ) (p i : ℕ) (x : List ℕ) (s : State) → Fits v total most vs s
       → instruction_move form (instruction.Element (extent_of v.layout.objects x)) (conf p vs (i ∷ ops) cs s)
       ≡ elim (slice_get (global_words s.globals x) i) [ None ↦ Stops (outcome.Wrong Index) | Some w ↦ Goes (conf p vs (w ∷ ops) cs s) ]
@@ -268,7 +268,7 @@ module _ (form : FormTree) (cs : List Activation) (total : ℕ) where
       (unless_decided (decided LogicalOr a) (λ x. then_do (second x) (λ b y. given LogicalOr (binary_word LogicalOr t a b) y)) u) got.leads refl
       (or_behind v most vs ops (p + l) (p + length code) a t right second u g in_right.0 in_right.1 in_last.0 (omega arith) (stands_end form.code p code st) got.fits))
 
-  -- any operator of two operands
+  -- the instructions of any binary operator push its value
   pub binary_meets : (v : Environment) (most : ℕ) (vs : List ℕ) (op : BinaryOperator) (t : Scalar) (left right : List Instruction) (first second : State → Run ℕ) → Kind op
       → Part v most vs left first → Part v most vs right second → Part v most vs (joined op (operation op t) left right) (both_operands op t first second)
   binary_meets v most vs op t left right first second (IsAnd e) f g =
@@ -279,7 +279,7 @@ module _ (form : FormTree) (cs : List Activation) (total : ℕ) where
 
   -- ---- a conditional
 
-  -- a jump if a word is 0
+  -- `JumpIfZero` jumps if the word is 0
   pub branches : (n p q : ℕ) (vs ops : List ℕ) (s : State) → slice_get form.code p ≡ Some (instruction.JumpIfZero n) → q ≡ p + 1 + n → q ≤ length form.code
       → Leads form (conf p vs (zero ∷ ops) cs s) (conf q vs ops cs s)
   branches n p q vs ops s e at le =

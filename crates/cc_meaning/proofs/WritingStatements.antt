@@ -1,5 +1,5 @@
--- Instructions are written from last to first: the names of a list come into scope first, and then the instructions after each
--- member are there when the member is written.
+-- Instructions are written from last to first: the names of a list come into scope first, and when a member is written, the
+-- instructions after it are already there.
 use Rattle.std.proofs.Common.{◌≡◌, ℕ, ◌+◌, ◌-◌, ◌≤◌, List, [], ◌∷◌, ◌++◌, length, length-append, reverse, set, refl, sym, ap, ◌∙◌, append_assoc, arith}
 use Rattle.std.proofs.lemmas.List.{set-append_right}
 use Rattle.cc_ast.specs.Erase.{optional_tree, declarator_trees, statement_tree, statements_of}
@@ -110,7 +110,7 @@ written_onto-append x (s ∷ xs) ys w c =
     ap (λ v. written_onto x (xs ++ ys) w (statement_code v (exits_of (length c) x) (statement_tree s) ++ c)) (behind_reversed-append xs ys w)
     ∙ written_onto-append x xs ys w (statement_code (behind_reversed xs (behind_reversed ys w)) (exits_of (length c) x) (statement_tree s) ++ c)
 
--- a target's distance from the next instruction, given its distance from those that are written
+-- a target's distance from an instruction n places earlier is larger by n
 further-minus : (n m k : ℕ) → k ≤ m → (n + m) - k ≡ n + (m - k)
 further-minus n m k h = omega arith
 
@@ -166,7 +166,7 @@ statement-is s met v w x c c' is e stays written =
 
 -- ---- loops
 
--- the body of a loop, when this many instructions are written
+-- the targets of break and continue in a loop's body, as numbers of written instructions
 pub exits-of-body : (following test rest c : List Instruction) (breaks : ℕ) → c ≡ following ++ (test ++ Repeat 0 ∷ rest) → breaks ≡ length rest
     → exits_of (length c) (record { breaks = breaks; continues = length c }) ≡ exits_of_body following test
 exits-of-body following test rest c breaks e b =

@@ -1,11 +1,12 @@
--- What the code that writes statements keeps, as the definitions see it.
+-- What the code that writes statements stores, in terms of the definitions.
 use Rattle.std.specs.Prelude.{ℕ, ◌+◌, ◌-◌, List, ◌∷◌, ◌++◌, length}
 use Rattle.cc_meaning.specs.internal.Form as form
 use Rattle.cc_meaning.specs.declared.form.Instruction.{Instruction}
 use Rattle.cc_meaning.specs.declared.form.Instruction.TheVariants.{JumpIfZero}
 use Rattle.cc_meaning.specs.declared.writer.statements.Exits.{Exits}
 
--- the targets of a break and a continue; the code keeps each as how many of the n written instructions follow it
+-- the targets of a break and a continue; the code stores each as the number of the n written instructions that
+-- follow it
 abbrev pub exits_of : ℕ → Exits → form.Exits
 exits_of n e = record { breaks = n - e.breaks; continues = n - e.continues }
 
