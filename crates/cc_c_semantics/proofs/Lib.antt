@@ -7,7 +7,7 @@
 --
 -- a part of a run with more steps and a larger bound
 pub mod Lasting
--- this holds for each part of a program
+-- the facts of Lasting hold for each part of a program
 pub mod Steps
 -- a call that answers needs no more steps than it spends, and gives the same answer with any number more
 pub mod Exact

@@ -21,7 +21,7 @@ pub record Answer : Type 0 where
   pub word : ℕ
   pub shared : Shared
 
--- the effect of a call: an answer with the number of steps left; or no step left; or the cause for which it goes wrong
+-- the effect of a call: an answer with the number of steps left; or no step left; or the cause for which the call goes wrong
 pub data Effect (A : Type 0) : Type 0 where
   Answers : A → ℕ → Effect A
   Unfinished : List ℕ → Effect A
@@ -71,8 +71,8 @@ TypedUnitsHaveMeaning = (unit : List External) → IsTyped unit → HasMeaning u
 
 -- ---- more steps
 
--- a run continues the one that had fewer steps: if that one had ended or gone wrong, it is the same; otherwise that one's output
--- is the beginning of its output
+-- the run `z` continues the run `a`, which had fewer steps: if `a` ended or went wrong, `z` is the same; otherwise the output of
+-- `a` is the beginning of that of `z`
 abbrev pub GoesOn : Stop ℕ → Outcome ℕ → Outcome ℕ → Type 0
 GoesOn outcome.Going a z = IsPrefixOf a.output z.output
 GoesOn (outcome.Ended w) a z = z ≡ a

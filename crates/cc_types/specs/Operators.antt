@@ -26,7 +26,7 @@ working_type ShiftLeft t u = t
 working_type ShiftRight t u = t
 working_type op t u = common_type t u
 
--- the type of the value: relations, equality, && and || give int (6.5.8, 6.5.9, 6.5.13, 6.5.14)
+-- the type of a binary operator's value: relations, equality, && and || yield int (6.5.8, 6.5.9, 6.5.13, 6.5.14)
 abbrev pub binary_type : BinaryOperator → Scalar → Scalar → Scalar
 binary_type Less t u = Int
 binary_type Greater t u = Int

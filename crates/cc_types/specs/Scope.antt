@@ -6,7 +6,7 @@ use Rattle.cc_ast.specs.Tree.{Name, Declarator, Beginning, Declares, Performs, S
 use Rattle.cc_types.specs.Names.{same_name}
 
 -- what a name denotes: an object with one value (a variable, a parameter, a local); an array, with the type of its elements; or a
--- function, with the type of its result (None for void) and those of its parameters
+-- function, with the types of its result (None for void) and of its parameters
 pub data Entity : Type 0 where
   Variable : Scalar → Entity
   Elements : Scalar → Entity
@@ -142,7 +142,7 @@ same_result None None = true
 same_result (Some t) (Some u) = same_scalar t u
 same_result r q = false
 
--- two functions with the same types
+-- both are functions, and they have the same types
 abbrev pub same_entity : Entity → Entity → Bool
 same_entity (Function r ts) (Function q us) = same_result r q && same_scalars ts us
 same_entity e f = false
