@@ -10,7 +10,7 @@ use Rattle.cc_tokens.specs.Tokens.{begins_close, begins_line_end, begins_splice,
 use Rattle.cc_tokens.specs.internal.Scan.{offset_within, comment_of, comment_head, block_comment, spliced}
 use Rattle.cc_tokens.proofs.Runs.{place_is, place_none_before}
 
--- bytes that begin with `*/`
+-- if the bytes begin with `*/`, they are `*/` and the rest
 pub close_shape : (xs : List ℕ) → begins_close xs ≡ true → xs ≡ 42 ∷ 47 ∷ drop 2 xs
 close_shape [] here = absurd (false≢true here)
 close_shape (a ∷ []) here = absurd (false≢true ((and_parts (a == 42) _ here).1))

@@ -45,7 +45,7 @@ capped_type base suffixed v = ⊎_elim
     ap (λ w. typed (type_of_value base suffixed w) w) e ∙ ap (λ t. typed t 4294967296) (no_type base suffixed 4294967296 (omega arith)) ∙ sym (ap (λ t. typed t v) (no_type base suffixed v large)))
     (cases_lt v 4294967296)
 
--- the parts that the scanner finds in a number are those of the constant that it spells
+-- the parts that the scanner finds in a number are the parts of the constant that the number spells
 pub kind_from_parts : (number : List ℕ) (base n : ℕ) (suffixed : Bool) → base ≡ base_of number → 1 ≤ base
     → n ≡ prefix_len (is_digit_of base) (drop (prefix_of_base base) number)
     → (n == 0 && not (base == 8)) ≡ false
@@ -61,7 +61,7 @@ kind_from_parts number base n suffixed base_is some n_is digits suffix_is =
     ap (λ v. typed (type_of_value base suffixed v) v) capped ∙ capped_type base suffixed (fold (λ v b. v * base + digit_value b) 0 (take n behind))
     ∙ sym (ap constant_kind (ap (λ b. constant_behind b (prefix_len (is_digit_of b) (drop (prefix_of_base b) number)) (drop (prefix_of_base b) number)) (sym base_is) ∙ whole))
 
--- the same for the values that the code has at hand
+-- the same for the values that the code has computed
 pub kind_from_behind : (number behind : List ℕ) (base n v : ℕ) (suffixed : Bool) (r : Result TokenKind LexicalError) → base ≡ base_of number → 1 ≤ base
     → behind ≡ drop (prefix_of_base base) number
     → n ≡ prefix_len (is_digit_of base) behind

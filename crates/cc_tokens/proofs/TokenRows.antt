@@ -1,5 +1,5 @@
--- Texts with their tokens or their first error, worked by hand: a comment that ends a token, blanks that two signs need, and a
--- number that continues after its exponent letter.
+-- Texts with their tokens or their first error, worked by hand: a comment that ends a token, a blank that keeps two signs
+-- apart, and a number that continues after its exponent letter.
 use Rattle.std.proofs.Common.{◌≡◌, ℕ, ◌+◌, ◌<◌, List, [], ◌∷◌, ◌++◌, length, drop, refl, subst, arith}
 use lib.Chars.{codes}
 use Rattle.cc_tokens.specs.declared.scalar.Scalar.TheVariants.{Int}

@@ -1,5 +1,4 @@
--- Definitions that only private contracts and proofs use.
--- how the code keeps which functions are defined
+-- Definitions that only private contracts and proofs use. how the code stores which functions are defined
 pub mod Functions
 -- what the code has found so far
 pub mod Findings
