@@ -31,7 +31,8 @@ length-environments p (Declaration s ∷ es) f = length-environments p es (file_
 length-environments p (Definition s body ∷ es) f = ap suc (length-environments p es (file_scope_behind (Definition s body) f))
 length-environments p (Objects t os ∷ es) f = length-environments p es (file_scope_behind (Objects t os) f)
 
--- the state after some external declarations of a unit, with this many functions still to come before the one with the number
+-- the state of the walk after some external declarations of a unit, if `left` more functions precede the one with the number
+-- `function`
 pub record Entering (all : List External) (function : ℕ) (v : Environment) (left : ℕ) (rest : List External) : Type 0 where
   pub inner : v.visible.inner ≡ []
   pub locals : v.locals ≡ []
@@ -87,7 +88,7 @@ Entering-definition all function v left left' s body rest v' before next ev = re
   bound = omega (arith, before.bound, next);
 }
 
--- the environment at the function with the number
+-- when the function with the number is reached, the environment is the one at the start of its body
 pub Entering-found : (all : List External) (function : ℕ) (v : Environment) (s : Signature) (body : Stmts) (rest : List External) (v' : Environment)
     → Entering all function v 0 (Definition s body ∷ rest) → v' ≡ environment_of v.layout s (file_of v.visible) → slice_get (environments all) function ≡ Some v'
 Entering-found all function v s body rest v' before ev =
