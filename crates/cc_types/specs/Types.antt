@@ -123,7 +123,7 @@ object_words o = words_of (object_width o) (object_elements o)
 
 -- ---- objects before the run
 
--- the word of an initialiser, or 0 if there is none (6.7.8)
+-- the word of an initialiser, or 0 if there is no initialiser (6.7.8)
 abbrev pub initial_word : Option ConstantExpr → ℕ
 initial_word None = 0
 initial_word (Some c) = unwrap_or (constant_word c) 0
