@@ -336,7 +336,7 @@ abbrev pub function_named : List Function → List ℕ → Option Function
 function_named [] x = None
 function_named (f ∷ rest) x = if same_name f.name x then Some f else function_named rest x
 
--- the parameters with their words are put before these locals, the last parameter as the newest
+-- the parameters with their words are added before these locals, the last parameter as the newest
 abbrev pub bound : List (List ℕ) → List ℕ → List Local → List Local
 bound (x ∷ xs) (w ∷ ws) ls = bound xs ws (record { name = x; word = w } ∷ ls)
 bound [] ws ls = ls

@@ -61,7 +61,7 @@ module _ (form : FormTree) (cs : List Activation) (total : ℕ) where
 
   -- ---- variables
 
-  -- what the two kinds of instruction store in a variable
+  -- both kinds of instruction store in the variable what the source stores
   pub record Stores (v : Environment) (most : ℕ) (vs : List ℕ) (s : State) (x : List ℕ) : Type 0 where
     pub variables : ℕ → List ℕ
     pub fits : (w : ℕ) → Fits v total most (variables w) (stored x w s)

@@ -220,7 +220,7 @@ module _ (form : FormTree) (layout : Layout) (defined : List (List ℕ)) (fs : L
             (instructed form instruction.Return r.offset r.variables (w ∷ r.operands) (a ∷ cs) t (conf p vs (w ∷ ops) cs (record t { locals = s.locals })) r.here refl);
       }
 
-  -- the move of a call
+  -- the move of `Call` is that of a call of the named function
   call_moves : (x : List ℕ) (e : Entered form layout defined fs x) (v : Environment) (c : Configuration) → v.layout ≡ layout
       → instruction_move form (instruction.Call (names_before v.layout.functions x)) c
       ≡ call_move (Some (record { start = e.start; parameters = e.code.parameters; variables = e.code.variables })) c

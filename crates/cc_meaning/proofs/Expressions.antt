@@ -46,7 +46,7 @@ CallsMeet form layout Takes cs total n call =
     → Meets form (conf p vs (reverse ws ++ ops) cs s) (Value form cs total (conf p vs (reverse ws ++ ops) cs s) v most vs (p + 1) ops) (call f ws s)
 
 module _ (form : FormTree) (cs : List Activation) (total : ℕ) where
-  -- instructions that do what an expression does, at any place in the code
+  -- the instructions do what the expression does, at any place in the code
   abbrev pub Part : Environment → (most : ℕ) (vs : List ℕ) → List Instruction → (State → Run ℕ) → Type 0
   Part v most vs code part =
       (p : ℕ) (ops : List ℕ) (s : State) → Stands form.code p code → Fits v total most vs s
@@ -59,7 +59,7 @@ module _ (form : FormTree) (cs : List Activation) (total : ℕ) where
       meets_after form c d (Value form cs total d v most vs q ops) (Value form cs total c v most vs q' ops) r p
       (λ w t x. record { fits = x.fits; leads = leads_then form c d (conf q' vs (w ∷ ops) cs t) p (subst (λ k. Leads form d (conf k vs (w ∷ ops) cs t)) e x.leads) }) h
 
-  -- an instruction that pushes a word
+  -- an instruction whose move pushes a word leads to a configuration with that word
   pub pushes : (v : Environment) (most : ℕ) (vs before ops : List ℕ) (p q w : ℕ) (s : State) (i : Instruction) → slice_get form.code p ≡ Some i → Fits v total most vs s → q ≡ p + 1
       → instruction_move form i (conf (p + 1) vs before cs s) ≡ Goes (conf (p + 1) vs (w ∷ ops) cs s)
       → Value form cs total (conf p vs before cs s) v most vs q ops w s
@@ -115,7 +115,7 @@ module _ (form : FormTree) (cs : List Activation) (total : ℕ) where
   unary_leads v most vs ops p a unary.Complement s st h = pushes v most vs (a ∷ ops) ops p (p + 1) (unary_word unary.Complement a) s _ st.0 h refl refl
   unary_leads v most vs ops p a unary.Not s st h = pushes v most vs (a ∷ ops) ops p (p + 1) (unary_word unary.Not a) s _ st.0 h refl refl
 
-  -- a plain operator on two words
+  -- the instruction of a plain operator on two words pushes its value, or goes wrong as the source does
   given_by : (v : Environment) (most : ℕ) (vs ops : List ℕ) (p a b : ℕ) (op : BinaryOperator) (t : Scalar) (s : State) (o : Option ℕ) → IsPlain op
       → slice_get form.code p ≡ Some (instruction.Binary (operation op t)) → Fits v total most vs s → binary_word op t a b ≡ o
       → Meets form (conf p vs (b ∷ a ∷ ops) cs s) (Value form cs total (conf p vs (b ∷ a ∷ ops) cs s) v most vs (p + 1) ops) (given op o s)
@@ -127,7 +127,7 @@ module _ (form : FormTree) (cs : List Activation) (total : ℕ) where
       pushes v most vs (b ∷ a ∷ ops) ops p (p + 1) w s (instruction.Binary (operation op t)) e h refl
       (ap (λ (o : Option ℕ). elim o [ None ↦ Stops (outcome.Wrong (cause_of_operation (operation op t))) | Some x ↦ Goes (conf (p + 1) vs (x ∷ ops) cs s) ]) (plain.works t a b ∙ is))
 
-  -- both operands, then the operator
+  -- what an operator does in the source: first the operands that it needs, then the operator
   abbrev pub both_operands : BinaryOperator → Scalar → (State → Run ℕ) → (State → Run ℕ) → State → Run ℕ
   both_operands op t first second s =
       then_do (first s) (λ a u. unless_decided (decided op a) (λ x. then_do (second x) (λ b y. given op (binary_word op t a b) y)) u)

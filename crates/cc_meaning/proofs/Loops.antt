@@ -85,7 +85,7 @@ module _ (form : FormTree) (cs : List Activation) (total n : ℕ) (layout : Layo
       (λ u x. reaches_after form cs total c (conf following_at h.variables [] cs t) v v most most end_at end_at u h.leads refl refl (omega arith) refl x) (λ u x. x) (λ u x. x) (f h.variables t h.fits)
   behind_body_meets c most b k go (Returns w) t f h = h
 
-  -- the body of a turn, with any locals
+  -- the instructions of the body do what the body of a turn does, with any locals
   abbrev pub BodyDoes : Type 0
   BodyDoes = (most : ℕ) (vs : List ℕ) (t : State) → most < n → Fits v total most vs t
       → Meets form (conf body_at vs [] cs t)

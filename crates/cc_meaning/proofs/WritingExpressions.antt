@@ -31,7 +31,7 @@ pub call-code : (v : Environment) (f : Name) (es : Exprs) (e : Expr) (old mid ne
 call-code v f es e old mid new ee em en = behind (arguments_code v es) (call_of v f.text ∷ []) old mid new en em ∙ sym (ap (λ t. expression_code v t ++ old) ee)
 
 module _ (op : BinaryOperation) (left right old second cut first new : List Instruction) (n : ℕ) (en : n ≡ length old) (e2 : second ≡ right ++ Truth ∷ old) (e4 : first ≡ left ++ cut) where
-  -- both operands of an operator that has a short cut
+  -- the instructions of both operands are right for an operator that has a short cut
   with_cut : (jump : ℕ → Instruction) → cut ≡ jump (length second - n) ∷ second → new ≡ first → new ≡ (left ++ jump (length right + 1) ∷ right ++ Truth ∷ []) ++ old
   with_cut jump e3 e5 =
       let long : length second ≡ length right + length (Truth ∷ old) = ap length e2 ∙ length-append right (Truth ∷ old) in
@@ -39,7 +39,7 @@ module _ (op : BinaryOperation) (left right old second cut first new : List Inst
       let mid : cut ≡ (jump (length right + 1) ∷ right) ++ Truth ∷ old = e3 ∙ ap (λ k. jump k ∷ second) distance ∙ ap (λ l. jump (length right + 1) ∷ l) e2 in
       behind (left ++ jump (length right + 1) ∷ right) (Truth ∷ []) old (Truth ∷ old) new (behind left (jump (length right + 1) ∷ right) (Truth ∷ old) cut new (e5 ∙ e4) mid) refl
 
-  -- both operands of an operator without a short cut
+  -- the instructions of both operands are right for an operator without a short cut
   without_cut : cut ≡ second → new ≡ set first (length first - (n + 1)) (Binary op) → new ≡ (left ++ right ++ Binary op ∷ []) ++ old
   without_cut e3 e5 =
       let stands : first ≡ (left ++ right) ++ Truth ∷ old = behind left right (Truth ∷ old) cut first e4 (e3 ∙ e2) in

@@ -18,7 +18,7 @@ use Rattle.cc_meaning.proofs.Emitting.{reverse-prefix}
 
 -- ---- declarations
 
--- the environment after some names in a declaration, the last one first
+-- the environment after some names in a declaration, given the last one first
 abbrev pub with_reversed : Scalar → List Declarator → Environment → Environment
 with_reversed t [] w = w
 with_reversed t (d ∷ before) w = with_local t d.name.bytes.items (with_reversed t before w)
@@ -33,11 +33,11 @@ with_locals-reversed t (d ∷ ds) w =
     with_locals-reversed t ds (with_local t d.name.bytes.items w) ∙ sym (with_reversed-append t (reverse ds) (d ∷ []) w)
     ∙ sym (ap (λ l. with_reversed t l w) (reverse-prefix d ds))
 
--- one name in a declaration, whose local is the newest in an environment after another one
+-- the instructions of one name in a declaration, given the environment `w` before it
 abbrev pub declarator_code : Scalar → Declarator → Environment → List Instruction
 declarator_code t d w = Clear (length w.locals) ∷ initial_code (with_local t d.name.bytes.items w) (length w.locals) (optional_tree d.initial)
 
--- names in a declaration, the last one first, before some instructions
+-- the instructions of names in a declaration (given the last one first), followed by the instructions `c`
 abbrev pub declared_onto : Scalar → List Declarator → Environment → List Instruction → List Instruction
 declared_onto t [] w c = c
 declared_onto t (d ∷ before) w c = declared_onto t before w (declarator_code t d (with_reversed t before w) ++ c)
@@ -79,7 +79,7 @@ Undeclaring-next t w all c0 v c d rest v' c' before en ec =
 
 -- ---- statements
 
--- the environment after some statements, in the order of the text, and the last one first
+-- the environment after some statements, given in the order of the text, or the last one first
 abbrev pub behind_all : List Statement → Environment → Environment
 behind_all [] w = w
 behind_all (s ∷ rest) w = behind_all rest (behind (statement_tree s) w)
@@ -98,7 +98,7 @@ behind_all-reversed (s ∷ ss) w =
     behind_all-reversed ss (behind (statement_tree s) w) ∙ sym (behind_reversed-append (reverse ss) (s ∷ []) w)
     ∙ sym (ap (λ l. behind_reversed l w) (reverse-prefix s ss))
 
--- statements, the last one first, before some instructions
+-- the instructions of statements (given the last one first), followed by the instructions `c`
 abbrev pub written_onto : Exits → List Statement → Environment → List Instruction → List Instruction
 written_onto x [] w c = c
 written_onto x (s ∷ before) w c = written_onto x before w (statement_code (behind_reversed before w) (exits_of (length c) x) (statement_tree s) ++ c)
@@ -157,7 +157,8 @@ Writing-next x w all c0 v c s rest v' c' before en ec =
       longer = omega arith;
     }
 
--- a statement that declares nothing in the scope around it, as the walk meets it
+-- the code of a statement that declares nothing in the scope around it does not depend on which of two equal statements the
+-- walk meets
 pub statement-is : (s met : tree.Stmt) (v w : Environment) (x : code.Exits) (c c' : List Instruction) → s ≡ met → v ≡ behind s w → behind met w ≡ w
     → c' ≡ statement_code v x met ++ c → c' ≡ statement_code w x s ++ c
 statement-is s met v w x c c' is e stays written =

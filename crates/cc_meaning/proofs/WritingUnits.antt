@@ -118,7 +118,7 @@ Resolving-last all v code entries rest last none =
       sym (append-nil entries) ∙ sym (ap (λ es. entries ++ entries_from (length code) (functions_code q (file_of v.visible) es)) none) ∙ last.functions,
     )
 
--- the form of a unit
+-- what has been written is the form of the unit
 pub form-is : (all : List External) (p : Layout) (code : List Instruction) (entries : List Entry) (main : ℕ) (words : List ℕ)
     → code ≡ all_code (unit_functions all) → entries ≡ entries_from 0 (unit_functions all) → p ≡ layout_of all
     → main ≡ names_before p.functions (codes "main") → words ≡ all_words (objects all)

@@ -15,7 +15,7 @@ use Rattle.cc_resolve.specs.internal.Laying.{offset_behind}
 
 -- ---- lists
 
--- a list in two parts, done and left, stays whole if the next member is added to the first part
+-- moving the next member from what is left to what is done does not change the whole list
 pub one-more : {A : Type 0} (done done' : List A) (x : A) (rest whole : List A) → done ++ (x ∷ rest) ≡ whole → done' ≡ done ++ x ∷ [] → done' ++ rest ≡ whole
 one-more done done' x rest whole e is = ap (λ l. l ++ rest) is ∙ append_assoc done (x ∷ []) rest ∙ e
 
@@ -109,7 +109,7 @@ Finding-next all p w at e rest p' w' at' before ep ew ea h =
 
 -- ---- the names of objects
 
--- the state after some names in a declaration of objects
+-- the state of the walk after some names in a declaration of objects
 pub record Naming (t : Scalar) (v0 : Environment) (all : List Object) (v : Environment) (rest : List Object) : Type 0 where
   pub inner : v.visible.inner ≡ []
   pub names : record v { visible = file_level (with_objects t rest (file_of v.visible)).bindings } ≡ record v0 { visible = file_level (with_objects t all (file_of v0.visible)).bindings }
@@ -130,7 +130,7 @@ in-file v e i = record { visible = record { inner = e i; outer = v.visible.outer
 
 -- ---- functions
 
--- the state after some parameters
+-- the state of the walk after some parameters
 pub record Declaring (v0 : Environment) (all : List Parameter) (v : Environment) (rest : List Parameter) : Type 0 where
   pub names : record v { visible = parameters_declared rest v.visible; locals = parameter_names rest v.locals } ≡ record v0 { visible = parameters_declared all v0.visible; locals = parameter_names all v0.locals }
 

@@ -108,7 +108,7 @@ finish_top b h =
 abbrev zero_of : Expr
 zero_of = Number scalar.Int 0
 
--- after a complete statement: by induction on the open statements
+-- a unit can be finished after a complete statement, by induction on the open statements
 finish_settled : (os : List Open) (w : Bool) (b : Inside) (s : Stmt) → Finishes (in_body (settled w b os s))
 finish_settled [] w b s = finish_top (record { externals = b.externals; signature = b.signature; finished = with_last b.finished s; opened = [] }) refl
 finish_settled (InBlock ss ∷ os) w b s =
@@ -161,7 +161,7 @@ finish_stepped b op t p k = by _ (behind b p (Step op t)) (terminator p) (acted-
 
 -- full expressions
 
--- a token that ends the whole full expression, and the state after it
+-- a token that ends the whole full expression, and the state after that token
 record EndsWhole (c : Context) (n : ℕ) (e : Expr) : Type 0 where
   last : TokenKind
   after : State

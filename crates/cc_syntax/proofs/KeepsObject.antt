@@ -22,13 +22,13 @@ externals-last : (es : List External) (e : External) (ts us : List Measured) →
 externals-last [] e ts us h k = (us, [], k, refl, ap (λ (z : List Measured). z ++ us) h ∙ sym (append-nil us))
 externals-last (d ∷ ds) e ts us h k = (h.0, h.1 ++ us, h.2, externals-last ds e h.1 us h.3 k, regrouped ts h.0 h.1 us h.4)
 
--- the last token of an external declaration
+-- the last token of an external declaration extends what the tokens spell
 pub kept-external : (es : List External) (e : External) (before mine ts : List Measured) (x : Lexeme) → SpellsExternals before es → ts ≡ before ++ mine → SpellsExternal (mine ++ outside x ∷ []) e → Kept (Some (AtFile (es ++ e ∷ []) Between)) ts x 0
 kept-external es e before mine ts x h k s =
     let inner = mine ++ outside x ∷ [] in
     (before ++ inner, [], externals-last es e before inner h s, refl, regrouped ts before mine (outside x ∷ []) k ∙ sym (append-nil (before ++ inner)))
 
--- a token after which the external declaration continues
+-- a token after which the external declaration continues extends what the tokens spell
 pub kept-file : (es : List External) (o : Outer) (before mine ts : List Measured) (x : Lexeme) → SpellsExternals before es → ts ≡ before ++ mine → OuterSoFar o (mine ++ outside x ∷ []) → Kept (Some (AtFile es o)) ts x 0
 kept-file es o before mine ts x h k s = (before, mine ++ outside x ∷ [], h, s, regrouped ts before mine (outside x ∷ []) k)
 
@@ -60,7 +60,7 @@ objects-spelled : (t : ObjectKind) (ts : List Measured) (os : List Object) → S
 objects-spelled (Words t) ts os h = inl h
 objects-spelled Bytes ts os h = inr (refl, h)
 
--- the token after a complete object
+-- the token after a complete object extends what the tokens spell
 pub kept-separated : (r : Role) (es : List External) (t : ObjectKind) (os : List Object) (before mine ts : List Measured) (x : Lexeme) → HasRole r x → SpellsExternals before es → ObjectsSoFar t (λ row. SpellsRow (SpellsName t) row os) [] mine → ts ≡ before ++ mine → Kept (separated es t os r) ts x 0
 kept-separated role.Comma es t os before mine ts x h k o e =
     let row = o.1 ++ outside x ∷ [] in
@@ -125,7 +125,7 @@ kept-value role.CloseBrace es n size vs v before mine value ts x h k o s e =
     )
 kept-value _ es n size vs v before mine value ts x h k o s e = tt
 
--- the token after a constant expression
+-- the token after a constant expression extends what the tokens spell
 pub kept-constant : (p : Part) (r : Role) (es : List External) (n : Naming) (ws : List Waiting) (k : ℕ) (q : Phase) (e : Expr) (ts : List Measured) (x : Lexeme) → HasRole r x → (f : FullSoFar (OfObject es n p) ws k q ts) → SpellsExpression 1 f.xs e → Kept (end_in_object es n p e r) ts x 0
 kept-constant (ToSize at) role.CloseBracket es n ws k q e ts x h f s =
     let c = f.context.1 in

@@ -105,7 +105,7 @@ kept-listing role.OpenBrace n size es before mine ts x h k o e =
     kept-file es (Valuing n size []) before mine ts x k e (o.0, o.1, o.2, x, o.3, [], o.4, o.5, o.6, o.7, h, inl (refl, refl), naming)
 kept-listing _ n size es before mine ts x h k o e = tt
 
--- the closing brace of an initialiser list, after a comma
+-- after a comma, the closing brace of an initialiser list extends what the tokens spell
 kept-list-end : (vs : List ConstantExpr) (n : Naming) (size : Option ConstantExpr) (es : List External) (before mine ts : List Measured) (x : Lexeme) → Marks punctuator.CloseBrace x → SpellsExternals before es → OuterSoFar (Valuing n size vs) mine → ts ≡ before ++ mine → Kept (end_list es n size vs) ts x 0
 kept-list-end [] n size es before mine ts x h k o e = tt
 kept-list-end (v ∷ vs) n size es before mine ts x h k o e = elim o.11 [
@@ -246,7 +246,7 @@ kept-headed role.Semicolon f es before mine ts x h k o e = kept-external es (Dec
 kept-headed role.OpenBrace f es before mine ts x h k o e = kept-defines (all_named f.parameters) f es before mine ts x h k o e (λ n. named-parameters f.parameters n)
 kept-headed _ f es before mine ts x h k o e = tt
 
--- a token at file scope, outside full expressions
+-- a token at file scope, outside full expressions, extends what the tokens spell
 pub kept-outer : (o : Outer) (es : List External) (r : Role) (ts : List Measured) (x : Lexeme) → HasRole r x → AtFileSoFar es o ts → Kept (outer_step es o r (name_of x)) ts x (outer_level o r)
 kept-outer Between es r ts x h k = kept-between r es k.0 k.1 ts x h k.2 k.3 k.4
 kept-outer (ResultSign t) es r ts x h k = kept-result-sign r t es k.0 k.1 ts x h k.2 k.3 k.4

@@ -23,11 +23,11 @@ use Rattle.cc_syntax.proofs.ReadsExpression.{Read, read_expression}
 pub read_full : (e : Expr) (xs : List Lexeme) (c : Context) (n : ℕ) → SpellsExpression 1 xs e → Read c n [] 1 xs e
 read_full e xs c n h = read_expression e 1 xs c n [] h tt (omega arith)
 
--- a token that closes a pending part
+-- the token closes a pending part, or ends the expression
 abbrev pub Closes : TokenKind → Type 0
 Closes k = (f : Full) (e : Expr) → operator_step f e (role_of k) ≡ close f (role_of k) (reduced 1 f.waiting e)
 
--- a full expression, and the token after it
+-- the parser reads a full expression and the token after it
 pub read_ended : (c : Context) (n : ℕ) (xs : List Lexeme) (e : Expr) (x : Lexeme) (k : TokenKind) (m : State) (j : ℕ) → SpellsExpression 1 xs e → x.kind ≡ k → Closes k → end_full c (count_after n xs) e (role_of k) ≡ Some m → j ≡ count_of m → Runs (operand c n []) (full_after n xs ++ record { token = x; count = j; level = 0 } ∷ []) m
 read_ended c n xs e x k m j h i closes ends counts =
     let r = read_full e xs c n h in
@@ -143,7 +143,7 @@ enter (x ∷ xs) s b p level k ws last rest m e h g =
     let goes = operand-acts (role_of x.kind) b p (name_of x) h.0 h.1 in
     (h.0, e.first (role_of x.kind) (name_of x) h.0 goes, h.2, e.begun (role_of x.kind) (name_of x) h.0 goes, runs-append h.0 (operator (OfBody b (ToPerform p)) k ws last) m (full_after 1 xs) rest h.4 g)
 
--- `++` or `--` with the target after it, and the token after the target
+-- the parser reads the target after `++` or `--`, and the token after the target
 read_stepped : (t : Target) (op : StepOperator) (xs : List Lexeme) (b : Inside) (p : Spot) (x : Lexeme) → SpellsTarget xs t → x.kind ≡ terminator p → Runs (InBody b (Stepping op p)) (full_after 1 xs ++ outside x ∷ []) (behind b p (Step op t))
 read_stepped (AtVariable v) op xs b p x h i =
     let m = behind b p (Step op (AtVariable v)) in
@@ -172,7 +172,7 @@ step-begins : (op : StepOperator) (b : Inside) (p : Spot) (v : Name) → action_
 step-begins stepping.Increment b p v = refl
 step-begins stepping.Decrement b p v = refl
 
--- an action, and the token after it
+-- the parser reads an action and the token after it
 pub read_action : (a : Action) (xs : List Lexeme) (s : State) (b : Inside) (p : Spot) (level : ℕ) (x : Lexeme) → Enters s b p level → SpellsAction xs a → x.kind ≡ terminator p → Runs s (begins level (full xs ++ outside x ∷ [])) (behind b p a)
 read_action (Evaluate e) xs s b p level x enters h i =
     let c = OfBody b (ToPerform p) in

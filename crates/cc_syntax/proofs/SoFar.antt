@@ -15,14 +15,14 @@ Room l (Casting t ∷ ws) = 12 ≤ l
 Room l (Infix op a ∷ ws) = suc (precedence op) ≤ l
 Room l _ = 1 ≤ l
 
--- arguments, each with its comma
+-- the tokens spell these arguments, each with its comma
 abbrev pub ArgumentsSoFar : List Lexeme → Exprs → Type 0
 ArgumentsSoFar xs none = xs ≡ []
 ArgumentsSoFar xs (more e es) =
     (prefix : List Lexeme) × (comma : Lexeme) × SpellsArguments prefix (more e es) × Marks punctuator.Comma comma
     × (xs ≡ prefix ++ comma ∷ [])
 
--- what the tokens of the pending parts spell
+-- the tokens spell the pending parts
 abbrev pub WaitingSoFar : List Waiting → List Lexeme → Type 0
 WaitingSoFar [] xs = xs ≡ []
 WaitingSoFar (Parenthesis ∷ ws) xs =
@@ -61,7 +61,7 @@ pub record Holds (ws : List Waiting) (e : Expr) (xs : List Lexeme) (low : ℕ) :
   pub tight : low ≤ level
   pub whole : xs ≡ prefix ++ part
 
--- after `signed` or `unsigned` in a cast, or after the cast's type
+-- the tokens spell the pending parts, the parenthesis of a cast, and words after it for which `Word` holds
 pub record Casts (ws : List Waiting) (xs : List Lexeme) (Word : List Lexeme → Type 0) : Type 0 where
   pub prefix : List Lexeme
   pub type : List Lexeme

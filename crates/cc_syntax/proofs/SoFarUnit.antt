@@ -13,13 +13,13 @@ use Rattle.cc_syntax.proofs.SoFarBody.{RowSoFar, BodySoFar, PurposeSoFar, leads,
 use Rattle.cc_syntax.proofs.KeepsPhase.{PhaseSoFar}
 use Rattle.cc_syntax.proofs.KeepsBody.{InBodySoFar}
 
--- a function's result, name, parenthesis and parameters so far, and the tokens after them
+-- `mine` are a function's result, name, parenthesis and parameters so far, and then further tokens
 abbrev pub ParametersSoFar : Signature → (List Measured → Type 0) → List Measured → List Measured → Type 0
 ParametersSoFar f Row behind mine =
     (type : List Lexeme) × (opening : Lexeme) × (row : List Measured) × SpellsResult type f.result × Marks punctuator.OpenParenthesis opening × Row row
     × (mine ≡ map outside type ++ (outside (identifier f.name) ∷ outside opening ∷ row ++ behind))
 
--- the tokens before the names of objects of this kind, and one name
+-- the tokens spell what precedes the names of objects of this kind, or one such name
 abbrev pub SpellsKind : ObjectKind → List Lexeme → Type 0
 SpellsKind (Words t) ts = SpellsType ts t
 SpellsKind Bytes ts = SpellsUnsignedChar ts
@@ -32,7 +32,7 @@ abbrev pub AreWords : ObjectKind → Type 0
 AreWords (Words t) = Unit {0}
 AreWords Bytes = ⊥
 
--- the type in a declaration of objects, the objects so far, and the tokens after them
+-- `mine` are the type in a declaration of objects, the objects so far, and then further tokens
 abbrev pub ObjectsSoFar : ObjectKind → (List Measured → Type 0) → List Measured → List Measured → Type 0
 ObjectsSoFar t Row behind mine =
     (type : List Lexeme) × (row : List Measured) × SpellsKind t type × Row row × (mine ≡ map outside type ++ (row ++ behind))
@@ -40,7 +40,7 @@ ObjectsSoFar t Row behind mine =
 abbrev pub NamingSoFar : Naming → List Measured → List Measured → Type 0
 NamingSoFar n behind mine = ObjectsSoFar n.kind (λ row. RowSoFar (SpellsName n.kind) row n.objects) (outside (identifier n.name) ∷ behind) mine
 
--- an external declaration that has begun
+-- `mine` are the tokens so far of an external declaration that has begun
 abbrev pub OuterSoFar : Outer → List Measured → Type 0
 OuterSoFar Between mine = mine ≡ []
 OuterSoFar (ResultSign t) mine = (word : Lexeme) × IsKeyword (sign_word t) word × (mine ≡ outside word ∷ [])
@@ -69,7 +69,7 @@ OuterSoFar (Valuing n size vs) mine =
     × NamingSoFar n (outside opening ∷ inner ++ (outside closing ∷ outside sign ∷ outside brace ∷ row)) mine
 OuterSoFar (Listed t os) mine = ObjectsSoFar t (λ row. SpellsRow (SpellsName t) row os) [] mine
 
--- an external declaration after those that are complete
+-- the tokens spell the complete external declarations, and then what has been read of the next one
 abbrev pub AtFileSoFar : List External → Outer → List Measured → Type 0
 AtFileSoFar es o ts = (before mine : List Measured) × SpellsExternals before es × OuterSoFar o mine × (ts ≡ before ++ mine)
 

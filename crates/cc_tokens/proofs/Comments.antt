@@ -64,7 +64,7 @@ unclosed_is_found body none =
     let place : offset_within begins_close (length body) body ≡ length body = ap (offset_within begins_close (length body)) (sym (append-nil body)) ∙ place_none_before begins_close body [] none in
     ap (λ n. block_comment n (47 ∷ 42 ∷ body)) place ∙ cond-false _ _ _ (le-ltb (length body) (length body) (omega arith))
 
--- a comment without a line splice, and one with a line splice
+-- the scanner finds a comment without a line splice, and the first line splice in any other comment
 pub plain_is_found : (c after : List ℕ) → Nowhere begins_splice c after → comment_of (length c) (c ++ after) ≡ head.Comment (length c)
 plain_is_found c after none =
     ap (spliced (length c)) (place_none_before begins_splice c after none) ∙ cond-false _ _ _ (le-ltb (length c) (length c) (omega arith))

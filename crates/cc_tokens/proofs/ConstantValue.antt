@@ -10,7 +10,7 @@ use Rattle.cc_tokens.specs.declared.token.TokenKind.{TokenKind}
 use Rattle.cc_tokens.specs.Constant.{is_digit_of, type_of_value}
 use Rattle.cc_tokens.specs.internal.Scan.{typed, constant_kind, constant_spelled, constant_behind, base_of, prefix_of_base, suffix_of, with_suffix}
 
--- one step of the capped sum: times the base, plus a digit
+-- capping the sum before a step (times the base, plus a digit) does not change the capped sum after it
 capped_step : (a base d : ℕ) → 1 ≤ base → min (min a 4294967296 * base + d) 4294967296 ≡ min (a * base + d) 4294967296
 capped_step a base d some = ⊎_elim
     (λ (small : a < 4294967296). let e : min a 4294967296 ≡ a = omega arith in ap (λ v. min (v * base + d) 4294967296) e)

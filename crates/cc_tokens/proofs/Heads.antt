@@ -181,7 +181,8 @@ mark_sound b bs (Some p) no_blank no_comment no_word no_number e =
       },
     )
 
--- a comment at the beginning of the bytes, depending on the line splices in it
+-- if a comment is at the beginning of the bytes, what `comment_of` returns is right, whether there is a line splice in the
+-- comment or not
 splices_sound : (c after bytes : List ℕ) → IsComment c after → 0 < length c → bytes ≡ c ++ after → IsHead bytes (comment_of (length c) bytes)
 splices_sound c after bytes commented some whole =
     let n = length c in

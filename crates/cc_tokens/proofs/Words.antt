@@ -30,7 +30,7 @@ digit_not_blank b digit = grind (arith, nat_tests)
 pub digit_is_no_nondigit : (b : ℕ) → is_ascii_digit b ≡ true → is_nondigit b ≡ false
 digit_is_no_nondigit b digit = grind (arith, nat_tests)
 
--- what a punctuator's first byte cannot be
+-- the byte may begin a punctuator: it is not white space, a letter, `_` or a digit
 pub record IsMark (b : ℕ) : Type 0 where
   pub no_blank : is_blank b ≡ false
   pub no_nondigit : is_nondigit b ≡ false

@@ -133,7 +133,7 @@ fn run_len(run: Run, bytes: &[u8]) -> usize
     n
 }
 
-// The keywords that begin with a byte.
+// The keywords that begin with this byte.
 fn keywords_with(first: u8) -> &'static [Keyword]
     ensures { result.now ≡ keywords_with first }
 {
@@ -184,7 +184,7 @@ fn keyword_named(word: &[u8]) -> Option<Keyword>
     keyword_in(keywords_with(byte_at(word, 0)), word)
 }
 
-// The punctuators that begin with a byte, the longest first.
+// The punctuators that begin with this byte, the longest first.
 fn punctuators_with(first: u8) -> &'static [Punctuator]
     ensures { result.now ≡ punctuators_with first }
 {

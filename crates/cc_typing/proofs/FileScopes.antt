@@ -1,4 +1,4 @@
--- The walk over file scope.
+-- What the walk over file scope finds.
 use Rattle.std.proofs.Common.{◌≡◌, ℕ, Bool, true, false, List, [], ◌∷◌, ◌++◌, length, Option, Some, None, refl, sym, ap, ◌∙◌}
 use Rattle.std.specs.Prelude.{not, is_some}
 use Rattle.cc_ast.specs.scalar.Scalar.{Scalar}
