@@ -1,4 +1,4 @@
--- How it is shown that the interpreter's results are the meaning of C. Writing: every clause says that the definition's code
+-- How it is proved that the interpreter's results are the meaning of C. Writing: every clause says that the definition's code
 -- is written before the instructions that were there already (WritingExpressions to WritingUnits). Running: for each part of
 -- the tree, wherever its code lies in the whole code, a run from the part's beginning reaches the part's end with what the
 -- meaning says, or stops as the meaning does (Moves; Expressions, Actions, Blocks, Loops, Called). So the form of a typed unit

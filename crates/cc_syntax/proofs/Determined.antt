@@ -133,7 +133,7 @@ kinds_one text f g (broken h) (long i k) = let fits = h.fits in absurd (omega ar
 kinds_one text f g (broken h) (erroneous k) = absurd (tokens_have_no_error text h.tokens k.error k.at h.are k.first)
 kinds_one text f g (broken h) (broken k) = broken_one text f g h k
 
--- a text that spells a tree has no refusal
+-- a text that spells a tree is never refused
 not_refused : (text : List ℕ) (tree : List External) (f : SyntaxFault) → IsParseAnswer text (Ok tree) → Kind text f → ⊥
 not_refused text tree f s (long e h) = let fits = s.0 in omega arith
 not_refused text tree f s (erroneous h) = tokens_have_no_error text s.1.tokens h.error h.at s.1.are h.first

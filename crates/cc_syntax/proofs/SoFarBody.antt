@@ -110,7 +110,7 @@ abbrev pub DeclarationSoFar : Position → List Open → List Measured → Type 
 DeclarationSoFar w os mine =
     (inner : List Measured) (t : Scalar) (ds : List Declarator) → SpellsLocal inner t ds → DeclaredSoFar w t ds os (mine ++ begins (position_level w os) inner)
 
--- `mine` are tokens up to the type and some names of a declaration, and then `behind`
+-- `mine` are tokens up to the type and some names of a declaration, and then further tokens
 abbrev pub NamedSoFar : Position → Scalar → List Declarator → List Measured → List Open → List Measured → Type 0
 NamedSoFar w t ds behind os mine =
     (before names : List Measured) × (word : Lexeme) × (others : List Lexeme) × DeclarationSoFar w os before × SpellsType (word ∷ others) t

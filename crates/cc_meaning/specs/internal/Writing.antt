@@ -10,6 +10,6 @@ use Rattle.cc_meaning.specs.declared.writer.statements.Exits.{Exits}
 abbrev pub exits_of : ℕ → Exits → form.Exits
 exits_of n e = record { breaks = n - e.breaks; continues = n - e.continues }
 
--- a condition, and what is done if it holds; otherwise this many more instructions are skipped too
+-- a condition, and the instructions that run if it holds; if not, these and `more` further ones are skipped
 abbrev pub conditional_code : List Instruction → List Instruction → ℕ → List Instruction
 conditional_code test held more = test ++ JumpIfZero (length held + more) ∷ held
