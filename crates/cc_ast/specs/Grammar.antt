@@ -167,8 +167,8 @@ SpellsAction ts (Step op t) =
     × ((ts ≡ sign ∷ target) ⊎ (ts ≡ target ++ sign ∷ []))
 SpellsAction ts (Evaluate e) = SpellsExpression 1 ts e
 
--- a token of a unit, with what the limits count: its number within its full expression, from 1 (0 if it belongs to none), and the
--- level of the statement or declaration that it begins (0 if it begins none)
+-- a token of a unit, with what the limits count: its number within its full expression, counted from 1 (0 if the token is in no
+-- full expression), and the level of the statement or declaration that it begins (0 if it begins none)
 pub record Measured : Type 0 where
   pub token : Lexeme
   pub count : ℕ

@@ -1,6 +1,7 @@
 -- A part of a run with more steps, and with a larger bound on its recursion. Three facts hold for each part: it only adds to the
--- output; an answer takes exactly the steps that it spends, for any bound; and a part that had no step left continues, while one
--- that went wrong goes wrong in the same way. This file shows them for the ways in which parts are combined.
+-- output; an answer needs no more steps than it spends, and stays the same with any number more, for any bound; and a part that
+-- had no step left continues, while one that went wrong goes wrong in the same way. This file shows them for the ways in which
+-- parts are combined.
 use Rattle.std.proofs.Common.{◌≡◌, ℕ, zero, suc, ◌+◌, ◌<◌, ◌≤◌, List, [], ◌++◌, Option, Some, None, refl, sym, ap, ◌∙◌, subst, arith, append_assoc, append-nil}
 use Rattle.cc_c_semantics.specs.Meaning.{Local, State, Run, Gives, Going, Wrong, Flow, Falls, Breaks, Continues, Returns, then_do, choose, spend_of, behind_flow, behind_body, begin_body, turns, unless_decided}
 use Rattle.cc_simulation.specs.Behavior.{IsPrefixOf}
@@ -126,7 +127,7 @@ pub lasts_choose : {A B : Type 0} (W : ℕ → B → Type 0) (k w : ℕ) (holds 
 lasts_choose W k zero holds fails s later other p q = q
 lasts_choose W k (suc w) holds fails s later other p q = p
 
--- the same after spending a step
+-- if a part gives a result within `i` steps, so does the part after spending a step, within one step more
 lasts_step : {A B : Type 0} (V W : ℕ → B → Type 0) (i : ℕ) (s : State) (r : Run A) (later : B → State → Run A) → ((j : ℕ) (b : B) → V (suc j) b → W j b)
     → Lasts W i r (λ b j. later b (at s j)) → Lasts V (suc i) r (λ b j. spend_of j (later b) (at s j))
 lasts_step V W i s (Gives x t) later within h = (

@@ -26,7 +26,7 @@ names_from (Objects t os ∷ rest) f = names_from rest (file_scope_behind (Objec
 pub functions_are_numbered : FunctionsAreNumbered
 functions_are_numbered unit = names_from unit first_file_scope
 
--- there are as many names as functions, and as many numbers of parameters
+-- there are as many names, and as many numbers of parameters, as functions
 pub as_many_names : (unit : List External) → length (layout_of unit).functions ≡ length (functions unit)
 as_many_names unit = sym (ap (λ (xs : List (List ℕ)). length xs) (functions_are_numbered unit)) ∙ length-map (functions unit) (λ (g : Function). g.name)
 

@@ -46,7 +46,7 @@ output_of (Answers a left) = a.shared.output
 output_of (Unfinished output) = output
 output_of (Failed cause output) = output
 
--- the second effect is what the first one becomes with this many more steps
+-- the second effect is what the first effect becomes with `more` more steps
 abbrev pub WithMoreSteps : (more : ℕ) → Effect Answer → Effect Answer → Type 0
 WithMoreSteps more (Answers a left) z = z ≡ Answers a (left + more)
 WithMoreSteps more (Unfinished output) z = IsPrefixOf output (output_of z)

@@ -49,7 +49,7 @@ abbrev pub body_of_function : List External → (n opened f : ℕ) → List ℕ 
 body_of_function unit n opened f ws h =
     effect_of (run_optional (slice_get (functions unit) f) (suc n) (calls (suc n) (functions unit) (opened + 1)) ws (state_within n h))
 
--- if an answer leaves some steps over, it is the same with exactly the steps that it spent, and with any number more
+-- if a call answers, the answer is the same with exactly the steps that the call spent, and with any number more
 abbrev pub SpendsExactly : (ℕ → Effect Answer) → Type 0
 SpendsExactly effect = (n left : ℕ) (a : Answer) → effect n ≡ Answers a left → (left ≤ n) × ((more : ℕ) → effect (n - left + more) ≡ Answers a more)
 

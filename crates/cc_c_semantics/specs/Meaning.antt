@@ -264,7 +264,7 @@ start (Performs a) call v s = perform_optional a (in_scope v) call s
 abbrev pub left_scope : ℕ → State → State
 left_scope before s = record s { locals = drop (length s.locals - before) s.locals }
 
--- a part of a run that has a scope of its own
+-- a part of a run that has its own scope
 abbrev pub in_block : (State → Run Flow) → State → Run Flow
 in_block part s = then_do (part s) (λ flow t. Gives flow (left_scope (length s.locals) t))
 
@@ -342,7 +342,7 @@ bound (x ∷ xs) (w ∷ ws) ls = bound xs ws (record { name = x; word = w } ∷ 
 bound [] ws ls = ls
 bound (x ∷ xs) [] ls = ls
 
--- the value of a function when its body is done: 0 if it falls off its end or returns no value
+-- the value of a function once its body has ended: 0 if the run reaches the body's end, or if no value is returned
 abbrev pub result_of : Flow → ℕ
 result_of (Returns w) = w
 result_of flow = 0

@@ -45,8 +45,7 @@ objects_in unit = map size_of (objects_of (initial_globals unit))
 
 -- ---- calls by number
 
--- the effect of a call that goes wrong; in a mode in which the program then runs for ever, that of a call that never
--- finishes
+-- the effect of a call that goes wrong; if the program then runs for ever in this mode, that of a call that never finishes
 abbrev pub gone_wrong : Mode → Cause → (output : List ℕ) → Effect
 gone_wrong mode cause output = if stays mode cause then Unfinished output else Failed output
 

@@ -13,7 +13,7 @@ use Rattle.cc_c_semantics.proofs.Held.{names_of, words_in, reads_local, no_local
 use Rattle.cc_meaning.proofs.Moves.{conf}
 use Rattle.cc_c_semantics.proofs.Scoped.{Readable}
 
--- the variables are the words of the locals, oldest first, followed by others that no name refers to; the objects are at their
+-- the variables are the words of the locals, oldest first, followed by words that no name refers to; the objects are at their
 -- places; at most this many steps are left
 pub record Fits (v : Environment) (total most : ℕ) (vs : List ℕ) (s : State) : Type 0 where
   pub names : names_of s.locals ≡ v.locals

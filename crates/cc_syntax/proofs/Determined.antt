@@ -201,7 +201,7 @@ module _ (text : List ℕ) (tokens : List Lexeme) (fits : length text ≤ 65536)
   abbrev token_number : ℕ → Lexeme
   token_number k = get_or tokens k no_token
 
-  -- there is an answer at token number k, if there is one in each state after it
+  -- there is an answer at token number k, if there is an answer in each state after that token
   at_token : (k : ℕ) (s : State) → k < length tokens → Reached s (take k tokens) → ((m : State) → Reached m (take (suc k) tokens) → Answers text) → Answers text
   at_token k s inside r on = by (step s (token_number k)) refl
     where

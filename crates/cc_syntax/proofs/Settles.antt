@@ -1,5 +1,5 @@
--- What the parser does with a complete statement: what it does at once, what it does if an `else` may follow, and what it does
--- after one more token.
+-- What the parser does with a complete statement: what it does immediately, what it does if an `else` may follow, and what it
+-- does after one more token.
 use Rattle.std.proofs.Common.{◌≡◌, true, false, List, [], ◌∷◌, ◌++◌, Option, Some, None, refl, sym, ap, ◌∙◌}
 use Rattle.std.specs.Prelude.{Bool}
 use Rattle.cc_syntax.specs.declared.parser.role.Role.{Role}
@@ -66,7 +66,7 @@ no-else b (InFor a e l ∷ os) s x = no-else b os (For a e l s) x
 pub none-some : {A : Type 0} (o : Option A) (m : A) → o ≡ None → o ≡ Some m → ⊥
 none-some o m h k = let e : None ≡ Some m = sym h ∙ k in cc
 
--- a token other than `else` does the same while an `else` may still follow and after that
+-- at a token other than `else`, the parser does the same whether it still waits for `else` or not
 else-goes : (r : Role) (b : Inside) (os : List Open) (e : Expr) (s : Stmt) (x : Name) (m : State) → role_step (in_body (settled false b os (If e s))) r x ≡ Some m → else_step (within b os) e s r x ≡ Some m
 else-goes role.Else b os e s x m h = absurd (none-some _ m (no-else b os (If e s) x) h)
 else-goes r b os e s x m h = ap (λ (z : Inside × Stage). resting_step z r x) (settled-within false b os os (If e s)) ∙ resting-goes b os (If e s) r x ∙ h

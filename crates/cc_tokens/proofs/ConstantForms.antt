@@ -12,7 +12,7 @@ use Rattle.std.proofs.lemmas.List.Sums.{prefix_len-le-length}
 use Rattle.cc_tokens.specs.Constant.{Constant, is_digit_of, IsPrefix, decimal, octal, hexadecimal, IsSuffix, none, unsigned, SpellsConstant}
 use Rattle.cc_tokens.specs.internal.Scan.{constant_spelled, constant_behind, base_of, prefix_of_base, suffix_of, with_suffix}
 
--- two equal present values are the same, and a present value is not an absent one
+-- `Some x` equals `Some y` only if x equals y, and `Some x` is not None
 some_same : {A : Type 0} (x y : A) → Some x ≡ Some y → x ≡ y
 some_same x y e = cc
 

@@ -7,8 +7,7 @@ use Rattle.cc_tokens.specs.declared.lexer.NextToken.TheVariants as next
 use Rattle.cc_tokens.specs.Token.{lexemes}
 use Rattle.cc_tokens.specs.Tokens.{TextPiece, piece_bytes, IsCut, tokens_of, AreInOrder, FirstLexicalError}
 
--- the tokens before the offset are `ts`: the text up to the offset is cut into pieces, and `ts` are the tokens
--- among them
+-- the tokens before the offset are `ts`: the text before it is cut into pieces, and their tokens are `ts`
 pub record FoundBefore (text : List ℕ) (ts : List Token) (at : ℕ) : Type 0 where
   pub within : at ≤ length text
   pub pieces : List TextPiece

@@ -57,8 +57,8 @@ void_errors bs (Call f es) = elim (result_type (found bs f.text)) [ None ↦ bro
 void_errors bs (Parenthesised e) = void_errors bs e
 void_errors bs e = []
 
--- an expression that is evaluated, whether its value is used or not: every part but a pair of parentheses uses the values of its
--- parts (6.5)
+-- an expression that is evaluated, whether its value is used or not: every part except a pair of parentheses uses the values of
+-- its own parts (6.5)
 abbrev mutual
   pub expression_errors : List Binding → Expr → List RuleError
   expression_errors bs (Number t n) = []
@@ -115,7 +115,7 @@ abbrev pub beginning_errors : Beginning → Visible → List RuleError
 beginning_errors (Declares t ds) v = declared_errors t ds v
 beginning_errors (Performs a) v = optional_action_errors (in_scope v) a
 
--- a return statement: with a value in a function of type int or unsigned, without one in a void function (6.8.6.4)
+-- a return statement: with a value in a function of type int or unsigned, without a value in a void function (6.8.6.4)
 abbrev pub return_errors : Option Scalar → List Binding → ℕ → Option Expr → List RuleError
 return_errors None bs at None = []
 return_errors None bs at (Some e) = broken BadReturn at ++ value_errors bs e

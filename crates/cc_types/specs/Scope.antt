@@ -17,7 +17,7 @@ pub record Binding : Type 0 where
   pub name : List ℕ
   pub entity : Entity
 
--- what the newest declaration of a name says it denotes, if there is one
+-- what a name denotes by its newest declaration, if there is one
 abbrev pub found : List Binding → List ℕ → Option Entity
 found [] x = None
 found (b ∷ behind) x = if same_name b.name x then Some b.entity else found behind x
@@ -48,7 +48,7 @@ abbrev pub all_declared : Scalar → List Declarator → Visible → Visible
 all_declared t [] v = v
 all_declared t (d ∷ rest) v = all_declared t rest (declared d.name.text (Variable t) v)
 
--- the scope after a statement: a declaration adds its names, every other statement leaves the scope as it is
+-- the scope after a statement: a declaration adds its names; any other statement leaves the scope as it is
 abbrev pub scope_behind : Stmt → Visible → Visible
 scope_behind (Local t ds) v = all_declared t ds v
 scope_behind s v = v

@@ -26,7 +26,7 @@ NotAfter o p = (o.at < p.at) ⊎ ((o.at ≡ p.at) × (rule_number o.rule ≤ rul
 abbrev pub IsFirst : RuleError → List RuleError → Type 0
 IsFirst o all = Contains all o × AllByRecursion (NotAfter o) all
 
--- the fault is that of the first of some errors, at its token
+-- the fault is the one for the first of these errors, at that error's token
 abbrev pub IsFaultOfFirst : List ℕ → List RuleError → TypeFault → Type 0
 IsFaultOfFirst text all fault = (o : RuleError) × IsFirst o all × (fault ≡ fault_of o.rule (place_of text o.at))
 
@@ -34,8 +34,8 @@ IsFaultOfFirst text all fault = (o : RuleError) × IsFirst o all × (fault ≡ f
 abbrev pub all_errors : List External → List RuleError
 all_errors externals = errors externals ++ excesses externals
 
--- a unit is refused for the first of its errors; if it has none, for a missing main, at the end of the text; and if it has a
--- main, for the first call of a function that is not defined
+-- a unit is refused for the first of its errors; if it has no errors, for a missing main, at the end of the text; and if it has
+-- a main, for the first call of a function that is not defined
 abbrev pub IsTypeRefusal : Source → TypeFault → Type 0
 IsTypeRefusal s fault =
     IsFaultOfFirst s.text (all_errors s.externals) fault

@@ -90,13 +90,12 @@ constant_value (Conditional c a b) = with_word (constant_value c) (λ w. if is_t
 abbrev pub constant_word : ConstantExpr → Option ℕ
 constant_word c = if is_constant c.expr then constant_value c.expr else None
 
--- how many elements a length gives: a length of type int that is below 0 gives none (6.7.5.2)
+-- how many elements a length means: 0 if the length is of type int and below 0 (6.7.5.2)
 abbrev pub elements_of_word : Scalar → ℕ → ℕ
 elements_of_word Int w = if is_true (lt_s w 0) then 0 else w
 elements_of_word Unsigned w = w
 
--- how many elements an array has, if the number is known: as many as its length says, or, if it has no length, as many as its
--- list has
+-- how many elements an array has, if known: as many as its length says, or, if it has no length, as many as its list has
 abbrev pub array_length : Option ConstantExpr → List ConstantExpr → Option ℕ
 array_length None values = Some (length values)
 array_length (Some c) values = option_map (elements_of_word (value_type [] c.expr)) (constant_word c)

@@ -30,7 +30,8 @@ pub enum TypeFault {
     /// 15: the value of a `void` call is used (C99 6.3.2.2), at the function's name.
     #[error("VoidValue")]
     VoidValue(Place),
-    /// 16: a `return` with a value in a `void` function, or without one in any other (C99 6.8.6.4), at the keyword `return`.
+    /// 16: a `return` with a value in a `void` function, or without a value in any other function (C99 6.8.6.4), at the keyword
+    /// `return`.
     #[error("BadReturn")]
     BadReturn(Place),
     /// 17: an array without an index, or a function, as the target of an assignment (C99 6.5.16), at the name.

@@ -5,8 +5,7 @@ use Rattle.cc_meaning.specs.declared.form.Instruction.{Instruction}
 use Rattle.cc_meaning.specs.declared.form.Instruction.TheVariants.{JumpIfZero}
 use Rattle.cc_meaning.specs.declared.writer.statements.Exits.{Exits}
 
--- the targets of a break and a continue; the code stores each as the number of the n written instructions that
--- follow it
+-- the targets of a break and a continue; the code stores how many of the n written instructions follow each
 abbrev pub exits_of : ℕ → Exits → form.Exits
 exits_of n e = record { breaks = n - e.breaks; continues = n - e.continues }
 

@@ -70,7 +70,7 @@ fn statement<'a>(
     }
 }
 
-// Writes a statement that is a scope of its own.
+// Writes a statement that has its own scope.
 #[cycle(resolved_statements)]
 fn inner_statement<'a>(
     names: &mut Environment<'a>,
@@ -114,8 +114,8 @@ fn conditional<'a>(
     Ok(())
 }
 
-// Writes the turns of a loop. What follows its body, its condition, and the backward jump without its distance are already
-// written.
+// Writes the turns of a loop. The part after the body, the condition, and the backward jump (still without its distance)
+// are already written.
 #[cycle(resolved_statements)]
 fn turns<'a>(
     names: &mut Environment<'a>,

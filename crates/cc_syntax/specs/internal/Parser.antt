@@ -1,6 +1,5 @@
--- What the parser's private functions compute, token by token. No public contract cites this file: the contract of `parse` uses
--- Grammar and Limits, and proofs/ shows that this file agrees with them. A gloss that names a token describes the step that
--- reads it.
+-- What the parser's private functions compute, token by token. No public contract cites this file; proofs/ shows that it agrees
+-- with Grammar and Limits, which the contract of `parse` uses. A gloss that names a token is about the step at that token.
 use Rattle.std.specs.Prelude.{ℕ, suc, Bool, true, false, ◌&&◌, List, [], ◌∷◌, ◌++◌, length, Option, Some, None, is_some, nat_le, if◌then◌else◌}
 use Rattle.cc_tokens.specs.declared.scalar.Scalar.{Scalar}
 use Rattle.cc_tokens.specs.declared.scalar.Scalar.TheVariants as scalar

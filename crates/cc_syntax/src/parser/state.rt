@@ -273,7 +273,7 @@ pub fn put<T: Drop>(place: &mut T, value: T)
     *place = value;
 }
 
-/// An identifier without bytes, to replace one that was taken.
+/// An identifier without bytes, to replace one that was moved out.
 pub fn no_name(alloc: Global) -> Identifier {
     Identifier {
         bytes: Vec::new(alloc),
@@ -281,7 +281,7 @@ pub fn no_name(alloc: Global) -> Identifier {
     }
 }
 
-/// An empty head of a function, to replace one that was taken.
+/// An empty head of a function, to replace one that was moved out.
 pub fn no_signature(alloc: Global) -> Signature {
     Signature {
         result: None,

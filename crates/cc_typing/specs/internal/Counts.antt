@@ -31,8 +31,7 @@ abbrev pub words_after : WordCount → List Object → WordCount
 words_after w [] = w
 words_after w (o ∷ rest) = words_after (with_words w o) rest
 
--- the functions that these external declarations define, the last one first, and then the functions `d`, which were defined
--- before
+-- the functions that these external declarations define, the last one first, and then the earlier functions `d`
 abbrev pub all_defined : List External → List (List ℕ) → List (List ℕ)
 all_defined [] d = d
 all_defined (e ∷ rest) d = all_defined rest (defined_in e ++ d)
