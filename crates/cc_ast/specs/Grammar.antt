@@ -384,7 +384,7 @@ SpellsSignature ts f =
     × Marks punctuator.OpenParenthesis opening × Marks punctuator.CloseParenthesis closing × SpellsParameters parameters f.parameters
     × (ts ≡ map outside type ++ (outside (identifier f.name) ∷ outside opening ∷ parameters ++ outside closing ∷ []))
 
--- each parameter has its name
+-- each parameter has a name
 abbrev pub AreNamed : List Parameter → Type 0
 AreNamed [] = Unit {0}
 AreNamed (p ∷ ps) = ((n : Name) × (p.name ≡ Some n)) × AreNamed ps

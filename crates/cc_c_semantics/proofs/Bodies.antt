@@ -184,7 +184,7 @@ no_variables y u e = none (same_name (codes "write_word") y) (same_name (codes "
     none false true e = let z : Some (scope.Function (Some Int) []) ≡ Some (scope.Variable u) = e in cc
     none false false e = let z : None ≡ Some (scope.Variable u) = e in cc
 
--- no array is declared before the unit either
+-- no array is declared before the unit
 no_arrays : (y : List ℕ) (u : Scalar) → found first_file_scope.bindings y ≡ Some (scope.Elements u) → ⊥
 no_arrays y u e = none (same_name (codes "write_word") y) (same_name (codes "read_word") y) e
   where

@@ -65,7 +65,7 @@ pub record HasMeaning (unit : List External) : Type 0 where
   pub spends : (n opened f : ℕ) (ws : List ℕ) (h : Shared) → f < length (functions unit) → opened < most_open →
       call_function unit (suc n) opened f ws h ≡ body_of_function unit n opened f ws h
 
--- each function of a typed unit has its meaning
+-- each function of a typed unit has a meaning
 abbrev pub TypedUnitsHaveMeaning : Type 0
 TypedUnitsHaveMeaning = (unit : List External) → IsTyped unit → HasMeaning unit
 

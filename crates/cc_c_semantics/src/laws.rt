@@ -6,8 +6,8 @@ ghost use Rattle.cc_c_semantics.specs.Function.{TypedUnitsHaveMeaning, RunsGoOn}
 ghost use Rattle.cc_c_semantics.specs.Numbered.{CallsAreNumbered, CheckedFollows, ProgramsAreNumbered, TypedUnitsHaveMeanings};
 ghost use Rattle.cc_c_semantics.specs.Resolved.{FunctionsAreResolved};
 
-/// Shows that each function of a typed unit has its meaning. A call with no step left is unfinished. A call made while 1,024
-/// calls are open spends a step and goes wrong. Any other call does what the function's body does with one step less.
+/// Shows that each function of a typed unit has a meaning. A call with no step left is unfinished. A call made while 1,024 calls
+/// are open spends a step and goes wrong. Any other call does what the function's body does with one step less.
 pub fn functions_have_meaning()
     ensures { TypedUnitsHaveMeaning }
 {}

@@ -57,7 +57,7 @@ declared-is t (d ∷ ds) w c =
     ∙ ap (λ l. declarator_code t d w ++ l) (declared-is t ds there c)
     ∙ sym (append_assoc (declarator_code t d w) (declared_code there t (declarator_trees ds)) c)
 
--- while the names of a declaration are removed: the code so far, with the names that are left, makes up the whole
+-- while the names of a declaration are removed, the code so far and the names that are left together make up the whole
 pub record Undeclaring (t : Scalar) (w : Environment) (all : List Declarator) (c0 : List Instruction) (v : Environment) (c : List Instruction) (rest : List Declarator) : Type 0 where
   pub names : v ≡ with_reversed t rest w
   pub code : declared_onto t rest w c ≡ declared_onto t all w c0
@@ -133,7 +133,7 @@ written-is x (s ∷ ss) w c hb hc =
     ∙ ap (λ e. statement_code w e (statement_tree s) ++ (others ++ c)) (further-exits x c others hb hc)
     ∙ sym (append_assoc (statement_code w (further (length others) (exits_of (length c) x)) (statement_tree s)) others c)
 
--- while the statements of a list are written: the code so far, with the statements that are left, makes up the whole
+-- while the statements of a list are written, the code so far and the statements that are left together make up the whole
 pub record Writing (x : Exits) (w : Environment) (all : List Statement) (c0 : List Instruction) (v : Environment) (c : List Instruction) (rest : List Statement) : Type 0 where
   pub names : v ≡ behind_reversed rest w
   pub code : written_onto x rest w c ≡ written_onto x all w c0

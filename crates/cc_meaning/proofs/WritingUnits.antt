@@ -1,4 +1,4 @@
--- Functions and external declarations, one after another: what is written, together with what is left, makes up the whole.
+-- Functions and external declarations, one after another: what is written and what is left together make up the whole.
 use Rattle.std.proofs.Common.{◌≡◌, ℕ, ◌+◌, List, [], ◌∷◌, ◌++◌, length, length-append, append_assoc, refl, sym, ap, ◌∙◌, arith}
 use Rattle.std.proofs.lemmas.List.{append-nil}
 use Rattle.std.specs.Prelude.{codes}

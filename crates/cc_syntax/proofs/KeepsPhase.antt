@@ -119,7 +119,7 @@ has_role (kind.Number t w) x h = h
 has_role (kind.Keyword k) x h = keyword_has k x h
 has_role (kind.Punctuator p) x h = punctuator_has p x h
 
--- what the tokens of a full expression spell, depending on what comes next
+-- the tokens of a full expression spell what has been read, depending on what comes next
 abbrev pub PhaseSoFar : Phase → List Waiting → List Lexeme → Type 0
 PhaseSoFar Operand ws xs = WaitingSoFar ws xs
 PhaseSoFar (Operator e) ws xs = Holds ws e xs 12

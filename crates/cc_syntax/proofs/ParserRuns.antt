@@ -1,5 +1,5 @@
--- Runs of the parser over tokens, with what the limits count at each token. A run can be cut and joined, and the tokens alone
--- determine it.
+-- Runs of the parser over tokens, with what the limits count at each token. A run can be split and runs can be joined, and
+-- the tokens alone determine a run.
 use Rattle.std.proofs.Common.{◌≡◌, ℕ, List, [], ◌∷◌, ◌++◌, Option, Some, refl, sym, ap, subst, ◌∙◌}
 use Rattle.cc_tokens.specs.declared.token.TokenKind.{TokenKind}
 use Rattle.cc_tokens.specs.Token.{Lexeme}

@@ -157,7 +157,7 @@ missing_fails {X} test (y ∷ xs) e =
     let ih = missing_fails test xs in
     cond_both (test y) (Some y) (find test xs) (λ o. o ≡ None → AllByRecursion (λ x. test x ≡ false) (y ∷ xs)) (λ here e'. absurd (let h : ⊥ = cc in h)) (λ not_here e'. (not_here, ih e')) e
 
--- a word that is found among the keywords spells the one found; a word that is not found spells no keyword
+-- a word that is found in the table spells that keyword; a word that is not found spells no keyword
 word_spells_by : (text : List ℕ) (o : Option Keyword) → keyword_named text ≡ o → IsIdentifierText text → SpellsToken (word_kind o) text
 unfolding keyword_named
 word_spells_by text None e w = (w, λ k is. let h : None ≡ Some k = sym e ∙ ap keyword_named is ∙ keyword_named-bytes k in absurd (let g : ⊥ = cc in g))

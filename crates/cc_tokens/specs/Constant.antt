@@ -1,4 +1,4 @@
--- Integer constants (C99 6.4.4.1, as far as the profile has them).
+-- Integer constants (C99 6.4.4.1, as far as the profile includes them).
 use Rattle.std.specs.Prelude.{◌≡◌, ◌≢◌, ℕ, ◌+◌, ◌*◌, ◌⊎◌, Bool, true, false, not, ◌&&◌, ◌||◌, ◌==◌, nat_le, nat_lt, if◌then◌else◌, List, [], ◌∷◌, ◌++◌, Option, Some, None, IsTrue}
 use Rattle.std.specs.List.{fold, AllByRecursion}
 use Rattle.std.specs.Char.{digit_value}

@@ -1,4 +1,4 @@
-//! From C text to its tokens (C99 6.4, as far as the profile has them), and why a text is refused.
+//! From C text to its tokens (C99 6.4, as far as the profile includes them), and why a text is refused.
 //!
 //! - `token`: the types of tokens.
 //! - `scalar`: the types of numbers.

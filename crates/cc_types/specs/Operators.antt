@@ -85,7 +85,7 @@ binary_word Or t a b = Some (or a b)
 binary_word LogicalAnd t a b = Some (truth_value (is_true a && is_true b))
 binary_word LogicalOr t a b = Some (truth_value (is_true a || is_true b))
 
--- the value if the left operand decides it by itself: then the right one is not evaluated (6.5.13, 6.5.14)
+-- the value, if the left operand alone decides it; then the right operand is not evaluated (6.5.13, 6.5.14)
 abbrev pub decided : BinaryOperator → ℕ → Option ℕ
 decided LogicalAnd a = if is_true a then None else Some 0
 decided LogicalOr a = if is_true a then Some 1 else None

@@ -1,4 +1,4 @@
--- What is found in one part, and then in the next, is what is found in both together.
+-- What is found in one part and then in the next is what is found in both together.
 use Rattle.std.proofs.Common.{◌≡◌, ℕ, true, false, List, [], ◌∷◌, ◌++◌, Option, Some, refl, sym, ap, ◌∙◌, append_assoc}
 use Rattle.cc_ast.specs.Tree.{Name}
 use Rattle.cc_types.specs.Rules.{undefined_among, broken_if}

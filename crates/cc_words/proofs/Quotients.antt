@@ -17,7 +17,7 @@ mag_of-neg : (n m : ℕ) → n ≤ suc m → mag (neg_ℤ (pos n)) ≤ m
 mag_of-neg zero m h = omega arith
 mag_of-neg (suc n) m h = omega arith
 
--- a quotient by -2 or less is at most half the dividend
+-- a quotient by 2 or more is at most half the dividend
 half_quotient : (a b : ℕ) → suc a / suc (suc b) * 2 ≤ suc a
 half_quotient a b =
     let n = suc a / suc (suc b) in
@@ -41,7 +41,7 @@ quotient_fits (negsuc a) (negsuc (suc b)) h _ _ = record { sfits = omega (arith,
 remainder_fits : (x y : ℤ) → FitsSigned w32 x → FitsSigned w32 (int_rem x y)
 remainder_fits x y h = record { sfits = lt_of_le_of_lt (mag_rem x y) h.sfits }
 
--- if a signed division has a value, the divisor is not 0, and the division is not that of -2147483648 by -1
+-- if a signed division has a value, the divisor is not 0, and the operation is not -2147483648 divided by -1
 has_quotient : (a b : ℕ) → IsWord a → IsWord b → lacks_quotient a b ≡ false
     → (signed_value b ≢ pos 0) × (signed_value a ≡ negsuc 2147483647 → signed_value b ≢ negsuc 0)
 has_quotient a b p q has = (

@@ -46,7 +46,7 @@ unfoldable pub run_length : (ℕ → ℕ → Bool) → ℕ → List ℕ → ℕ
 run_length may before [] = 0
 run_length may before (b ∷ bs) = if may before b then suc (run_length may b bs) else 0
 
--- the keywords that begin with a byte
+-- the keywords that begin with this byte
 -- ORDER Keyword
 abbrev pub keywords_with : ℕ → List Keyword
 keywords_with b =
@@ -68,7 +68,7 @@ keywords_with b =
     else (if b == 119 then keyword.While ∷ []
     else [])))))))))))))))
 
--- the punctuators that begin with a byte, the longest first
+-- the punctuators that begin with this byte, the longest first
 -- ORDER Punctuator
 abbrev pub punctuators_with : ℕ → List Punctuator
 punctuators_with b =
