@@ -1,4 +1,5 @@
--- Definitions that only private contracts and proofs use. the role of a token in the grammar
+-- Definitions that only private contracts and proofs use.
+-- the role of a token in the grammar
 pub mod Roles
 -- what the parser's functions compute, token by token
 pub mod Parser

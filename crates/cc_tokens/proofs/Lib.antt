@@ -1,7 +1,8 @@
--- How it is proved that a text has at most one list of tokens. The scanner's functions equal functions on lists. The bytes
--- begin with whatever these functions return (Heads), and the functions return whatever the bytes begin with (Complete), so no
--- two tokens are possible. The laws of cuts join the pieces into the tokens of a whole text (Cuts), and each text has tokens
--- or a first error (Total). the steps of the scanner's loops
+-- How it is proved that a text has at most one list of tokens. The scanner's functions equal functions on lists. The bytes begin
+-- with whatever these functions return (Heads), and the functions return whatever the bytes begin with (Complete), so no two
+-- tokens are possible. The laws of cuts join the pieces into the tokens of a whole text (Cuts), and each text has tokens or a
+-- first error (Total).
+-- the steps of the scanner's loops
 pub mod Loops
 -- the value of a constant, and that capping it is harmless
 pub mod ConstantValue

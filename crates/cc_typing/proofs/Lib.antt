@@ -1,7 +1,8 @@
 -- How it is proved that the check finds the first error. For each function there is one equation: what has been found after the
--- function is what was found before it, with the rules that its part of the tree breaks. The first error, by place and number, is
--- kept (Parts, Walks, First). The functions that a unit defines are collected before the walk, so that each call can be judged
--- when it is met. the table of functions after a change
+-- function is what was found before it, with the rules that its part of the tree breaks. The first error, by place and number,
+-- is kept (Parts, Walks, First). The functions that a unit defines are collected before the walk, so that each call can be
+-- judged when it is met.
+-- the table of functions after a change
 pub mod States
 -- what is found in one part and then in the next
 pub mod Parts

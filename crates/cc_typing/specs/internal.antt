@@ -1,4 +1,5 @@
--- Definitions that only private contracts and proofs use. how the code stores which functions are defined
+-- Definitions that only private contracts and proofs use.
+-- how the code stores which functions are defined
 pub mod Functions
 -- what the code has found so far
 pub mod Findings
