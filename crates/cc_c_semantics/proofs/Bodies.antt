@@ -1,4 +1,5 @@
--- The functions of a typed unit: how many words each name takes, `main` among them, and the scope in which each body begins.
+-- The functions of a typed unit: how many words a call of each name takes, also of `main`, and the scope in which each body
+-- begins.
 use Rattle.std.proofs.Common.{◌≡◌, ℕ, Bool, true, false, true≢false, ◌||◌, ◌&&◌, ◌==◌, if◌then◌else◌, List, [], ◌∷◌, ◌++◌, length, map, inr, Option, Some, None, codes, refl, sym, ap, ◌∙◌, subst}
 use Rattle.std.proofs.lemmas.List.{length-map}
 use Rattle.std.proofs.lemmas.Bool.{eqb-true}
@@ -44,7 +45,7 @@ or_none : (a : Bool) → a ≡ true → (a || false) ≡ true
 or_none true e = refl
 or_none false e = e
 
--- a defined name is that of a function of the unit, or was defined before
+-- a defined name is the name of a function of the unit, or was defined before the unit
 defined_names : (ds : List External) (f : FileScope) (x : List ℕ) → has_name (file_scope_behind_all ds f).defined x ≡ true → (has_name f.defined x || has_name (names_in ds) x) ≡ true
 defined_names [] f x e = or_none (has_name f.defined x) e
 defined_names (Declaration s ∷ rest) f x e = defined_names rest (file_scope_behind (Declaration s) f) x e
@@ -183,7 +184,7 @@ no_variables y u e = none (same_name (codes "write_word") y) (same_name (codes "
     none false true e = let z : Some (scope.Function (Some Int) []) ≡ Some (scope.Variable u) = e in cc
     none false false e = let z : None ≡ Some (scope.Variable u) = e in cc
 
--- no array is declared before the unit either
+-- no array is declared before the unit
 no_arrays : (y : List ℕ) (u : Scalar) → found first_file_scope.bindings y ≡ Some (scope.Elements u) → ⊥
 no_arrays y u e = none (same_name (codes "write_word") y) (same_name (codes "read_word") y) e
   where

@@ -1,6 +1,7 @@
 -- A part of a run with more steps, and with a larger bound on its recursion. Three facts hold for each part: it only adds to the
--- output; an answer takes exactly the steps that it spends, for any bound; and a part that had no step left continues, while one
--- that went wrong goes wrong in the same way. This file shows them for the ways in which parts are combined.
+-- output; an answer needs no more steps than it spends, and stays the same with any number more, for any bound; and a part that
+-- had no step left continues, while one that went wrong goes wrong in the same way. This file shows them for the ways in which
+-- parts are combined.
 use Rattle.std.proofs.Common.{◌≡◌, ℕ, zero, suc, ◌+◌, ◌<◌, ◌≤◌, List, [], ◌++◌, Option, Some, None, refl, sym, ap, ◌∙◌, subst, arith, append_assoc, append-nil}
 use Rattle.cc_c_semantics.specs.Meaning.{Local, State, Run, Gives, Going, Wrong, Flow, Falls, Breaks, Continues, Returns, then_do, choose, spend_of, behind_flow, behind_body, begin_body, turns, unless_decided}
 use Rattle.cc_simulation.specs.Behavior.{IsPrefixOf}
@@ -69,7 +70,7 @@ Lasts {A} {B} Within k (Gives x t) go =
 Lasts {A} {B} Within k (Going output) go = (j : ℕ) (b : B) → Within (k + j) b → IsPrefixOf output (written (go b (k + j)))
 Lasts {A} {B} Within k (Wrong cause output) go = (j : ℕ) (b : B) → Within (k + j) b → go b (k + j) ≡ Wrong cause output
 
--- a bound that is large enough for some steps is large enough for fewer
+-- a bound that is large enough for some number of steps is large enough for any smaller number
 pub record Lowers {B : Type 0} (Within : ℕ → B → Type 0) : Type 0 where
   pub lower : (j k : ℕ) (b : B) → j ≤ k → Within k b → Within j b
 
@@ -109,7 +110,7 @@ lasts_behind W low k spent x t first later (Wrong cause output) e go h = λ j b 
     ∙ ap (λ r. then_do r (λ z v. later z b v)) (go (t.steps + j) b (low.lower _ _ b (omega arith) w))
     ∙ h j b (low.lower _ _ b (omega arith) w)
 
--- one part, followed by another
+-- if two parts each give a result within some steps, so does the first followed by the second
 pub lasts_then : {A C B : Type 0} (W : ℕ → B → Type 0) → Lowers W → (k : ℕ) (r : Run A) (first : B → ℕ → Run A) (rest : A → State → Run C) (later : A → B → State → Run C)
     → Lasts W k r first → ((x : A) (t : State) → t.steps ≤ k → Lasts W t.steps (rest x t) (λ b j. later x b (at t j)))
     → ((x : A) (b : B) (t : State) → IsPrefixOf t.output (written (later x b t)))
@@ -126,7 +127,7 @@ pub lasts_choose : {A B : Type 0} (W : ℕ → B → Type 0) (k w : ℕ) (holds 
 lasts_choose W k zero holds fails s later other p q = q
 lasts_choose W k (suc w) holds fails s later other p q = p
 
--- a step is spent first
+-- if a part gives a result within `i` steps, so does the part after spending a step, within one step more
 lasts_step : {A B : Type 0} (V W : ℕ → B → Type 0) (i : ℕ) (s : State) (r : Run A) (later : B → State → Run A) → ((j : ℕ) (b : B) → V (suc j) b → W j b)
     → Lasts W i r (λ b j. later b (at s j)) → Lasts V (suc i) r (λ b j. spend_of j (later b) (at s j))
 lasts_step V W i s (Gives x t) later within h = (
@@ -177,7 +178,7 @@ lasts_begin V W low s body go bodies later within f g grows grows' =
     (λ flow u le. lasts_body W flow go u later (g u (omega arith))) (λ flow b u. begins_body flow (later b) u (grows' b u)))
     (λ b u. begins_then u.output (bodies b u) (λ flow v. behind_body flow (later b) v) (grows b u) (λ flow v. begins_body flow (later b) v (grows' b v)))
 
--- ---- parts for which this holds from every state
+-- ---- parts for which the facts hold in every state
 
 pub record Steady {A B : Type 0} (W : ℕ → B → Type 0) (part : B → State → Run A) : Type 0 where
   pub grows : (b : B) (s : State) → IsPrefixOf s.output (written (part b s))

@@ -1,5 +1,5 @@
--- In a typed unit the functions have different names, and none has a builtin's name. So a call by a function's name is a call of
--- that function, and each function has its meaning.
+-- In a typed unit the functions have different names, and no function has a builtin's name. So a call by a function's name is a
+-- call of that function, and each function has a meaning.
 use Rattle.std.proofs.Common.{◌≡◌, ℕ, zero, suc, ◌+◌, ◌<◌, true, false, ◌||◌, if◌then◌else◌, List, [], ◌∷◌, ◌++◌, length, nat_lt, Option, Some, None, slice_get, unwrap_or, option_map, codes, refl, sym, ap, ◌∙◌, subst, arith}
 use Rattle.std.proofs.lemmas.Bool.{lt-ltb}
 use Rattle.std.proofs.lemmas.Option.{slice_get-map}

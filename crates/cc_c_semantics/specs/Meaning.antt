@@ -156,7 +156,7 @@ abbrev mutual
   evaluate_all (more e rest) bs call s =
       then_do (evaluate e bs call s) (λ w t. then_do (evaluate_all rest bs call t) (λ ws u. Gives (w ∷ ws) u))
 
--- the value of an expression that may be absent; if it is, this word
+-- the value of an expression, or the word `w` if it is absent
 abbrev pub evaluate_or : ℕ → Option Expr → List Binding → Calls → State → Run ℕ
 evaluate_or w None bs call s = Gives w s
 evaluate_or w (Some e) bs call s = evaluate e bs call s
@@ -168,7 +168,7 @@ pub data Destination : Type 0 where
   ToVariable : List ℕ → Destination
   ToElement : List ℕ → ℕ → Destination
 
--- finds the destination: the index is evaluated, and not checked yet
+-- finds the destination: the index is evaluated, but not checked yet
 abbrev pub destination : Target → List Binding → Calls → State → Run Destination
 destination (AtVariable x) bs call s = Gives (ToVariable x.text) s
 destination (AtElement x e) bs call s = then_do (evaluate e bs call s) (λ i t. Gives (ToElement x.text i) t)
@@ -210,7 +210,7 @@ abbrev pub spend_of : {A : Type 0} → ℕ → (State → Run A) → State → R
 spend_of zero go s = Going s.output
 spend_of (suc left) go s = go (record s { steps = left })
 
--- spends a step and continues; without a step left the run stops unfinished
+-- spends a step and continues; if no step is left, the run stops unfinished
 abbrev pub spend : {A : Type 0} → (State → Run A) → State → Run A
 spend go s = spend_of s.steps go s
 
@@ -258,7 +258,7 @@ start (Performs a) call v s = perform_optional a (in_scope v) call s
 abbrev pub left_scope : ℕ → State → State
 left_scope before s = record s { locals = drop (length s.locals - before) s.locals }
 
--- a part of a run that has a scope of its own
+-- a part of a run that has its own scope
 abbrev pub in_block : (State → Run Flow) → State → Run Flow
 in_block part s = then_do (part s) (λ flow t. Gives flow (left_scope (length s.locals) t))
 
@@ -329,19 +329,19 @@ abbrev pub function_named : List Function → List ℕ → Option Function
 function_named [] x = None
 function_named (f ∷ rest) x = if same_name f.name x then Some f else function_named rest x
 
--- the parameters with their words are put before these locals, the last parameter as the newest
+-- the parameters with their words are added before these locals, the last parameter as the newest
 abbrev pub bound : List (List ℕ) → List ℕ → List Local → List Local
 bound (x ∷ xs) (w ∷ ws) ls = bound xs ws (record { name = x; word = w } ∷ ls)
 bound [] ws ls = ls
 bound (x ∷ xs) [] ls = ls
 
--- the value of a function when its body is done: 0 if it falls off its end or returns no value
+-- the value of a function once its body has ended: 0 if the run reaches the body's end, or if no value is returned
 abbrev pub result_of : Flow → ℕ
 result_of (Returns w) = w
 result_of flow = 0
 
--- the body of a function on the words of its arguments: its parameters are its only locals at its start, and after it the
--- caller's locals are there again
+-- the body of a function on the words of its arguments: at its start, its parameters are its only locals; at its end, the
+-- caller's locals are restored
 abbrev pub run_body : Function → ℕ → Calls → List ℕ → State → Run ℕ
 run_body f n call ws s =
     then_do (execute_all f.body n call f.visible (record s { locals = bound f.parameters ws [] }))

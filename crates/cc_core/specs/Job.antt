@@ -112,8 +112,7 @@ module _ {P : Type 0} where
   made_pieces (Made piece ∷ rest) = piece ∷ made_pieces rest
   made_pieces (Refused number ∷ rest) = made_pieces rest
 
-  -- the unit built from a job's source, or the number that refuses it: the source's number, else that of the first refused
-  -- piece, else the build's number for the pieces
+  -- the unit of a job's source, or what refuses it: the source's number, else the first refused piece's, else the build's for the pieces
   abbrev pub built : Rules P → Job P → List ℕ → Result StoredUnit ℕ
   built rules job source = unless job.refusal (unless (first_refused job.pieces) (rules.unit source (made_pieces job.pieces)))
 

@@ -47,8 +47,7 @@ AreRising numbered = (i j : ℕ) (a b : Numbered) → i < j → slice_get number
 abbrev pub but_last : List Numbered → List Numbered
 but_last order = take (length order - 1) order
 
--- the library that clients see: that of the order, without the order's last command if this is in commit or has failed; empty from a
--- crash until the recovery
+-- the library that clients see: that of the order, without a last command that is in commit or has failed; empty from a crash to recovery
 abbrev pub live : Phase → List Numbered → Units
 live Idle order = library_of (commands order)
 live (Committing client last due) order = library_of (commands (but_last order))
@@ -74,8 +73,7 @@ pub record Survives (image : List ℕ) (order acknowledged : List Numbered) : Ty
 abbrev pub EachImageSurvives : Core → Type 0
 EachImageSurvives s = (image : List ℕ) → IsImage s.store.cells image → Survives image s.order s.acknowledged
 
--- each unit of the library to which an image recovers has this property; this includes the unit of a command that is in commit or
--- has failed
+-- if an image recovers to a library, each of its units has this property, also the unit of a command that is in commit or has failed
 abbrev pub EachImageIsRight : (StoredUnit → Type 0) → Core → Type 0
 EachImageIsRight is_right s = (image : List ℕ) (library : Units) → IsImage s.store.cells image → Recovers image library → EachUnit is_right library
 
@@ -102,8 +100,7 @@ pub record Commits (client : ClientId) (numbered : Numbered) (old new : Core) : 
   pub writes_gate : Advances dues.WriteGate body_settled None gate_written
   pub syncs_gate : Advances dues.SyncGate gate_written None new
 
--- the commit leaves the bytes of one record, with its gate open and a closed gate after it, at the offset of the earlier closed gate; no
--- other byte changes
+-- the commit leaves one record with an open gate, and a closed gate after it, at the offset of the old closed gate; no other byte changes
 abbrev pub LeavesRecord : Numbered → Core → Core → Type 0
 LeavesRecord numbered old new =
     IsWritten (bytes_of old.store.cells) (gate_of old.store) (record_bytes (body_of numbered.command) ++ 0 ∷ []) (bytes_of new.store.cells)
@@ -138,8 +135,7 @@ module _ {P : Type 0} where
   abbrev pub HandsIn : (P → Type 0) → Event P → Type 0
   HandsIn keeps event = (worker : WorkerId) (piece : P) → event ≡ events.Done worker piece → keeps piece
 
-  -- one turn of a run: an event that has a step takes it, and a command put into the order has a spelling; any other event leaves the
-  -- state as it is
+  -- one turn of a run: an event that can take a step takes it, and a command put into the order has a spelling; else nothing changes
   abbrev pub Turn : Rules P → (P → Type 0) → Contents P → Event P → Contents P → Type 0
   Turn rules keeps old event new =
       ((reply : Option Reply) × Step rules old event reply new × PutsCommand old.core new.core × HandsIn keeps event) ⊎ (IsImpossible rules old event × (new ≡ old))

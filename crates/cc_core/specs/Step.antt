@@ -154,8 +154,7 @@ pub record Crashes (choice : List ℕ) (old : Core) (reply : Option Reply) (new 
   pub silent : reply ≡ None
   pub new_is : new ≡ record old { library = empty; phase = Crashed; store = crashed_store choice old.store }
 
--- the library is opened: the live map is what the disk's records represent, in the area that the area byte names; the order is
--- cut to its longest prefix that leads to that map
+-- the library is opened: the live map is that of the records in the named area; the order is cut to its longest prefix with that map
 pub record Reopens (old : Core) (reply : Option Reply) (new : Core) : Type 0 where
   pub crashed : old.phase ≡ Crashed
   pub bodies : List (List ℕ)

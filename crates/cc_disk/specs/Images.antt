@@ -36,8 +36,7 @@ pub record LeavesOnly {D : Type 0} (moment : D → ℕ) (left_since : D → ℕ 
   -- since any earlier moment, a crash may have left what it may have left before `old`, or an image with P
   pub before : (t : ℕ) (image : List ℕ) → t ≤ moment old → left_since new t image → left_since old t image ⊎ P image
 
--- Between `old` and `new` the disk was at most read and synced: it gives the same bytes, and a crash at any moment leaves only
--- what it could have left before.
+-- From `old` to `new` the disk was only read or synced: its bytes are the same, and a crash leaves only what it could have left before.
 pub record OnlyReads {D : Type 0} (seen : D → List ℕ) (may_leave : D → List ℕ → Type 0) (moment : D → ℕ) (left_since : D → ℕ → List ℕ → Type 0) (old new : D) : Type 0 where
   pub same : seen new ≡ seen old
   pub images : AddsNone (may_leave old) (may_leave new)

@@ -133,8 +133,7 @@ pub record Enters (meaning : Meaning) (layout : ObjectLayout meaning.objects) (c
   pub passes : Passes ws 10 s
   pub shares : Shares layout s h
 
--- the global pointer, which is the word in x3 in a function that sets x3: 2 KiB after the beginning of the globals, so that an access from
--- it reaches their first 4 KiB
+-- the word of x3 in a function that sets it: 2 KiB after the beginning of the globals, so that one access reaches their first 4 KiB
 abbrev pub global_pointer : ℕ
 global_pointer = globals_from + 2048
 

@@ -30,8 +30,7 @@ asked_bytes (Change command) = command_bytes command
 asked_bytes (Fetch name) = 0
 asked_bytes Names = 0
 
--- a reply counts 48 for each name of a list, since each name occupies that much memory, however short it is; a unit in a reply
--- belongs to the library and counts nothing
+-- a reply counts 48 for each name of a list, however short (its memory); a unit in a reply belongs to the library and counts nothing
 abbrev pub reply_bytes : Reply → ℕ
 reply_bytes reply.Done = 0
 reply_bytes reply.Exists = 0

@@ -13,8 +13,7 @@ pub record Commit : Type 0 where
   pub deciding_offset : ℕ
   pub deciding_byte : ℕ
 
--- what comes after the gate of a record with this body: the body's length as four bytes, the lowest first, the body, and the next
--- gate, closed
+-- what follows the gate of a record with this body: the body's length in four bytes, lowest first, the body, and the next gate, closed
 abbrev pub behind_gate : List ℕ → List ℕ
 behind_gate body = to_le_bytes w32 (length body) ++ (body ++ 0 ∷ [])
 
@@ -30,8 +29,7 @@ area_begin area_byte area = 16 + area_byte % 2 * area
 abbrev pub other_area : ℕ → ℕ
 other_area area_byte = (area_byte + 1) % 2
 
--- a rewrite: first all records and the closed gate after them are written, from the beginning of the other area on, and then the
--- area byte of that area
+-- a rewrite: all records and the closed gate after them are written at the beginning of the other area, then that area's area byte
 abbrev pub rewrite_commit : (area_byte area : ℕ) (bodies : List (List ℕ)) → Commit
 rewrite_commit area_byte area bodies = record {
   offset = area_begin (other_area area_byte) area;

@@ -41,8 +41,7 @@ pub record HasHeader (image : List ℕ) (area : ℕ) : Type 0 where
 abbrev pub HasAreaByte : List ℕ → (area_byte area : ℕ) → Type 0
 HasAreaByte image area_byte area = (rest : List ℕ) × (image ≡ header area_byte area ++ rest)
 
--- The image has a valid header. The area that the area byte names (A if it is even, B if it is odd) has these records and then a
--- closed gate, within the area.
+-- The image has a valid header, and these records, with a closed gate after them, in the area that the area byte names (A if even, else B).
 pub record HoldsRecords (image : List ℕ) (area : ℕ) (bodies : List (List ℕ)) : Type 0 where
   pub area_byte : ℕ
   pub other : List ℕ

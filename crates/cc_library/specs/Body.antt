@@ -110,8 +110,7 @@ abbrev pub IsCertificate : Option (List ℕ) → Type 0
 IsCertificate None = Unit {0}
 IsCertificate (Some certificate) = (length certificate < 2 ^ 32) × AreBelow (2 ^ 8) certificate
 
--- a possible stored unit: a source of at most 65,536 bytes, 1 to 131,072 code words, at most 65,536 global words, and a possible
--- certificate or none
+-- a possible unit: a source of at most 65,536 bytes, 1 to 131,072 code words, at most 65,536 global words, a possible certificate if any
 pub record IsUnit (unit : StoredUnit) : Type 0 where
   pub source : length unit.source ≤ 65536
   pub bytes : AreBelow (2 ^ 8) unit.source

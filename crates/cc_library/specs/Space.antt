@@ -7,8 +7,7 @@ use Rattle.cc_library.specs.Apply.{Units}
 use Rattle.cc_library.specs.Compact.{compacted}
 use Rattle.cc_library.specs.Recovered.{StandFor}
 
--- for an area of this size with these records and this map: the bytes that the records take, those that they would take after a
--- compaction, and how many names have a unit
+-- of an area with these records and this map: the bytes of the records, those that they would take after a compaction, and the names
 abbrev pub space_use : (area : ℕ) (bodies : List (List ℕ)) → Units → SpaceUse
 space_use area bodies map = record { area = area; used = length (records bodies); compacted = length (records (compacted map)); units = len map }
 

@@ -44,8 +44,7 @@ AuditSays text certificate image audit = AuditSaysIn Plain text certificate imag
 
 -- ---- which part is not confirmed
 
--- the text is a program; the name of one of its functions begins at this offset and has this many bytes, and each function before
--- it has a piece
+-- the text is a program with a function whose name begins at this offset and has this many bytes; each function before it has a piece
 pub record IsFunctionAt (mode : Mode) (text : List ℕ) (at count : ℕ) : Type 0 where
   pub tree : List External
   pub is : IsProgramText text tree

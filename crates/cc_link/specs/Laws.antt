@@ -29,8 +29,7 @@ LinkedUnitsFollow = (mode : Mode) (s : Source) (pieces : List Piece) (u : Stored
 abbrev pub AgreeInAgree : Type 0
 AgreeInAgree = (mode : Mode) (text : List ℕ) (image : Image) → AgreeIn mode text image → Agree text image
 
--- the certificate of the unit spells an LTL function for each function of the unit's text, and the run of that LTL function
--- keeps up with its function
+-- the certificate spells an LTL function for each function of the unit's text, whose run keeps up with that function
 pub record IsCertifiedIn (mode : Mode) (u : StoredUnit) : Type 0 where
   pub tree : List External
   pub spelled : ∥ SpellsText u.source tree ∥₁

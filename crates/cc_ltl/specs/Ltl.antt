@@ -85,8 +85,7 @@ pub record IsLtl (ltl : Ltl) : Type 0 where
 abbrev pub Locations : Type 0
 Locations = Location → ℕ
 
--- the state of a run: the label of the next block, the words of the locations, the shared world, and the words that unknown
--- locations will hold
+-- the state of a run: the next block's label, the words of the locations, the shared world, and the words that unknown locations get
 pub record Configuration : Type 0 where
   pub label : ℕ
   pub locations : Locations

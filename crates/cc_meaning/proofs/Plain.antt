@@ -137,7 +137,7 @@ kind_of Or = IsOther plain_or
 kind_of LogicalAnd = IsAnd refl
 kind_of LogicalOr = IsOr refl
 
--- what an assignment applies is plain
+-- the operator that an assignment applies, if any, is plain
 abbrev pub IsPlainIfAny : Option BinaryOperator → Type 0
 IsPlainIfAny None = Unit {0}
 IsPlainIfAny (Some op) = IsPlain op

@@ -58,7 +58,7 @@ module _ (unit : List External) (typed : IsTyped unit) where
   abbrev TakesHere : List ℕ → ℕ → Type 0
   TakesHere = Takes (names_in unit) (functions unit)
 
-  -- functions, their instructions and their names, in the same order
+  -- the lists have functions, their instructions and their names, in the same order
   abbrev Matched : List Function → List FunctionCode → List (List ℕ) → Type 0
   Matched [] [] [] = Unit {0}
   Matched (g ∷ gs) (c ∷ cs) (x ∷ xs) = (g.name ≡ x) × Defined layout known (functions unit) g c × Matched gs cs xs
@@ -164,7 +164,7 @@ module _ (unit : List External) (typed : IsTyped unit) where
   no_parameters : (e : Entered (resolved unit) layout known (functions unit) (codes "main")) → e.function.parameters ≡ []
   no_parameters e = nil_from_length e.function.parameters (main_parameters unit typed e.function e.is)
 
-  -- the behavior with no step left, and with at least one
+  -- the form does what the unit does, with no step left and with at least one
   behaves : (text input : List ℕ) (n : ℕ) (e : Entered (resolved unit) layout known (functions unit) (codes "main"))
       → (k : ℕ) × (form_behavior k (resolved unit) input n ≡ Some (source_behavior (record { text = text; externals = unit }) input n))
   behaves text input zero e = (

@@ -128,8 +128,7 @@ module _ {P : Type 0} where
   abbrev pub rewrite_failed_last : List (Event P × Option Reply)
   rewrite_failed_last = (event.RewriteAll, None) ∷ (event.SyncAll, None) ∷ (event.Fail, None) ∷ []
 
--- which steps of the core a compaction with this answer is: those of a rewrite, or of one that failed; a compaction that is refused for
--- another reason does not begin
+-- the core's steps of a compaction with this answer: a rewrite, or one that failed; none if it is refused for another reason
 abbrev pub IsRewriteOf : {P : Type 0} (rules : Rules P) → (Contents P → Type 0) → Contents P → Result (Unit {0}) BookFault → Type 0
 IsRewriteOf rules Shown s (Ok done) = (new : Contents _) × Steps rules s rewritten_steps new × Shown new
 IsRewriteOf rules Shown s (Err DiskFault) =

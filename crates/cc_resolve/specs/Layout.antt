@@ -31,7 +31,7 @@ abbrev pub object_number : List LaidObject → List ℕ → Option ℕ
 object_number [] x = None
 object_number (p ∷ rest) x = if same_name p.name x then Some 0 else option_map suc (object_number rest x)
 
--- how many names precede a name
+-- how many names precede the first place of a name
 abbrev pub names_before : List (List ℕ) → List ℕ → ℕ
 names_before [] x = 0
 names_before (y ∷ rest) x = if same_name y x then 0 else 1 + names_before rest x

@@ -27,8 +27,7 @@ use Rattle.cc_service.specs.declared.fault.ServiceFault.TheVariants.{Opening, Ba
 
 -- ---- what a call asks of the book
 
--- the unit was compiled from this source in this mode: its image agrees with the source, and does on every input what the program shows in
--- the mode
+-- the unit was compiled from this source in this mode: its image agrees with the source, and follows what the program shows in the mode
 abbrev pub IsOf : Mode → (source : List ℕ) → StoredUnit → Type 0
 IsOf mode source unit = (unit.source ≡ source) × Agree unit.source unit.image × AgreeIn mode unit.source unit.image
 
@@ -83,8 +82,7 @@ IsTurnedDown Asks old new book.DiskFault = new ≡ old
 IsTurnedDown Asks old new book.Closed = new ≡ old
 IsTurnedDown Asks old new book.OutOfMemory = new ≡ old
 
--- The answer to `add` or `replace`: 33 exactly if the bytes are not a name; then, for a name, why the text was not compiled; then, for a
--- program, what the book answers.
+-- `add` or `replace`: 33 exactly if the name is not one; then why the text was not compiled; then, for a program, what the book answers.
 abbrev pub PutAnswers : Mode → (Asks : Command → Type 0) (name source : List ℕ) (old new : MemberView) → Result Receipt ServiceFault → Type 0
 PutAnswers mode Asks name source old new (Ok receipt) = IsTrue (is_name name) × IsProgram source × IsEntered Asks old reply.Done new receipt
 PutAnswers mode Asks name source old new (Err BadName) = (¬ IsTrue (is_name name)) × (new ≡ old)
@@ -146,8 +144,7 @@ IsNotCompacted book.Closed = Unit {0}
 IsNotCompacted book.OutOfMemory = Unit {0}
 IsNotCompacted _ = ⊥
 
--- Why a service is not opened: what the library's opening answers; if that is Ok, 41 or 40 from the workers, and an honest disk's bytes
--- then recover to this map.
+-- Why a service is not opened: a fault of the library's opening, or 41 or 40 from the workers; an honest disk then recovers to this map.
 abbrev pub IsNotOpened : (honest : Bool) (seen : List ℕ) (base : Units) (before after : ℕ) → ServiceFault → Type 0
 IsNotOpened honest seen base before after (Opening f) = OpenFaults honest seen before after f
 IsNotOpened honest seen base before after WorkersGone = (after ≡ before) × (IsTrue honest → Recovers seen base)

@@ -80,8 +80,7 @@ pub record HasFound (name : List ℕ) (Holds : (source : List ℕ) → Type 0) (
   pub holds : Holds unit.source
   pub answered : IsAnswered old (Fetch name) (reply.Unit unit) new seen
 
--- The unit was found with the expected source, and the change was made and is the next entry of the history: no other client's call is
--- between the two.
+-- The unit had the expected source, and the change is the next entry of the history: no other client's call is between the two.
 pub record IsUpdated (Asks : Command → Type 0) (name expected : List ℕ) (old new : MemberView) (receipt : Receipt) : Type 0 where
   pub seen : Receipt
   pub heard : MemberView
@@ -93,8 +92,7 @@ pub record IsUpdated (Asks : Command → Type 0) (name expected : List ℕ) (old
 abbrev pub HasLooked : (name expected : List ℕ) (old new : MemberView) → Type 0
 HasLooked name expected old new = (seen : Receipt) × HasFound name (λ source. source ≡ expected) old new seen
 
--- how the book refuses an update: 32 with the receipt of the look-up; 34 and 35 after a look-up that found the expected source; 40 before
--- or after the look-up; 36 and 39 before it
+-- how the book refuses an update: 36 and 39 before the look-up, 32 by its receipt, 34 and 35 if the source is the expected one, 40 anywhere
 abbrev pub IsNotUpdated : (name expected : List ℕ) (old new : MemberView) → BookFault → Type 0
 IsNotUpdated name expected old new (book.Absent seen) = IsAnswered old (Fetch name) reply.Absent new seen
 IsNotUpdated name expected old new (book.Estranged number found) = IsOfAnother old number found × (new ≡ old)

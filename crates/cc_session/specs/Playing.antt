@@ -150,8 +150,7 @@ Obeys mode None before after old new = (after ≡ before) × Writes (script_faul
 abbrev pub asked_by_line : Dialect → List ℕ → Option ScriptRequest
 asked_by_line dialect line = if nat_le (length line) 128 then asked_of dialect line else None
 
--- One line of a script of this dialect is done in the mode, with the source after it if there is one. There is a line only if a
--- byte is left.
+-- One line of a script of this dialect is done in the mode, with its source, if it has one. There is a line only if a byte is left.
 pub record IsStep (mode : Mode) (dialect : Dialect) (before after : List ℕ) (old new : Talk) : Type 0 where
   pub some : before ≢ []
   pub line : List ℕ
@@ -303,8 +302,7 @@ pub record CutsNext (dialect : Dialect) (before : List ℕ) (old new : Talk) : T
   pub is_line : IsLine before line rest
   pub cut : CutsLine (asked_by_line dialect line) old new
 
--- A prefix of the script is done, all answers to it are written, and more of it is left. Nothing of that was done, or the next
--- line is a `run` that was cut off.
+-- A prefix of the script is done and answered, and more is left. Of that nothing was done, or the next line is a `run` that was cut off.
 pub record IsPlayedTill (mode : Mode) (dialect : Dialect) (most : Option ℕ) (script : List ℕ) (first last : Talk) : Type 0 where
   pub turns : List Turn
   pub few : IsWithin most (length turns)

@@ -45,8 +45,7 @@ pub record Given : Type 0 where
 abbrev pub given_by : {S : Type 0} (taken : S → List Taken) (ended : S → List Delivered) → S → Given
 given_by taken ended spool = record { taken = taken spool; ended = ended spool }
 
--- From one moment to the next a spool gave some scripts, and was handed an answer for each, in turn. A client ran these scripts,
--- and made no other calls.
+-- Between these moments a spool gave some scripts and was handed an answer for each, in turn. A client ran these scripts and nothing else.
 pub record HasDone (mode : Mode) (before : Given) (old : MemberView) (after : Given) (new : MemberView) : Type 0 where
   pub scripts : List Taken
   pub answers : List Delivered

@@ -1,4 +1,4 @@
--- From the tokens of a text to the text: what `parse` returns in each case.
+-- What `parse` returns for a text, given what the parser does with the text's tokens.
 use Rattle.std.proofs.Common.{◌≡◌, ◌≤◌, ℕ, List, length, Result, Ok, Err, refl, subst, arith}
 use Rattle.cc_tokens.specs.declared.place.Place.{Place}
 use Rattle.cc_tokens.specs.declared.fault.SyntaxFault.{SyntaxFault}

@@ -1,8 +1,13 @@
+<<<<<<< HEAD
 -- Definitions that only private contracts and proofs use. what a token is to the grammar
+=======
+-- Definitions that only private contracts and proofs use.
+-- the role of a token in the grammar
+>>>>>>> ed09c1abd42016e498001b1516612bfed180cecc
 pub mod Roles
 -- what the parser's functions compute, token by token
 pub mod Parser
 -- the parser's state in the code, as a state of `Parser`
 pub mod ParserView
--- all clauses of `parse` but one, as a relation
+-- all clauses of `parse` except one, as a relation
 pub mod Answer

@@ -1,10 +1,11 @@
-// The tree that the tokens of a text spell.
+// Finds the tree that the tokens of a text spell.
 //
-// The parser reads the tokens once, and its state is changed in place. No call is nested deeper for a deeper text.
+// The parser reads the tokens in order, without going back, and changes its state in place. Deeper nesting in the text causes no
+// deeper recursion.
 //
 // - `state`: the parser's state between two tokens.
 // - `step`: what one token does, depending on what is being read.
-// - `cursor`: a token in its text; `role`: what a token is to the grammar.
+// - `cursor`: a token in its text; `role`: the role of a token in the grammar.
 // - `outer` and `objects`: tokens at file scope.
 // - `body`, with `settle` for the ends of statements: tokens in a function's body.
 // - `operand` and `operator`: tokens in a full expression, with `expression` for pending operators, `count` for the limit, and
@@ -87,7 +88,7 @@ fn unit_of(alloc: Global, text: &[u8], externals: Vec<External>) -> Result<Unit,
 }
 
 impl Parser {
-    /// Parses a text by way of a list of its tokens.
+    /// Parses a text after making a list of its tokens.
     fn parse_list(&mut self, text: &[u8]) -> Result<Unit, SyntaxFault>
         ensures { IsParse text.now result }
     {

@@ -1,4 +1,5 @@
--- The punctuator that the scanner finds is the longest one that the bytes begin with, because the table has the longest first.
+-- The punctuator that the scanner finds is the longest one that the bytes begin with, because the longest come first in the
+-- table.
 use Rattle.std.proofs.Common.{◌≡◌, ◌≢◌, ℕ, ◌≤◌, Bool, true, false, ◌&&◌, ◌==◌, List, [], ◌∷◌, ◌++◌, length, take, drop, refl, sym, ap, ◌∙◌, arith, subst, Some, None}
 use Rattle.std.specs.Prelude.{nat_le}
 use Rattle.std.specs.List.{find, starts_with, AllByRecursion}

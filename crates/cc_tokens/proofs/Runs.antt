@@ -30,7 +30,7 @@ run_longest may before (b ∷ prefix) rest goes =
     let e = cond-true (may before b) (suc (run_length may b (prefix ++ rest))) 0 goes.0 in
     omega arith
 
--- a search's answer: what it looks for begins at none of the places before it, and begins there
+-- what a search looks for begins at the place that it returns, and at none of the places before that
 pub place_fits : (test : List ℕ → Bool) (n : ℕ) (bs : List ℕ) → offset_within test n bs ≤ n
 unfolding offset_within
 place_fits test zero bs = omega arith

@@ -7,7 +7,7 @@ use Rattle.std.specs.Map.{lookup}
 use Rattle.std.specs.BTreeMap.{BTreeMap, get, Updates}
 use Rattle.cc_types.specs.Names.{same_name}
 
--- two keys are the same name
+-- whether two keys are the same name
 abbrev pub same_key : Bor (List ℕ) → Bor (List ℕ) → Bool
 same_key a b = same_name a.now b.now
 

@@ -115,12 +115,12 @@ IsNumbered-again names x n numbers own = record {
 
 -- ---- tables indexed by the numbers of names
 
--- after this the name has number `n`
+-- once the name is numbered `n`, that is its number
 pub number-own : (old new : List (List ℕ × ℕ)) (x : List ℕ) (n : ℕ) → IsNumbered old new x n → number_of_name new x ≡ Some n
 number-own old new x n is = is.found x ∙ ap (λ c. cond c (Some n) (number_of_name old x)) (nat_list_eq_equiv.refl x)
 
 module _ {A : Type 0} where
-  -- after one more name gets a number, a table has for each name what it had
+  -- once one more name has a number, a table still has for each name what it had before
   pub at-numbered : (old new : List (List ℕ × ℕ)) (x : List ℕ) (n : ℕ) (table : ℕ → Option A) → ((m : ℕ) → length old ≤ m → table m ≡ None) → IsNumbered old new x n
       → (y : List ℕ) → at_number table (number_of_name new y) ≡ at_number table (number_of_name old y)
   at-numbered old new x n table rest is y = ap (at_number table) (is.found y) ∙ by (same_name x y) refl
@@ -142,7 +142,7 @@ module _ {A : Type 0} where
   -- a table that was changed at the number of one name:
   module _ (names : List (List ℕ × ℕ)) (x : List ℕ) (n : ℕ) (own : number_of_name names x ≡ Some n) (numbers : AreNumbers names)
       (old new : ℕ → Option A) (w : Option A) (updates : (m : ℕ) → new m ≡ cond (nat_eq n m) w (old m)) where
-    -- it has the new value for that name, and what it had for every other
+    -- the table has the new value for that name, and the old value for every other name
     pub at-changed : (y : List ℕ) → at_number new (number_of_name names y) ≡ cond (same_name x y) w (at_number old (number_of_name names y))
     at-changed y = by (number_of_name names y) (same_name x y) refl refl
       where
@@ -162,7 +162,7 @@ module _ {A : Type 0} where
                 absurd (let no : true ≡ false = sym (numbers.one x y m (own ∙ ap Some at) e) ∙ h in cc)
             other false k = k
 
-    -- it still has nothing at a number that no name has
+    -- the table still has nothing at a number that no name has
     pub rest-changed : ((m : ℕ) → length names ≤ m → old m ≡ None) → (m : ℕ) → length names ≤ m → new m ≡ None
     rest-changed rest m h =
         updates m ∙ ap (λ c. cond c w (old m)) (let few = numbers.below x n own in let is : nat_eq n m ≡ false = grind (arith, nat_tests, few, h) in is) ∙ rest m h

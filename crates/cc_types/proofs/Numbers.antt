@@ -57,7 +57,7 @@ is_some-number_of : (h : Option Newest) → is_some h ≡ is_some (number_of h)
 is_some-number_of None = refl
 is_some-number_of (Some n) = refl
 
--- a name that would hide another is declared already
+-- a name is declared already exactly if a new binding of it hides another
 pub is_declared-hides : (bs : List Binding) (x : List ℕ) (i : ℕ) (h : Option Newest) → i ≤ length bs → take i bs ≡ [] → number_of h ≡ number_in bs x → is_some h ≡ is_declared (drop i bs) x
 is_declared-hides bs x i h fits inner number =
     is_some-number_of h ∙ ap is_some number ∙ is_some-number_in bs x ∙ sym (ap (λ j. is_declared (drop j bs) x) (none-inner bs i fits inner))

@@ -80,7 +80,7 @@ fn first_errors(alloc: Global, externals: &[External]) -> Result<FirstErrors, Al
     Ok(found)
 }
 
-// Adds the builtins, which count as defined before a text begins.
+// Adds the builtins, which count as defined before the text begins.
 fn add_builtins(functions: &mut Functions<'_>) -> Result<(), AllocError>
     requires { functions.old ≡ record { defined = []; before = [] } }
     ensures { OnOk result (functions.new ≡ record { defined = first_file_scope.defined; before = first_file_scope.defined }) }
@@ -123,7 +123,7 @@ fn add_functions<'a>(
     define_all(functions, externals)
 }
 
-// The functions that a unit defines. At first only the builtins count as defined before.
+// The functions that a unit defines. At the beginning of the unit, only the builtins count as already defined.
 fn definitions<'a>(alloc: Global, externals: &'a [External]) -> Result<Functions<'a>, AllocError>
     ensures { IfOk result (λ r. r ≡ record { defined = all_defined (external_trees externals.now) first_file_scope.defined; before = first_file_scope.defined }) }
 {
@@ -185,8 +185,8 @@ fn place_in(text: &[u8], at: usize) -> Place
     place_at(text, at.min(text.len()))
 }
 
-/// Shows that, if memory suffices, only the unit determines what `check` returns: each unit is typed and within the limits, or
-/// has one fault with one number and one place, and never both.
+/// Shows that, if memory suffices, the unit alone determines what `check` returns: each unit is typed and within the limits,
+/// or has one fault with one number and one place, but never both.
 pub fn check_is_determined()
     ensures one { TypeAnswersAreOne }
     ensures some { UnitsHaveTypeAnswers }

@@ -20,7 +20,7 @@ abbrev pub some_code : Option Instruction → List Instruction
 some_code None = []
 some_code (Some i) = i ∷ []
 
--- the instructions with an operation in place of the one that `behind` instructions follow, unless there is a short cut
+-- unless there is a short cut, the instructions with an operation in place of the one that `behind` others follow
 abbrev pub operated : Option Instruction → BinaryOperation → ℕ → List Instruction → List Instruction
 operated (Some i) op behind code = code
 operated None op behind code = slice_set code (length code - (behind + 1)) (Binary op)
