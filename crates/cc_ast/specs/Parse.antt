@@ -34,12 +34,8 @@ pub record BreaksAt (Breaks : List Lexeme → ℕ → Type 0) (text : List ℕ) 
   pub here : Breaks tokens number
   pub place : p ≡ place_at_token text tokens number
 
-<<<<<<< HEAD
--- why a text has no tree: a text without tokens is refused as `tokens` refuses it; any other with 5 or 6, at the first token that is wrong
-=======
 -- why a text has no tree: a text without tokens is refused as `tokens` refuses it; any other text is refused with 5 or 6, at the
 -- first wrong token
->>>>>>> ed09c1abd42016e498001b1516612bfed180cecc
 abbrev pub IsParseRefusal : List ℕ → SyntaxFault → Type 0
 IsParseRefusal text (fault.Unexpected p) = BreaksAt UnexpectedAt text p
 IsParseRefusal text (fault.TooDeep p) = BreaksAt TooDeepAt text p

@@ -1,2 +1,3 @@
--- Definitions that only private contracts and proofs use. the tree of a list of arguments
+-- Definitions that only private contracts and proofs use.
+-- the tree of a list of arguments
 pub mod Arguments

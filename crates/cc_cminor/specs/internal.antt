@@ -1,4 +1,5 @@
--- Definitions that only private contracts and proofs use. the code of a list of statements
+-- Definitions that only private contracts and proofs use.
+-- the code of a list of statements
 pub mod Statements
 -- how a body becomes Cminor
 pub mod Lowering

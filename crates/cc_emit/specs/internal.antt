@@ -1,4 +1,5 @@
--- Definitions for private contracts and proofs. places counted from the end
+-- Definitions for private contracts and proofs.
+-- places counted from the end
 pub mod Behind
 -- the addresses of objects as a table
 pub mod Bases

@@ -1,4 +1,5 @@
--- Definitions that only private contracts and proofs use. code into which guards can be put
+-- Definitions that only private contracts and proofs use.
+-- code into which guards can be put
 pub mod Fits
 -- what remains to be done after a statement
 pub mod Next

@@ -1,4 +1,5 @@
--- Definitions for private contracts and proofs. when a list lays out a function's blocks
+-- Definitions for private contracts and proofs.
+-- when a list lays out a function's blocks
 pub mod Lays
 -- the list that lays out blocks in an order
 pub mod Layout

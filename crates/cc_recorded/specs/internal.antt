@@ -1,4 +1,5 @@
--- Definitions for private contracts. the reply for an answer to a change
+-- Definitions for private contracts.
+-- the reply for an answer to a change
 pub mod Decide
 -- what is checked about clients
 pub mod Apart

@@ -1,4 +1,5 @@
--- In reading order. the numbers of the faults
+-- In reading order.
+-- the numbers of the faults
 pub mod Fault
 -- what a service begins with
 pub mod Named

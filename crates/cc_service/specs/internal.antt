@@ -1,2 +1,3 @@
--- Definitions for private contracts. what is answered under the lock
+-- Definitions for private contracts.
+-- what is answered under the lock
 pub mod Under

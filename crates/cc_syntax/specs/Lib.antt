@@ -1,2 +1,3 @@
--- The contracts of `parse` and of the laws use the definitions of cc_ast. definitions that no promise depends on
+-- The contracts of `parse` and of the laws use the definitions of cc_ast.
+-- definitions that no promise depends on
 pub mod internal

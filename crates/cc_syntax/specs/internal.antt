@@ -1,9 +1,5 @@
-<<<<<<< HEAD
--- Definitions that only private contracts and proofs use. what a token is to the grammar
-=======
 -- Definitions that only private contracts and proofs use.
 -- the role of a token in the grammar
->>>>>>> ed09c1abd42016e498001b1516612bfed180cecc
 pub mod Roles
 -- what the parser's functions compute, token by token
 pub mod Parser

@@ -21,12 +21,8 @@ abbrev pub number_in : List scope.Binding → List ℕ → Option ℕ
 number_in [] x = None
 number_in (b ∷ behind) x = if same_name b.name x then Some (length behind) else number_in behind x
 
-<<<<<<< HEAD
--- each binding has the number of its name, and keeps what was the newest binding of its name before it; the bindings are given newest first
-=======
 -- each binding has the number of its name, and records which binding of its name was the newest before it; the bindings are
 -- given newest first
->>>>>>> ed09c1abd42016e498001b1516612bfed180cecc
 abbrev pub AreHidden : List (List ℕ × ℕ) → List Binding → Type 0
 AreHidden names [] = Unit {0}
 AreHidden names (b ∷ rest) = (number_of_name names b.name.now ≡ Some b.number) × (b.hidden ≡ number_in (map binding_of rest) b.name.now) × AreHidden names rest

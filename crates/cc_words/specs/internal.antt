@@ -1,2 +1,3 @@
--- Definitions that only private contracts and proofs use. what a word is
+-- Definitions that only private contracts and proofs use.
+-- what a word is
 pub mod Word

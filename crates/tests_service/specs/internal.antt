@@ -1,2 +1,3 @@
--- What the contracts of the tests use. what the parameter of a service names
+-- What the contracts of the tests use.
+-- what the parameter of a service names
 pub mod Named

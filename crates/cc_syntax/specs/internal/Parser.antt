@@ -202,14 +202,9 @@ begins_full c n = Some (InFull (full_of c [] n) Operand)
 abbrev pub inside_of : Inside → Stmts → List Open → Inside
 inside_of b done os = record { externals = b.externals; signature = b.signature; finished = done; opened = os }
 
-<<<<<<< HEAD
--- The body once a statement is complete, and what comes next. The statement completes the loops that await it, and goes into the innermost
--- block. If it is the part of an `if` that an `else` may follow, the next token decides, unless it is known not to be an `else`.
-=======
 -- The body once a statement is complete, and what comes next. The statement completes the loops that await it, and goes into the
 -- innermost block. If `waits` is true and the statement is the first part of an `if`, the next token decides whether the `if` is
 -- complete.
->>>>>>> ed09c1abd42016e498001b1516612bfed180cecc
 abbrev pub settled : Bool → Inside → List Open → Stmt → Inside × Stage
 settled waits b [] s = (inside_of b (with_last b.finished s) [], Item)
 settled waits b (InBlock ss ∷ os) s = (inside_of b b.finished (InBlock (with_last ss s) ∷ os), Item)
