@@ -34,8 +34,7 @@ pub record BreaksAt (Breaks : List Lexeme → ℕ → Type 0) (text : List ℕ) 
   pub here : Breaks tokens number
   pub place : p ≡ place_at_token text tokens number
 
--- why a text has no tree: a text without tokens is refused as `tokens` refuses it; any other text is refused with 5 or 6, at the
--- first wrong token
+-- why a text has no tree: `tokens` refuses it if it has no tokens; any other text is refused with 5 or 6, at the first wrong token
 abbrev pub IsParseRefusal : List ℕ → SyntaxFault → Type 0
 IsParseRefusal text (fault.Unexpected p) = BreaksAt UnexpectedAt text p
 IsParseRefusal text (fault.TooDeep p) = BreaksAt TooDeepAt text p

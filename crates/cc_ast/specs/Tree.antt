@@ -91,8 +91,7 @@ pub data Object : Type 0 where
   Array : Name → Option ConstantExpr → List ConstantExpr → Object
   Bytes : Name → Option ConstantExpr → List ConstantExpr → Object
 
--- an external declaration: a function's declaration, its definition, or a declaration of objects of one type (C99 6.9); this
--- type is unsigned for arrays of `unsigned char`
+-- a function's declaration, its definition, or a declaration of objects of one type (C99 6.9); unsigned for arrays of `unsigned char`
 pub data External : Type 0 where
   Declaration : Signature → External
   Definition : Signature → Stmts → External

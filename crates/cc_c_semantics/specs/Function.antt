@@ -71,8 +71,7 @@ TypedUnitsHaveMeaning = (unit : List External) → IsTyped unit → HasMeaning u
 
 -- ---- more steps
 
--- the run `z` continues the run `a`, which had fewer steps: if `a` ended or went wrong, `z` is the same; otherwise the output of
--- `a` is the beginning of that of `z`
+-- run `z` continues run `a`, which had fewer steps: if `a` ended or went wrong, `z` is the same; else its output begins with that of `a`
 abbrev pub GoesOn : Stop ℕ → Outcome ℕ → Outcome ℕ → Type 0
 GoesOn outcome.Going a z = IsPrefixOf a.output z.output
 GoesOn (outcome.Ended w) a z = z ≡ a

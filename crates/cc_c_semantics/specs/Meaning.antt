@@ -37,8 +37,7 @@ pub record Global : Type 0 where
   pub width : Width
   pub words : List ℕ
 
--- the state of a run: the locals of the function that runs, newest first; the globals; the rest of the input; the output so far;
--- and how many steps are left
+-- the state of a run: the running function's locals, newest first; the globals; the input left; the output so far; the steps left
 pub record State : Type 0 where
   pub locals : List Local
   pub globals : List Global
@@ -188,8 +187,7 @@ abbrev pub new_value : Option BinaryOperator → Scalar → Scalar → Destinati
 new_value None t u d w s = Gives w s
 new_value (Some op) t u d w s = then_do (old_value d s) (λ old v. given op (binary_word op (working_type op t u) old w) v)
 
--- an action: first the index is evaluated, then the right side, then the old value is read if it is needed, then the write is
--- done; ++ and -- are += 1 and -= 1 (6.8.3)
+-- an action: evaluates the index, then the right side, reads the old value if needed, and writes; ++ and -- are += 1 and -= 1 (6.8.3)
 abbrev pub perform : Action → List Binding → Calls → State → Run Flow
 perform (Assign op target e) bs call s =
     then_do (destination target bs call s) (λ d t. then_do (evaluate e bs call t) (λ w u.
@@ -340,8 +338,7 @@ abbrev pub result_of : Flow → ℕ
 result_of (Returns w) = w
 result_of flow = 0
 
--- the body of a function on the words of its arguments: at its start, its parameters are its only locals; at its end, the
--- caller's locals are restored
+-- the body on the words of its arguments: at its start its parameters are its only locals; at its end the caller's are restored
 abbrev pub run_body : Function → ℕ → Calls → List ℕ → State → Run ℕ
 run_body f n call ws s =
     then_do (execute_all f.body n call f.visible (record s { locals = bound f.parameters ws [] }))

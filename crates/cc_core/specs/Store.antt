@@ -84,7 +84,9 @@ due_after WriteGate = SyncGate
 due_after SyncGate = Acknowledge
 due_after Acknowledge = Acknowledge
 
--- what the due step leaves if it fails: a write leaves arbitrary, unsettled bytes in its range; a sync changes nothing; a reply cannot fail
+-- what the step that was due leaves if it fails: a write leaves arbitrary bytes in its range, unsettled; a sync changes nothing; a reply is
+
+-- not a device step
 abbrev pub FailsTo : Due → LibraryCommand → StoreState → StoreState → Type 0
 FailsTo WriteBody command old new = FirstFails (append_of old command) old new
 FailsTo SyncBody command old new = new ≡ old

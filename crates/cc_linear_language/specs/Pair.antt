@@ -32,7 +32,7 @@ tree_of p = (source p.unit).externals
 abbrev pub most_blocks : ℕ
 most_blocks = 4096
 
--- the LTL's run keeps up with the function: `KeepsUp` of `cc_validate`, repeated so that crates over Linear need not wait for that crate
+-- the LTL's run keeps up with the function: `KeepsUp` of `cc_validate`, repeated so that crates over Linear need not wait for it
 abbrev pub LtlKeepsUp : Mode → List External → (function : ℕ) → Ltl → Type 0
 LtlKeepsUp mode unit f ltl = (rate : ℕ) × ((meaning : Meaning) → IsMeaning mode unit meaning → TracksForAll meaning f rate (ltl_move meaning.arity ltl) ltl_output (ltl_start ltl))
 

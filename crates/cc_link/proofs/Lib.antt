@@ -1,7 +1,6 @@
 -- How an image is proved to agree with its text: a callee's instructions are counted by induction on the number of calls still
 -- allowed (CallsMeet); each call pays with its own jump for the first step of the function that it calls.
--- steps that are counted
--- make one run follow another
+-- counted steps make one run follow another
 pub mod Counting
 -- runs of the machine
 pub mod Machine

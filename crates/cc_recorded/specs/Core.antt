@@ -96,8 +96,7 @@ module _ {P : Type 0} (rules : Rules P) where
     pub there : IsTrue (all_there its.pieces)
     pub gives : command_of rules its its.request ≡ Ok c
 
-  -- which steps a commit with this answer is, for the client that has the job: those from Begin to Ack, or to a refusal or a Fail; a
-  -- commit that is refused with 39 or 40 does not begin
+  -- the core's steps of a commit with this answer: from Begin to Ack, a refusal or a Fail; with 39 or 40 it does not begin
   abbrev pub IsCommitOf : (Contents P → Type 0) → Contents P → ClientId → Result Receipt BookFault → Type 0
   IsCommitOf Shown s client (Ok receipt) = (new : Contents P) × Steps s (done_steps client) new × Shown new
   IsCommitOf Shown s client (Err (Exists receipt)) = (new : Contents P) × Steps s (refused_steps client refusal.Exists) new × Shown new

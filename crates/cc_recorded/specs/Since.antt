@@ -20,13 +20,16 @@ since_code {D} book =
     code_by (BookView D × List (BookView D)) (coded× book (coded_list book)) (λ b. (b.book, b.since)) (λ p. record { book = p.0; since = p.1 }) (λ _. refl)
 
 module _ {Disk : Type 0} where
-  -- The image recovers to the base after a prefix of the history with at least this many entries, or with the change that failed as well.
+  -- The image recovers to the base after a prefix of the history that has at least this many entries; or to the map with the change in which
+  -- the device failed.
   abbrev pub HoldsFrom : BookView Disk → ℕ → List ℕ → Type 0
   HoldsFrom book entries image =
       ((j : ℕ) × (entries ≤ j) × (j ≤ length book.history) × RecoversAlone image (units_after book.base (take j book.history)))
       ⊎ ((c : LibraryCommand) × (book.failed ≡ c ∷ []) × RecoversAlone image (after book.library.units c))
 
-  -- An image of the disk at this many entries: it recovers to the base after these, or with the change in which the device failed as well.
+  -- An image of the disk as it was when the history had this many entries: it recovers to the base after these; or to the map with the change
+
+  -- in which the device failed.
   abbrev pub HoldsJust : BookView Disk → ℕ → List ℕ → Type 0
   HoldsJust book entries image =
       RecoversAlone image (units_after book.base (take entries book.history))

@@ -82,7 +82,7 @@ IsTurnedDown Asks old new book.DiskFault = new ≡ old
 IsTurnedDown Asks old new book.Closed = new ≡ old
 IsTurnedDown Asks old new book.OutOfMemory = new ≡ old
 
--- `add` or `replace`: 33 exactly if the name is not one; then why the text was not compiled; then, for a program, what the book answers.
+-- `add` or `replace`: 33 exactly if the bytes are not a name; then why the text was not compiled; or, for a program, the book's answer.
 abbrev pub PutAnswers : Mode → (Asks : Command → Type 0) (name source : List ℕ) (old new : MemberView) → Result Receipt ServiceFault → Type 0
 PutAnswers mode Asks name source old new (Ok receipt) = IsTrue (is_name name) × IsProgram source × IsEntered Asks old reply.Done new receipt
 PutAnswers mode Asks name source old new (Err BadName) = (¬ IsTrue (is_name name)) × (new ≡ old)
@@ -144,7 +144,9 @@ IsNotCompacted book.Closed = Unit {0}
 IsNotCompacted book.OutOfMemory = Unit {0}
 IsNotCompacted _ = ⊥
 
--- Why a service is not opened: a fault of the library's opening, or 41 or 40 from the workers; an honest disk then recovers to this map.
+-- Why a service is not opened: what the library's opening answers; if that is Ok, 41 or 40 from the workers, and then an honest disk's
+
+-- bytes recover to this map.
 abbrev pub IsNotOpened : (honest : Bool) (seen : List ℕ) (base : Units) (before after : ℕ) → ServiceFault → Type 0
 IsNotOpened honest seen base before after (Opening f) = OpenFaults honest seen before after f
 IsNotOpened honest seen base before after WorkersGone = (after ≡ before) × (IsTrue honest → Recovers seen base)

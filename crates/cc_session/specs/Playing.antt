@@ -61,8 +61,7 @@ abbrev pub IsSent : (mode : Mode) (Asks : Mode → (name source : List ℕ) → 
 IsSent mode Asks name count before after old new =
     IsSentTo (λ source o n. CallsAndWrites (PutAnswers mode (Asks mode name source) name source) (SaysChange source) o n) count before after old new
 
--- Two sources that come after a line, each followed by a newline or the end: the unit under the name has to have the first one as
--- its source, and is replaced with a unit compiled from the second.
+-- Two sources after a line: the unit under the name must have the first one, and is replaced with one compiled from the second.
 pub record IsSentTwice (mode : Mode) (name : List ℕ) (expected_count count : ℕ) (before after : List ℕ) (old new : Talk) : Type 0 where
   pub expected : List ℕ
   pub rest : List ℕ

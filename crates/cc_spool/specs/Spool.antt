@@ -9,8 +9,7 @@ pub record Taken : Type 0 where
 abbrev pub taken_as : (script begun : Option (List ℕ)) → Taken
 taken_as script begun = record { script = script; begun = begun }
 
--- an answer that was handed over: the contents of its writer, if these are known; and the number of the fault
--- that ended its script, 51 to 54 or 61, if one did
+-- an answer handed over: its writer's contents, if known, and the number of the fault that ended its script (51 to 54, 61), if any
 pub record Delivered : Type 0 where
   pub answer : Option (List ℕ)
   pub end : Option ℕ

@@ -57,8 +57,7 @@ void_errors bs (Call f es) = elim (result_type (found bs f.text)) [ None ↦ bro
 void_errors bs (Parenthesised e) = void_errors bs e
 void_errors bs e = []
 
--- an expression that is evaluated, whether its value is used or not: every part except a pair of parentheses uses the values of
--- its own parts (6.5)
+-- an expression that is evaluated, its value used or not: each part except a pair of parentheses uses its own parts' values (6.5)
 abbrev mutual
   pub expression_errors : List Binding → Expr → List RuleError
   expression_errors bs (Number t n) = []
@@ -174,8 +173,7 @@ abbrev pub length_errors : Option ℕ → ℕ → ℕ → List RuleError
 length_errors None given at = []
 length_errors (Some n) given at = broken_if (n == 0 || nat_lt n given) WrongCount at
 
--- an array that file scope does not have yet. Its length precedes the point at which its name comes into scope; the values of its
--- list follow that point (6.2.1).
+-- an array new at file scope. Its length comes before the point from which its name is in scope, its values after it (6.2.1).
 abbrev pub named_array_errors : Scalar → Name → Option ConstantExpr → List ConstantExpr → FileScope → List RuleError
 named_array_errors t x n values f =
     broken_if (is_declared f.bindings x.text) Redeclared x.at

@@ -120,8 +120,7 @@ abbrev pub file_scope_behind_all : List External → FileScope → FileScope
 file_scope_behind_all [] f = f
 file_scope_behind_all (e ∷ rest) f = file_scope_behind_all rest (file_scope_behind e f)
 
--- the scope of a function's body before its first statement, given file scope before it: the parameters and the body's outermost
--- block are one scope
+-- the scope of a body before its first statement, given file scope: the parameters and the body's outermost block are one scope
 abbrev pub body_scope : Signature → FileScope → Visible
 body_scope s f = parameters_declared s.parameters (record { inner = []; outer = (with_function s f).bindings })
 
