@@ -4,8 +4,7 @@ use Rattle.cc_ast.specs.Tree.{Source}
 use Rattle.cc_c_semantics.specs.Meaning.{source_behavior}
 use Rattle.cc_c_semantics.specs.Outcome as outcome
 
--- the least number of steps with the result that the run has within the bound; the bound itself, if the run is still
--- going
+-- the least number of steps with the result that the run has within the bound; the bound, if the run does not end
 pub record IsStepCount (source : Source) (bound : ℕ) (input : List ℕ) (count : ℕ) : Type 0 where
   pub within : count ≤ bound
   -- within the count, the run has the same output and result as within the bound
