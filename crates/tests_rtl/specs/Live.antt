@@ -45,8 +45,7 @@ laws = record {
   within = λ x y z h i. (or_within x.a y.a z.a h.0 i.0, or_within x.b y.b z.b h.1 i.1, or_within x.c y.c z.c h.2 i.2);
 }
 
--- a variable is live before a node that reads it, and before one that does not write it if it is live after that
--- node
+-- a variable is live before a node that reads it, and before one that does not write it if it is live after that node
 abbrev pub live_before : (reads writes : Bool) → Bool → Bool
 live_before reads writes behind = reads || (behind && not writes)
 
