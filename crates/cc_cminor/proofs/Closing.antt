@@ -1,4 +1,4 @@
--- At the end of a scope its locals are removed, and everything is as before it.
+-- At the end of a scope its locals are removed, and everything is as it was before the scope.
 use Rattle.std.proofs.Common.{◌≡◌, ℕ, zero, suc, ◌+◌, ◌-◌, ◌≤◌, ◌<◌, List, [], ◌∷◌, ◌++◌, length, take, drop, refl, sym, ap, ◌∙◌, subst, arith}
 use Rattle.cc_tokens.specs.declared.scalar.Scalar.{Scalar}
 use Rattle.cc_ast.specs.Tree as tree
@@ -104,7 +104,7 @@ closed-again v w h =
     at : List Binding → List Binding → List (List ℕ) → Layout → Environment
     at a b l g = record { visible = record { inner = a; outer = b }; locals = l; layout = g }
 
--- the same for the numbers noted before the scope
+-- closing the scope by the numbers noted before it restores what was before it
 pub closed-back : (v w u : Environment) (around locals : ℕ) → Within (inner v) w → around ≡ length v.visible.inner → locals ≡ length v.locals
     → u ≡ record w { visible = closed around w.visible; locals = drop (length w.locals - locals) w.locals } → u ≡ v
 closed-back v w u around locals h a b e =

@@ -117,7 +117,7 @@ append_fits : (ss ts : List Statement) → AllFit ss → AllFit ts → AllFit (s
 append_fits [] ts h i = i
 append_fits (s ∷ ss) ts h i = (h.0, append_fits ss ts h.1 i)
 
--- a statement that takes a value fits, whatever the value is
+-- a statement that uses a value fits, whatever the value is
 abbrev Takes : (Expression → Statement) → Type 0
 Takes f = (x : Expression) → ExpressionBelow 1024 x → StatementBelow 1024 (f x)
 

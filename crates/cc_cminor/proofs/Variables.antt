@@ -262,7 +262,7 @@ truth_by false = refl
 truth_twice : (a : ℕ) → is_zero (is_zero a) ≡ truth_value (is_true a)
 truth_twice a = truth_by (a == 0)
 
--- 0 and 1 are their own truth
+-- the truth of a word that is 0 or 1 is that word
 kept_truth : (b : Bool) (w : ℕ) → Some (truth_value b) ≡ Some w → Some w ≡ Some (truth_value (is_true w))
 kept_truth b w is = let e : truth_value b ≡ w = cc in subst (λ x. Some x ≡ Some (truth_value (is_true x))) e (ap (λ c. Some (truth_value c)) (sym (truth_holds b)))
 

@@ -29,7 +29,7 @@ pub record Breaking {C : Type 0} (move : C → Move C) (output : C → List ℕ)
   pub steps : ℕ
   pub breaks : broken move output effect moves steps start ≡ Some o
 
--- the source is not finished, and the run breaks
+-- the source is not finished, and the run breaks with its output
 abbrev pub BreaksAt : {C : Type 0} → (C → Move C) → (C → List ℕ) → (ℕ → Question → Effect) → Effect → (start : C) → Type 0
 BreaksAt move output effect (Gives a left) start = ⊥
 BreaksAt move output effect (Unfinished o) start = Breaking move output effect start o

@@ -48,7 +48,7 @@ impl Shape<'_> {
     }
 }
 
-/// The places to which each node leads. Err: memory ran out.
+/// The places to which each node leads. `Err` if memory runs out.
 pub fn next_places(alloc: Global, rtl: &Rtl) -> Result<Vec<Next>, AllocError> {
     let mut all = Vec::with_capacity(alloc, rtl.len())?;
     for at in 0..rtl.len() {
@@ -58,7 +58,7 @@ pub fn next_places(alloc: Global, rtl: &Rtl) -> Result<Vec<Next>, AllocError> {
     Ok(all)
 }
 
-/// For each node, the only place that leads to it; None if several places do, or none does. Err: memory ran out.
+/// For each node, the only place that leads to it; None if several places do, or none does. `Err` if memory runs out.
 pub fn sole_places(alloc: Global, next: &[Next]) -> Result<Vec<Option<usize>>, AllocError> {
     let mut sole = vec![in alloc; None; next.len()]?;
     let mut is_led_to = vec![in alloc; false; next.len()]?;
@@ -126,7 +126,7 @@ pub fn result(node: &Node) -> Option<u32> {
     }
 }
 
-/// The pseudo-registers that a node other than a call reads, in their order: at most two.
+/// The pseudo-registers that a node other than a call reads, in order: at most two.
 pub fn operands(node: &Node) -> [Option<u32>; 2] {
     match node {
         Node::Move { from: one, .. }
@@ -152,7 +152,7 @@ pub fn operands(node: &Node) -> [Option<u32>; 2] {
 }
 
 /// An estimate of how often each node is executed: 1, times 10 for each loop around it, up to four loops. A loop is everything from a
-/// node to the last node after it that leads back to it. Err: memory ran out.
+/// node to the last node after it that leads back to it. `Err` if memory runs out.
 pub fn weights(alloc: Global, next: &[Next]) -> Result<Vec<u32>, AllocError> {
     let mut weights = vec![in alloc; 1; next.len()]?;
     if !has_loop(next) {
@@ -227,8 +227,8 @@ fn ten_to(depth: u32) -> u32 {
     }
 }
 
-/// The left operand of an operation, if its right operand is `constant`, the left one is another register, and the instruction
-/// may have the constant as an immediate.
+/// The left operand of an operation, if its right operand is `constant`, the left one is another register, and the constant fits in
+/// an immediate of the instruction.
 pub fn beside_constant(node: &Node, constant: u32) -> Option<u32> {
     match node {
         Node::Binary {

@@ -140,7 +140,7 @@ module _ (count : ℕ) where
       (λ f entry. Operands f count (e ∷ es) (registers (e ∷ es) free) free entry next.entry) x y (omega arith)
       (λ more rest one. (taken e free, behind.entry, one, operands_grow _ _ more count es (registers es (taken e free)) (taken e free) behind.entry next.entry rest))
 
-  -- a statement whose only operand is in a register
+  -- a node with one operand, after the nodes of the operand, is right
   one_operand : (e : Expression) (n : rtl.Node) (g : Places) → Uses count e → Right g (operand e count (pushed n g)) (suc (operand_nodes e)) (OneHeld e count (register e count) n)
   one_operand e n g uses = one_held e (makes e) count n (pushed n g) g 1 (suc (operand_nodes e)) (pushed_right n g) (omega arith) uses (omega arith)
 
@@ -151,7 +151,7 @@ module _ (count : ℕ) where
   taken_there f None = omega arith
   taken_there f (Some x) = refl
 
-  -- a loop's head gets its node
+  -- the code of a loop is right once the loop's head gets its node
   closed_right : (a : Statement) (exit : ℕ) (exits : List ℕ) (g : Places) (body : Made) (most : ℕ) → Right (g ++ (None ∷ [])) body most (Here a (length g) exits) → Right g (closed (length g) body) (suc most) (Here (Loop a) exit exits)
   closed_right a exit exits g body most x =
       let n = Some (rtl.Nop body.entry) in

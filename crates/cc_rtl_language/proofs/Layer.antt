@@ -1,5 +1,5 @@
 -- RTL is a layer: outputs grow, and a call passes on the output so far and continues from the output of its answer. So a run that
--- keeps up follows.
+-- keeps up with its function follows it.
 use Rattle.std.proofs.Common.{◌≡◌, ℕ, List, [], ◌∷◌, Option, Some, None, option_map, refl, subst}
 use Rattle.cc_words.specs.Operators.{apply_binary}
 use Rattle.cc_simulation.specs.Behavior.{IsPrefixOf}
@@ -54,7 +54,7 @@ rtl_layer nodes = record {
     at_label : (c : Configuration) → Layered (rtl_output c) (graph_move nodes c)
     at_label c = tried_case (rtl_output c) (nodes c.label) _ (λ n. layered n c.registers c.world)
 
--- a run that keeps up, at whatever rate, follows
+-- a run that keeps up with its function, at whatever rate, follows it
 pub follows_of : (mode : Mode) (unit : List External) (f : ℕ) (r : Rtl) → KeepsUp mode unit f r → FollowsFunction mode unit f r
 follows_of mode unit f r (rate, keeps) meaning is opened below ws h call =
     tracks_follow meaning (graph_move (node_at r.nodes)) rtl_output (rtl_layer (node_at r.nodes)) f rate (rtl_start r) (keeps meaning is) opened below ws h call

@@ -54,7 +54,7 @@ pub record Carries (live : Sets) (node : Node) (own : ℕ → Bool) : Type 0 whe
   pub needed : (r : ℕ) → Contains (reads node) r → IsTrue (own r)
   pub inherited : (r : ℕ) → IsTrue (live_behind live node r) → result node ≢ Some r → IsTrue (own r)
 
--- this holds of each node and the set for its label
+-- each node and the set for its label satisfy `Carries`
 abbrev pub AreLive : List Labelled → Sets → Type 0
 AreLive nodes live = (label : ℕ) (node : Node) → node_at nodes label ≡ Some node → Carries live node (live label)
 
@@ -87,8 +87,9 @@ abbrev pub with_nops : (which : (label : ℕ) → Node → Bool) → List Labell
 with_nops which [] = []
 with_nops which (n ∷ ns) = record { label = n.label; node = if which n.label n.node then as_nop n.node else n.node } ∷ with_nops which ns
 
--- These nodes may become nops: some live sets of the code with the nops show that each of them is dead. All are considered together, so
--- that nodes may go that only read one another. Live sets of the code as it is will do too, because a nop needs no more than the node did.
+-- These nodes may become nops: some live sets of the code with the nops show that each of them is dead. All are considered
+-- together, so that nodes that only read one another may become nops. Live sets of the code as it is will do too, because a nop
+-- needs no more than its node does.
 pub record MayBecomeNops (nodes : List Labelled) (which : (label : ℕ) → Node → Bool) : Type 0 where
   pub live : Sets
   pub are_live : AreLive (with_nops which nodes) live
@@ -99,7 +100,7 @@ abbrev pub among : List ℕ → (label : ℕ) → Bool
 among [] label = false
 among (l ∷ ls) label = l == label || among ls label
 
--- the function with the nodes with these labels turned into nops
+-- the function, with nops in place of the nodes with these labels
 abbrev pub without : (labels : List ℕ) → Rtl → Rtl
 without labels rtl = record rtl { nodes = with_nops (λ label node. among labels label) rtl.nodes }
 

@@ -130,7 +130,7 @@ node_move (Return from) r h = Returns (record { value = r from; world = h })
 abbrev pub rtl_move : Rtl → Configuration → Moving Configuration
 rtl_move rtl c = tried (node_at rtl.nodes c.label) (λ node. node_move node c.registers c.world)
 
--- what is written so far
+-- the output so far
 abbrev pub rtl_output : Configuration → List ℕ
 rtl_output c = c.world.output
 

@@ -1,4 +1,4 @@
--- The table of what functions take from the stack.
+-- The table of the stack that functions need.
 use Rattle.std.proofs.Common.{◌≡◌, ℕ, zero, suc, ◌+◌, ◌*◌, ◌<◌, ◌≤◌, List, [], ◌∷◌, ◌++◌, length, get_or, drop, refl, sym, ap, ◌∙◌, arith, append_assoc}
 use Rattle.std.proofs.lemmas.Bool.Decides.{nat_tests}
 use Rattle.std.proofs.lemmas.List.{drop_more}
@@ -21,7 +21,7 @@ most_low n m (Plain i ∷ items) h = most_low n m items h
 most_low n m (Call g ∷ items) h = larger_low (n g) (most_called n items) m (h g) (most_low n m items h)
 most_low n m (Go k ∷ items) h = most_low n m items h
 
--- one more item is looked at, at the beginning of the rest
+-- it does not matter whether the next item is compared with those before it or with those after it
 larger_twice : (a b c : ℕ) → larger (larger a b) c ≡ larger a (larger b c)
 larger_twice a b c = grind (arith, nat_tests)
 

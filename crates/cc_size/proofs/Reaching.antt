@@ -226,7 +226,7 @@ found_all bodies f found le o = record {
   all = λ it cycle. (let short = few_calls bodies it cycle in let within = called_within bodies it.caller it.called cycle.calls in o.all it short.cycle short.few (inl (omega arith)));
 }
 
--- what the code asks about a function is asked about its items
+-- the items at a position are those of the piece at that position
 pub body_at : (ps : List (Bor Piece)) (at : ℕ) (d : Bor Piece) → at < length ps → d ≡ get_or ps at d → get_or (all_items (lent_pieces ps)) at [] ≡ d.now.items
 body_at [] at d lt is = absurd (omega arith)
 body_at (p ∷ ps) zero d lt is = ap (λ (b : Bor Piece). b.now.items) (sym is)

@@ -9,7 +9,7 @@ use cc_linear_language::LinearItem;
 use cc_select::{SelectedPair, Step, WordOperator};
 use std::io::{self, Write};
 
-// The name of an operator on a register and a word, which is that of the same operator on two registers.
+// The name of an operator on a register and a word: the name of the same operator on two registers.
 fn immediate_name(operator: WordOperator) -> &'static str {
     match operator {
         WordOperator::Add => "add",
@@ -74,7 +74,7 @@ fn write_step<W: Write>(step: &Step, writer: &mut W) -> io::Result<()> {
     }
 }
 
-// Writes an access whose number is a register's word plus a word, and no other step.
+// Writes a step if it is an access whose number is a register's word plus a word.
 fn write_near<W: Write>(step: &Step, writer: &mut W) -> io::Result<()> {
     match step {
         Step::LoadNear {
@@ -106,7 +106,7 @@ fn write_near<W: Write>(step: &Step, writer: &mut W) -> io::Result<()> {
     }
 }
 
-// Writes a step that compares, and no other.
+// Writes a step if it compares.
 fn write_branch<W: Write>(step: &Step, writer: &mut W) -> io::Result<()> {
     match step {
         Step::Branch {

@@ -45,7 +45,7 @@ struct Shown {
 #[derive(Drop)]
 struct Run {
     shown: Vec<Shown>,
-    // Their pieces, in their order, up to the first function that is refused.
+    // Their pieces, in order, up to the first function that is refused.
     pieces: Vec<Piece>,
     // Why there is no image: the first refusal, or the refusal of the last function shown.
     refused: Option<PieceFault>,
@@ -112,7 +112,7 @@ fn pass_functions(
     Ok(run)
 }
 
-// Writes the lines of a function's code; if there are none, whether memory ran out or the unit has no image.
+// Writes the lines of a function's code; if there are none, writes whether memory ran out or the unit has no image.
 fn write_code<W: Write>(
     function: usize,
     code: &Result<Listing, StagesFault>,

@@ -64,7 +64,7 @@ fn least(alloc: Global, unit: &TypedUnit, input: &[u32], bound: u64) -> Result<u
 }
 
 /// What a program does on the words of an input within `steps` steps, and the least number of steps with that result; the
-/// bound, if the run is still going then. Fails with 40 if memory runs out.
+/// bound, if the run is still going at the bound. Fails with 40 if memory runs out.
 pub fn interpret_counted(
     alloc: Global,
     unit: &TypedUnit,

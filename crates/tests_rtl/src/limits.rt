@@ -13,8 +13,8 @@ fn comes_out(alloc: Global, parts: &[Part<'_>], answer: Answer) -> Result<bool, 
     Ok(first_answer(alloc, text.as_slice())? == answer)
 }
 
-/// How often `write_word(0);` and then `read_word();` occur in `main`, and the outcome for `main`: a write takes three nodes, a
-/// read one, and each function has three more.
+/// How often `write_word(0);` and then `read_word();` occur in `main`, and the outcome for `main`: a write needs three nodes, a
+/// read needs one, and each function has three more.
 type Main = (usize, usize, Answer);
 
 static MAINS: [Main; 5] = [
@@ -60,7 +60,7 @@ fn long_bodies(rt: HostRuntime) -> Result<(), Fail> {
     each_passes(rt.alloc(), BODIES.as_slice(), body_is_too_long)
 }
 
-/// A body of some 64 KiB that takes few nodes or none: what opens it, how often, what is in the middle, how often, and how many
+/// A body of some 64 KiB that needs few nodes or none: what opens it, how often, what is in the middle, how often, and how many
 /// nodes there are.
 type Small = (&'static str, usize, &'static str, usize, usize);
 
@@ -93,7 +93,7 @@ fn small_bodies(rt: HostRuntime) -> Result<(), Fail> {
 }
 
 /// An expression of about 512 tokens that is returned: what is repeated before the middle, how often, the middle, what is
-/// repeated as often after it, and how many nodes the function has. An object of one word takes a constant and a load.
+/// repeated as often after it, and how many nodes the function has. An object of one word needs a constant and a load.
 type Expression = (&'static str, usize, &'static str, &'static str, usize);
 
 static EXPRESSIONS: [Expression; 4] = [

@@ -5,7 +5,7 @@ use Rattle.cc_cminor.specs.Cminor.{Expression, Constant, Local, Unary, Binary, L
 use Rattle.cc_rtl_language.specs.Rtl as rtl
 use Rattle.cc_rtl.specs.Size.{variable_of}
 
--- a label that is reserved for a loop's head has no node yet
+-- the nodes by their places; a place reserved for a loop's head has no node yet
 abbrev pub Places : Type 0
 Places = List (Option rtl.Node)
 
@@ -139,7 +139,7 @@ nodes_back [] = []
 nodes_back (None ∷ g) = nodes_back g
 nodes_back (Some n ∷ g) = nodes_back g ++ n ∷ []
 
--- the whole function
+-- the RTL of the whole function
 abbrev pub generated_rtl : (parameters count : ℕ) → Statement → rtl.Rtl
 generated_rtl parameters count body =
     let m = made_function count body in

@@ -12,7 +12,7 @@ abbrev pub places_of : List (Entry (Option declared.Node)) → Places
 places_of [] = []
 places_of (e ∷ es) = places_of es ++ option_map node_of e.item ∷ []
 
--- their labels are the places
+-- the labels of the entries are their places
 abbrev pub AreCountedDown : List (Entry (Option declared.Node)) → Type 0
 AreCountedDown [] = Unit {0}
 AreCountedDown (e ∷ es) = (e.label ≡ length es) × AreCountedDown es

@@ -1,6 +1,6 @@
 // The nodes that put the value of an expression into a register, made from last to first.
 //
-// A variable is read from its own register, so an operand that is a variable takes no node. The recursion is as deep as the tree,
+// A variable is read from its own register, so an operand that is a variable needs no node. The recursion is as deep as the tree,
 // with two calls for each of its levels.
 
 ghost use Rattle.std.specs.Prelude.{◌≡◌, ◌+◌, ◌<◌, ◌≤◌, ◌^◌, ◌++◌, length, IfOk, OnOk};

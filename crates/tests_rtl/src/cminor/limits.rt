@@ -12,7 +12,7 @@ fn is_long_and_goes_through(alloc: Global, text: &[u8]) -> Result<bool, Fail> {
     Ok(all_go_through(alloc, text, 1)? && fits)
 }
 
-// The same for the text of these parts.
+// Whether the text of these parts has some 64 KiB, and its only function can be translated.
 fn goes_through(alloc: Global, parts: &[Part<'_>]) -> Result<bool, Fail> {
     let text = text_of(alloc, parts)?;
     is_long_and_goes_through(alloc, text.as_slice())

@@ -18,7 +18,7 @@ fn line(alloc: Global) -> Result<Graph, AllocError> {
     Ok(graph)
 }
 
-// Whether solving takes a number of visits in this range, and these variables are live at node 0.
+// Whether solving needs a number of visits in this range, and these variables are live at node 0.
 fn is_solved(
     alloc: Global,
     graph: &Graph,

@@ -1,4 +1,4 @@
--- One more call: the one that was pushed.
+-- The one new call is the one that was pushed.
 use Rattle.std.proofs.Common.{◌≡◌, ◌<◌, ℕ, List, get_or, length, slice_get, Some, sym, subst, rules}
 use Rattle.std.proofs.lemmas.Option.{slice_get-get_or}
 use Rattle.cc_ast.specs.Source.{source}

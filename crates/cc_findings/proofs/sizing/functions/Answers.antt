@@ -1,4 +1,4 @@
--- One more function: the one that was pushed, and the place after it.
+-- The one new function is the one that was pushed, and the next place is the one after it.
 use Rattle.std.proofs.Common.{◌≡◌, ◌∙◌, ◌+◌, ◌*◌, ◌<◌, ℕ, List, [], ◌∷◌, ◌++◌, length, get_or, slice_get, Some, sym, ap, subst, rules, arith}
 use Rattle.std.proofs.lemmas.Option.{slice_get-get_or}
 use Rattle.cc_ast.specs.Source.{source}

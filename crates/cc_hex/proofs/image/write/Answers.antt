@@ -1,4 +1,5 @@
--- The text has the image's layout; such a text says the image's bytes in order, and so at each address.
+-- The text has the image's layout, and a text with this layout gives the image's bytes in order, and so at
+-- each address.
 use Rattle.std.proofs.Common.{◌≡◌, ℕ, List, [], ◌++◌, ◌≤◌, length, Some, ◌∙◌, ap, arith}
 use Rattle.cc_hex.specs.Format.{read, cells_from}
 use Rattle.cc_hex.specs.Contents.{bytes_of_words}
