@@ -33,8 +33,7 @@ pub record Meaning : Type 0 where
   pub objects : List Size
   pub call : (n opened f : ℕ) → List ℕ → World → Effect
   pub body : (n opened f : ℕ) → List ℕ → World → Effect
-  -- with no step left, a call is unfinished; the 1,025th open call goes wrong; any other call is the function's body with one
-  -- step less
+  -- with no step left, a call is unfinished; the 1,025th open call goes wrong; any other call is the function's body with one step less
   pub none_left : (opened f : ℕ) (ws : List ℕ) (h : World) → f < functions → call 0 opened f ws h ≡ Unfinished h.output
   pub too_deep : (n f : ℕ) (ws : List ℕ) (h : World) → f < functions → call (suc n) most_open f ws h ≡ Failed h.output
   pub spends : (n opened f : ℕ) (ws : List ℕ) (h : World) → f < functions → opened < most_open → call (suc n) opened f ws h ≡ body n opened f ws h

@@ -19,8 +19,7 @@ frames_of ps = map (λ (p : Piece). p.frame) ps
 abbrev pub ones_of : List Piece → List ℕ
 ones_of ps = map (λ (p : Piece). 1) ps
 
--- how many bytes of stack a call of function f uses at most, and how many calls are open in it at most; both as deep as calls
--- may go
+-- how many bytes of stack a call of function f uses at most, and how many calls are open in it at most; both as deep as calls may go
 abbrev pub stack_at : List Piece → (f : ℕ) → ℕ
 stack_at ps f = need (frames_of ps) (all_items ps) most_open f
 
@@ -36,9 +35,8 @@ sizes_from all f (p ∷ ps) = record { words = length p.items; frame = p.frame; 
 abbrev pub sizes_of : List Piece → List FunctionSize
 sizes_of ps = sizes_from ps 0 ps
 
--- What a unit made from these pieces needs: each of its functions, in the order of definitions; the words of its code and the
--- bytes of its globals; which calls are part of cycles; how many calls are open at most, including that of main, and how many
--- bytes of stack they use.
+-- What a unit made from these pieces needs: each of its functions, in the order of definitions; the words of its code and the bytes of its
+-- globals; which calls are part of cycles; how many calls are open at most, including that of main, and how many bytes of stack they use.
 pub record IsSize (unit : List External) (pieces : List Piece) (image : Image) (s : UnitSize) : Type 0 where
   pub functions : s.functions.items ≡ sizes_of (ordered unit pieces)
   pub code : s.code ≡ length image.code

@@ -1,5 +1,4 @@
--- How wide an object's elements are, which part of a word an element keeps (C99 6.3.1.3), and how many words a number of
--- elements fills.
+-- How wide an object's elements are, which part of a word an element keeps (C99 6.3.1.3), and how many words a number of elements fills.
 use Rattle.std.specs.Prelude.{ℕ, ◌+◌, ◌/◌, ◌%◌, ◌^◌, Bool, true, false, List, [], codes}
 use Rattle.cc_words.specs.declared.operators.Width.{Width}
 use Rattle.cc_words.specs.declared.operators.Width.TheVariants.{Byte, Word}

@@ -202,9 +202,8 @@ begins_full c n = Some (InFull (full_of c [] n) Operand)
 abbrev pub inside_of : Inside → Stmts → List Open → Inside
 inside_of b done os = record { externals = b.externals; signature = b.signature; finished = done; opened = os }
 
--- The body once a statement is complete, and what comes next. The statement completes the loops that await it, and goes into the
--- innermost block. If `waits` is true and the statement is the first part of an `if`, the next token decides whether the `if` is
--- complete.
+-- The body once a statement is complete, and what comes next. The statement completes the loops that await it, and goes into the innermost
+-- block. If `waits` is true and the statement is the first part of an `if`, the next token decides whether the `if` is complete.
 abbrev pub settled : Bool → Inside → List Open → Stmt → Inside × Stage
 settled waits b [] s = (inside_of b (with_last b.finished s) [], Item)
 settled waits b (InBlock ss ∷ os) s = (inside_of b b.finished (InBlock (with_last ss s) ∷ os), Item)
