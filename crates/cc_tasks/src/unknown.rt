@@ -28,8 +28,8 @@ fn write_names<W: Write>(names: &[&[u8]], writer: &mut W) -> io::Result<()> {
     Ok(())
 }
 
-/// Writes that nothing of this kind, for example no function, has the name, and which of the existing names is near; if no name
-/// is near, the first few of them.
+/// Writes that nothing of this kind, for example no function, has the name, and which existing name is near it; if none is
+/// near, writes the first few existing names.
 pub fn explain_unknown<W: Write>(
     kind: &str,
     name: &[u8],

@@ -311,8 +311,8 @@ pub(crate) fn ended(performed: Performed) -> Done
 
 /// Does a task: reads the text from `reader`, and writes the answer or the fault's line to `writer`.
 ///
-/// The status is 0 for an answer, but 1 for an answer of `safe` that the program may go wrong, and 1 for a fault. A read that
-/// fails is fault 53; a write that fails is fault 54, for which no line is written.
+/// The status is 1 for a fault, and for the answer of `safe` that the program may go wrong; it is 0 for other answers. A read
+/// that fails is fault 53; a write that fails is fault 54, for which no line is written.
 pub fn carry_out<H: AllocGlobal, R: Read, W: Write>(
     rt: &H,
     task: Task,
@@ -341,8 +341,9 @@ pub fn perform<H: AllocGlobal, R: Read, W: Write>(
 
 /// Does a task as `carry_out` does, and writes to `explanations` what helps a person with a fault or with a run that went wrong:
 /// the place, as editors read it, what was found there and what was expected, and the line of the text. It does the same for a
-/// checked image that has stopped in place; for another program it writes the warnings. If a write to `writer` fails, it says so.
-/// If memory for an explanation runs out, or it cannot be written, there is none; the status is the same.
+/// checked image that has stopped in place; for another program it writes the warnings. If a write to `writer` fails,
+/// `explanations` says so. If memory for an explanation runs out, or the explanation cannot be written, it is left out; the
+/// status is the same.
 pub fn perform_and_explain<H: AllocGlobal, R: Read, W: Write, E: Write>(
     rt: &H,
     task: Task,

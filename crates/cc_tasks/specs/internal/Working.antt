@@ -10,13 +10,13 @@ use Rattle.cc_tasks.specs.declared.explain.Matter.TheVariants.{Text, Wrong, Goin
 use Rattle.cc_tasks.specs.declared.fault.Fault.{Fault}
 use Rattle.cc_tasks.specs.declared.fault.Fault.TheVariants.{Text as NoText, Meaning, Piece, Link, UnknownFunction, OutOfMemory, Read, Write}
 
--- the write succeeded, and the flush wrote nothing more; or one of the two failed: 54
+-- the write succeeded, and the flush wrote nothing more; or one of the two failed (54)
 abbrev pub Flushes : {T E U : Type 0} → Result T E → (old new : Option (List ℕ)) → Result U Fault → Type 0
 Flushes (Ok done) old new (Ok flushed) = Keeps old new
 Flushes (Err failed) old new (Ok flushed) = ⊥
 Flushes write old new (Err fault) = fault ≡ Write
 
--- the line of this fault was written; or it could not be written: 54
+-- the line of this fault was written; or the line could not be written (54)
 abbrev pub RefusesBy : (fault : Fault) (text : List ℕ) (old new : Option (List ℕ)) (told : Fault) → Type 0
 RefusesBy fault text old new told = (told ≡ Write) ⊎ ((told ≡ fault) × Appends old new (fault_text text fault))
 
@@ -26,12 +26,12 @@ pub record IsAnsweredFor (task : Task) (text : List ℕ) (old new : Option (List
   pub answers : Answers task text answer
   pub written : Appends old new (answer_text answer)
 
--- the text has this fault, and the fault's line was written; or it could not be written: 54
+-- the text has this fault, and the fault's line was written; or the line could not be written (54)
 abbrev pub IsRefusedFor : Task → (text : List ℕ) (old new : Option (List ℕ)) → Fault → Type 0
 IsRefusedFor task text old new fault = (fault ≡ Write) ⊎ (IsRefused task text fault × Appends old new (fault_text text fault))
 
--- why there is no answer: something could not be written, 54, and nothing is known about what was written; or the line of the
--- fault was written
+-- why there is no answer: something could not be written (54), and nothing is known about what was written; or the line of
+-- the fault was written
 abbrev pub HasNoAnswer : Task → (input old new : Option (List ℕ)) → Fault → Type 0
 HasNoAnswer task input old new fault = (fault ≡ Write) ⊎ IsToldFault task input old new fault
 
