@@ -1,6 +1,7 @@
 // Warnings about a program: it may run, but hardly as it was meant to.
 //
-// The walk finds what is in expressions and statements. Here are the warnings that tokens give rise to, and the messages.
+// The walk finds what is in expressions and statements. This module has the warnings that tokens give rise to, and all
+// messages.
 
 use super::code::Element;
 use super::walk::Walk;
