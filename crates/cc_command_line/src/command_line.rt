@@ -79,7 +79,7 @@ fn work_of(alloc: Global, name: &str, given: &ArgMatches<'_>) -> Result<Work, Re
     }
 }
 
-// The rule that a work breaks, if its program is in this many files and it is to be printed as JSON or not.
+// The rule that a work breaks, if it breaks one, given how many files its program is in and whether it is to be printed as JSON.
 fn broken_rule(work: &Work, files: usize, is_json: bool) -> Option<&'static str> {
     if files > 0 && !reads_program(work) {
         return Some(NO_FILE_RULE);
