@@ -107,7 +107,7 @@ fn missing(alloc: Global, around: &Around<'_>, list: &[&str]) -> Result<Told, Al
     })
 }
 
-// Whether a word of a list ends something.
+// Whether a word of a list ends something, as `;` and `)` do.
 fn ends(word: &str) -> bool {
     matches!(word.as_bytes(), [_, b';' | b')' | b']' | b'}', _])
 }
@@ -189,7 +189,7 @@ fn gives_way(around: &Around<'_>, reason: Reason<'_>) -> bool {
     reason.is_keyword || (reason.at == around.at() && around.begins_line())
 }
 
-// Reports an unexpected token, which is one of these.
+// Reports the unexpected token at an offset, given all tokens of the text.
 fn unexpected_of(
     alloc: Global,
     text: &[u8],
@@ -267,8 +267,8 @@ fn told_at(alloc: Global, text: &[u8], fault: &SyntaxFault, at: usize) -> Result
     }
 }
 
-/// Makes a diagnostic of the fault that `parse` returned for a text: which byte, number or token was found, and what could come there,
-/// what is missing before it, or what to write instead of what this C leaves out; or which limit was exceeded. If something is
+/// Makes a diagnostic for the fault that `parse` returned for a text: which byte, number or token was found, and what could come
+/// there, what is missing before it, or what to write instead of what this C leaves out; or which limit was exceeded. If something is
 /// missing, the diagnostic's place is after the token before it; if a word is misspelt, the place is at that word.
 ///
 /// `AllocError` if memory runs out.
