@@ -1,4 +1,4 @@
-// Reports about a text, with the names of the texts that it was made of.
+// Reports about a text, with the names of the texts from which it was joined.
 
 use super::message::named_message;
 use super::place::place_in;
@@ -79,7 +79,7 @@ fn write_at<W: Write>(
     writer.write_all(lines.strip_prefix(INPUT.as_bytes()).unwrap_or(lines))
 }
 
-// Writes a diagnostic about the whole that texts make.
+// Writes a diagnostic about the joined text.
 fn write_of_texts<W: Write>(
     alloc: Global,
     texts: &[NamedText],
