@@ -38,7 +38,7 @@ pub data Run (A : Type 0) : Type 0 where
   Going : List ℕ → Run A
   Wrong : Cause → List ℕ → Run A
 
--- one part of a run, then another with what the first gave
+-- one part of a run, then another one, which gets the result of the first
 abbrev pub then_do : {A B : Type 0} → Run A → (A → State → Run B) → Run B
 then_do (Gives x s) go = go x s
 then_do (Going output) go = Going output
@@ -78,12 +78,12 @@ write_element x i w s =
 
 -- ---- expressions
 
--- gives the word that an operator gives, or goes wrong
+-- gives the value of an operator, or goes wrong if it has none
 abbrev pub given : BinaryOperator → Option ℕ → State → Run ℕ
 given op None s = Wrong (cause_of op) s.output
 given op (Some w) s = Gives w s
 
--- gives the word that is decided already, else goes on
+-- gives the word if it is decided already, else goes on
 abbrev pub unless_decided : Option ℕ → (State → Run ℕ) → State → Run ℕ
 unless_decided None go s = go s
 unless_decided (Some w) go s = Gives w s
@@ -131,7 +131,7 @@ abbrev pub write : Destination → ℕ → State → Run Flow
 write (ToVariable x) w s = Gives Falls (stored x w s)
 write (ToElement x i) w s = write_element x i w s
 
--- what is written, given the right side's word: this word for `=`, else what the operator gives for the old value and this word
+-- what is written, given the right side's word: this word for `=`, else the operator's value for the old value and this word
 abbrev pub new_value : Option BinaryOperator → Scalar → Scalar → Destination → ℕ → State → Run ℕ
 new_value None t u d w s = Gives w s
 new_value (Some op) t u d w s = then_do (old_value d s) (λ old v. given op (binary_word op (working_type op t u) old w) v)
@@ -201,7 +201,7 @@ abbrev pub start : Beginning → Calls → Visible → State → Run Flow
 start (Declares t ds) call v s = declare t ds call v s
 start (Performs a) call v s = perform_optional a (in_scope v) call s
 
--- after a scope only the oldest locals stay, as many as there were before it (6.2.1)
+-- after a scope only the oldest locals are left, as many as there were before it (6.2.1)
 abbrev pub left_scope : ℕ → State → State
 left_scope before s = record s { locals = drop (length s.locals - before) s.locals }
 
@@ -247,7 +247,7 @@ abbrev mutual
 
 -- ---- functions
 
--- the body of a function on the words of its arguments: its only locals are the parameters, and its caller's locals are back after it
+-- the body of a function on the words of its arguments: its only locals are the parameters, and afterwards its caller's locals are back
 abbrev pub run_body : Function → ℕ → Calls → List ℕ → State → Run ℕ
 run_body f n call ws s =
     then_do (execute_all f.body n call f.visible (record s { locals = bound f.parameters ws [] }))
