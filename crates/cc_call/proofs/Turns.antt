@@ -181,7 +181,7 @@ module _ (image : Image) (counted : Bool) (steps : ℕ) where
     pub ends_uncounted : number ≡ 2 ^ 64 - 1 → CallsLines image counted steps input old mid Refused
     ends_uncounted all = (called.turns, called.left, mid, called.answers, inr (inr (inr (refl, called.number_is ∙ all))))
 
--- if `P` implies `Q` of the bytes that are known, then it does under `IfSome`
+-- if `P` holds for the bytes in case they are known, and implies `Q`, then `Q` does too
 pub if_known : (known : Option (List ℕ)) (P Q : List ℕ → Type 0) → ((bytes : List ℕ) → known ≡ Some bytes → P bytes → Q bytes) → IfSome known P → IfSome known Q
 if_known None P Q step p = tt
 if_known (Some bytes) P Q step p = step bytes refl p
