@@ -32,7 +32,7 @@ fn a_service_that_is_let_go(rt: HostRuntime) -> Result<(), Fail> {
     Ok(())
 }
 
-// The disk on which no service opens, with the fault 38.
+// The disk, after opening a service on it was refused with the fault 38.
 fn not_a_library<N, R>(
     rt: &R,
     alloc: Global,

@@ -85,7 +85,7 @@ where
     Service::open(rt, alloc, fresh, device, workers, gate)
 }
 
-/// The service that an opening gives.
+/// The service that an opening returns.
 pub fn opened<N: Named, D: Disk + Drop>(
     answer: Result<Service<N, D>, (ServiceFault, D)>,
 ) -> Result<Service<N, D>, Fail> {
