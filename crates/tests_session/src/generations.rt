@@ -114,7 +114,7 @@ where
     Ok(served_on(rt, alloc, spools, disk, bounds))
 }
 
-// The same on a disk that fails for good after this many calls.
+// What serving leaves on a disk that fails for good after this many calls.
 fn served_until<H>(
     rt: &H,
     alloc: Global,
@@ -166,7 +166,8 @@ fn ended_well(scripts: u64, entries: u64, bytes: u64, why: GenerationEnd) -> Gen
     }
 }
 
-// Three calls are counted as 768 bytes. At that bound the next script is done by the next generation, where numbers begin at 1.
+// Three calls are counted as 768 bytes. At that bound the next script is run by the next generation, in which numbers begin at
+// 1.
 #[test]
 fn generations_that_end_by_bytes(rt: HostRuntime) -> Result<(), Fail> {
     let alloc = rt.alloc();
@@ -301,7 +302,7 @@ fn a_history_that_is_too_long(rt: HostRuntime) -> Result<(), Fail> {
     Ok(())
 }
 
-// After two scripts no further one is taken; if the bound is 0, one script is done in each generation all the same.
+// After two scripts no further one is taken; even if the bound is 0, each generation runs one script.
 #[test]
 fn generations_that_end_by_scripts(rt: HostRuntime) -> Result<(), Fail> {
     let alloc = rt.alloc();

@@ -82,7 +82,7 @@ impl Write for Page {
     }
 }
 
-/// An answer that has all the room that it needs has at most this many bytes.
+/// An answer that is not cut off has at most this many bytes.
 pub const ROOM: usize = 4_000_000;
 
 /// An empty answer with this room.
