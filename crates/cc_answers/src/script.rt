@@ -183,7 +183,7 @@ pub fn tell_number<W: Write>(number: u64, answers: &mut W) -> Result<(), ScriptF
     flushed(write, answers)
 }
 
-/// Writes that what was asked for is done. Fails with 54 `WriteFault` if the writer failed.
+/// Writes that the command was carried out. Fails with 54 `WriteFault` if the writer failed.
 pub fn tell_ok<W: Write>(answers: &mut W) -> Result<(), ScriptFault>
     ensures { Tells (W.contents answers.old) (W.contents answers.new) (line (codes "ok")) result }
 {

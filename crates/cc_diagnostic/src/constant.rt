@@ -23,7 +23,7 @@ fn token_at(text: &[u8], at: usize) -> Option<Token> {
     }
 }
 
-// Whether a token ends a constant expression in which no name has come so far.
+// Whether a token ends a constant expression, if no name came before it.
 fn is_end(text: &[u8], token: Token) -> bool {
     match text.get(token.from) {
         Some(byte) => matches!(*byte, b',' | b';' | b']' | b'}'),

@@ -121,7 +121,7 @@ impl<'a> Search<'a> {
     }
 
     // The offset up to which a name that breaks a rule at the offset `at` is renamed: the end of the part in which it denotes
-    // nothing, or the later of two declarations.
+    // nothing, or in which it denotes the later of two declarations.
     fn until(&self, fault: &TypeFault, at: usize, word: &[u8]) -> usize {
         let declared = self.declarations.as_slice();
         let end = self.unit.text().len();

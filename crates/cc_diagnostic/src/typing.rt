@@ -77,7 +77,7 @@ impl<'a> View<'a> {
     }
 }
 
-// The kind of what a name denotes, in words.
+// What kind of thing a name denotes, in words.
 fn kind(standing: Standing<'_>) -> &'static str {
     match standing.entity {
         Entity::Variable(_) => " is a variable",

@@ -67,7 +67,7 @@ pub struct Walk<'a> {
     pub code: Vec<Instruction<'a>>,
     pub functions: Vec<Function<'a>>,
     pub warnings: Vec<Warning<'a>>,
-    // The offset of the first name that was used since a statement began.
+    // The offset of the first name that was used in the current statement.
     first: Option<usize>,
     // How many words the objects so far have.
     words: usize,

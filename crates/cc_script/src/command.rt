@@ -40,7 +40,7 @@ pub enum ScriptCommand<'a> {
     },
     /// List the names of all units.
     List,
-    /// Run the unit by that name for at most `steps` instructions.
+    /// Run the unit under that name for at most `steps` instructions.
     Run {
         name: &'a [u8],
         steps: u64,
@@ -49,15 +49,15 @@ pub enum ScriptCommand<'a> {
     Compact,
     /// Audit each unit by its certificate.
     Audit,
-    /// Write the image of the unit by that name.
+    /// Write the image of the unit under that name.
     Image {
         name: &'a [u8],
     },
-    /// Write the source of the unit by that name.
+    /// Write the source of the unit under that name.
     Source {
         name: &'a [u8],
     },
-    /// Audit the unit by that name.
+    /// Audit the unit under that name.
     AuditOne {
         name: &'a [u8],
     },
@@ -68,7 +68,7 @@ pub enum ScriptCommand<'a> {
         expected: usize,
         length: usize,
     },
-    /// Run the unit by that name for at most `steps` instructions, on the input words of `length` bytes after the line.
+    /// Run the unit under that name for at most `steps` instructions, on the input words of `length` bytes after the line.
     Call {
         name: &'a [u8],
         steps: u64,

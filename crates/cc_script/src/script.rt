@@ -21,7 +21,7 @@ pub const LINE_BYTES: usize = 128;
 /// How many bytes of a source are kept: one more than a source may have, so that a longer one can be recognized.
 const KEPT_BYTES: usize = 65_537;
 
-/// How many bytes are asked of a reader at a time.
+/// How many bytes a reader is asked for at a time.
 const PIECE_BYTES: usize = 65_536;
 
 /// What comes next in a script.
@@ -173,8 +173,8 @@ impl Script {
         Ok(())
     }
 
-    /// The source of this many bytes that comes next; if it has more than 65,536, the first 65,537 of them. `None` if memory for it
-    /// ran out; the source is read in that case too.
+    /// The next source, which has this many bytes; only its first 65,537 bytes if it has more than 65,536. `None` if memory for it ran
+    /// out; the source is read in that case too.
     ///
     /// 51 if the script ends before the source does, 52 and 53 as for `next_line`.
     pub fn source<R: Read>(

@@ -2,8 +2,8 @@
 //
 // The parser itself decides: the text before the token is parsed with a candidate after it. If the parser's only fault is then
 // that something is missing at the very end, the candidate could come there. So the report agrees with the grammar by
-// construction. Of the text before the token, only the external declaration that the token is in is kept; earlier declarations
-// are complete.
+// construction. From the text before the token, only the external declaration around it is kept; earlier declarations are
+// complete.
 
 use cc_syntax::{Punctuator, SyntaxFault, Token, TokenKind, parse, place_at};
 use std::alloc::{AllocError, Global};

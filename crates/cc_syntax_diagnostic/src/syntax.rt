@@ -131,7 +131,7 @@ fn is_missing(list: &[&str]) -> bool {
     !begins && one_ends(list)
 }
 
-// Reports a token by what could come in its place: as missing or as unexpected.
+// Reports that something is missing before a token, or that the token is unexpected, depending on what could come in its place.
 fn by_list(alloc: Global, around: &Around<'_>, list: &[&str]) -> Result<Told, AllocError> {
     if is_missing(list) {
         missing(alloc, around, list)

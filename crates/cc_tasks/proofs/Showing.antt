@@ -9,7 +9,7 @@ use Rattle.cc_tasks.specs.internal.Shown.{IsUnknown}
 use Rattle.cc_tasks.specs.internal.Stages.{fault_of_stages}
 use Rattle.cc_tasks.specs.declared.fault.Fault.TheVariants.{UnknownFunction}
 
--- 59 comes only from a 59 of the stages
+-- the fault is 59 only if the stages' fault is 59
 pub unknown_stage : (f : StagesFault) → fault_of_stages f ≡ UnknownFunction → f ≡ stages.UnknownFunction
 unknown_stage stages.UnknownFunction e = refl
 unknown_stage (stages.Piece f) e = absurd (cc)

@@ -71,12 +71,12 @@ unread input a b fault told (inr is) (inr by) task = inr (inr (subst (λ (f : Fa
   written = subst (λ (f : Fault). Appends a b (fault_text [] f)) is by.1;
 })))
 
--- how a task ended if memory ran out before there was a text
+-- if memory ran out before there was a text, the task ended with that fault
 pub undone : (answer : Result Matter Fault) (task : Task) (input a b : Option (List ℕ)) → IsErrAnd answer (λ told. RefusesBy OutOfMemory [] a b told) → IsDoneFor task input a b answer
 undone (Ok did) task input a b by = absurd by
 undone (Err told) task input a b by = unread input a b OutOfMemory told (inr refl) by task
 
--- a task that was done for the text that was read was done for the reader's text
+-- if a task was done for the text that was read, it was done for the reader's text
 pub done : (answer : Result Matter Fault) (task : Task) (input a b c : Option (List ℕ)) (text : List ℕ) → IsTextOf input text → b ≡ a → TellsOf task text b c answer → IsDoneFor task input a c answer
 done (Ok matter) task input a b c text read same told =
     (record { text = text; read = read; answer = told.0.answer; answers = told.0.answers; written = subst (λ (o : Option (List ℕ)). Appends o c (answer_text told.0.answer)) same told.0.written }, told.1)

@@ -1,4 +1,4 @@
--- What the program writes for a text, byte for byte, and what it has done once that is written.
+-- What the program writes for a text, byte for byte, and the status with which it ends.
 use Rattle.std.specs.Prelude.{◌≡◌, ◌⊎◌, ℕ, Bool, true, false, List, [], ◌∷◌, ◌++◌, Option, Result, Ok, Err, Vec, codes}
 use Rattle.std.specs.declared.alloc.Global.{Global}
 use Rattle.std.specs.Fmt.{decimal}

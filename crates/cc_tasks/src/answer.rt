@@ -54,7 +54,7 @@ fn accepted(alloc: Global, text: &[u8]) -> Result<Answer, Fault>
     Ok(Answer::Accepted)
 }
 
-// What the program does on the input words. 40 if memory was refused as it ran.
+// What the program does on the input words. Fails with 40 if memory was refused during the run.
 fn ran(alloc: Global, text: &[u8], words: &[u32], steps: u64) -> Result<Answer, Fault>
     ensures answer { IfOk result (λ answer. IsRan steps words.now text.now answer) }
     ensures refused { IfErr result (λ fault. HasNoProgram text.now fault) }
@@ -101,7 +101,7 @@ pub(crate) fn compiled(alloc: Global, mode: Mode, text: &[u8]) -> Result<Compile
     }
 }
 
-// What the program's image does on the input words. 40 if memory was refused as it ran.
+// What the program's image does on the input words. Fails with 40 if memory was refused during the run.
 fn executed(
     alloc: Global,
     mode: Mode,

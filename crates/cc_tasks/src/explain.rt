@@ -11,7 +11,7 @@ use cc_task::{Kind, Task};
 use std::alloc::{AllocError, Global};
 use std::io::{self, Write};
 
-/// What an answer leaves to be explained to a person.
+/// What is to be explained to a person after an answer.
 #[derive(Clone, Copy)]
 pub(crate) enum Matter {
     /// The warnings of the text.
@@ -33,7 +33,7 @@ pub struct Explanation {
     pub first: Option<Diagnostic>,
     /// The calls that were open as a run went wrong, the innermost first.
     pub calls: Vec<Diagnostic>,
-    /// What would be reported if the fault were mended, up to twenty in all.
+    /// Errors that would be reported if the fault were mended; with the fault, at most twenty.
     pub further: Vec<Diagnostic>,
     /// The warnings of a program.
     pub warnings: Vec<Diagnostic>,
@@ -84,7 +84,7 @@ fn further_of(alloc: Global, text: &[u8], fault: &Fault) -> Vec<Diagnostic> {
 }
 
 /// The explanation of a fault of a text: its place, what was found there and what was expected. After a fault of scope or type
-/// come the further ones, up to twenty in all. Diagnostics for which memory runs out are left out.
+/// come the further ones; with the first, at most twenty. Diagnostics for which memory runs out are left out.
 pub fn explanation_of_fault(alloc: Global, text: &[u8], fault: &Fault) -> Explanation {
     let words = words_of_task(fault.number());
     if words.is_some() {
@@ -160,7 +160,7 @@ pub fn explanation_of_going(alloc: Global, task: &Task, text: &[u8]) -> Explanat
     explanation
 }
 
-/// The explanation of a matter that an answer to a task for a text leaves to be explained.
+/// The explanation of what is to be explained after an answer to a task for a text.
 pub(crate) fn explanation_of_matter(
     alloc: Global,
     task: &Task,

@@ -86,7 +86,7 @@ impl Fault {
         }
     }
 
-    /// The fault's position in the text, from which its line and its explanation are written.
+    /// The fault's position in the text, as `write_fault_line` and `of_fault` of `cc_answers` need it.
     pub(crate) fn stands(&self) -> Stands<'_>
         ensures { (text : List ℕ) → position_text text result ≡ where_text text self.now }
     {

@@ -36,7 +36,7 @@ pub fn read_or_refuse<R: AllocGlobal + Input, F: Files, W: Write, E: Write>(
     writer: &mut W,
     told: &mut E,
 ) -> Result<Option<Vec<NamedText>>, AllocError>
-    // If there are texts, nothing is written.
+    // If the texts could be read, nothing is written.
     ensures { IfOk result (λ texts. IfSome texts (λ _. W.contents writer.new ≡ W.contents writer.old)) }
 {
     match read_texts(rt, files, rt.alloc(), names) {

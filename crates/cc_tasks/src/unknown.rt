@@ -6,7 +6,7 @@ use std::io::{self, Write};
 /// How many names are written if none is near.
 const MOST_NAMES: usize = 8;
 
-// Writes a word; what would steer a terminal is shown as `?`.
+// Writes a word; a byte that could control a terminal is shown as `?`.
 fn write_shown<W: Write>(word: &[u8], writer: &mut W) -> io::Result<()> {
     for byte in word {
         let shown = if byte.is_ascii_graphic() { *byte } else { b'?' };

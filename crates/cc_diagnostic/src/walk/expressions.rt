@@ -37,7 +37,7 @@ struct Applied {
     at: usize,
 }
 
-// The type of the value of what a name denotes; `int` if the name denotes nothing or a `void` function.
+// The type of the value that a name denotes; `int` if the name denotes nothing or a `void` function.
 fn scalar_of(standing: Option<Standing<'_>>) -> Scalar {
     match standing {
         None => Scalar::Int,
@@ -77,7 +77,7 @@ fn slot_of<'a>(standing: Option<Standing<'_>>) -> Slot<'a> {
     }
 }
 
-// The instruction that pushes the value of what a name denotes.
+// The instruction that pushes the value that a name denotes.
 fn load(standing: Option<Standing<'_>>) -> Instruction<'_> {
     match slot_of(standing) {
         Slot::Local(number) => Instruction::Local(number),

@@ -15,7 +15,7 @@ abbrev pub shown : (before : ℕ) → List ℕ → List ℕ
 shown before [] = []
 shown before (byte ∷ bytes) = shown_byte before byte ∷ shown byte bytes
 
--- the last of these bytes, or `before` if there are none
+-- the last of these bytes, or `before` if the list is empty
 abbrev pub last_of : (before : ℕ) → List ℕ → ℕ
 last_of before [] = before
 last_of before (byte ∷ bytes) = last_of byte bytes

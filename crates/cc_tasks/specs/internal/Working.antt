@@ -1,4 +1,4 @@
--- How far a task was done.
+-- How far a task got.
 use Rattle.std.specs.Prelude.{◌≡◌, ◌⊎◌, ℕ, Bool, true, false, List, Option, Result, Ok, Err}
 use Rattle.std.specs.Io.KnownBytes.{Appends, Keeps}
 use Rattle.cc_task.specs.declared.task.Task.{Task}
@@ -35,7 +35,7 @@ IsRefusedFor task text old new fault = (fault ≡ Write) ⊎ (IsRefused task tex
 abbrev pub HasNoAnswer : Task → (input old new : Option (List ℕ)) → Fault → Type 0
 HasNoAnswer task input old new fault = (fault ≡ Write) ⊎ IsToldFault task input old new fault
 
--- the status of an answer that leaves this to be explained
+-- the status of an answer after which this is to be explained
 abbrev pub matter_status : Matter → ℕ
 matter_status Text = 0
 matter_status (Wrong cause) = 0
@@ -52,7 +52,7 @@ abbrev pub IsDoneFor : Task → (input old new : Option (List ℕ)) → Result M
 IsDoneFor task input old new (Ok matter) = (it : IsAnswered task input old new) × (matter_status matter ≡ answer_status it.answer)
 IsDoneFor task input old new (Err fault) = HasNoAnswer task input old new fault
 
--- the status: that of the answer, 1 for a fault
+-- the status of the answer, or 1 for a fault
 abbrev pub status_of : Result Matter Fault → ℕ
 status_of (Ok matter) = matter_status matter
 status_of (Err fault) = 1

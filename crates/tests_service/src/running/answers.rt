@@ -37,7 +37,7 @@ pub fn each_call<N: Own, R: Wait>(rt: &R, alloc: Global, service: Fused<N>) -> R
     Ok(right && is_whole(alloc, &closed)?)
 }
 
-// Lists the names when there are none, adds `b` and then `a`, and replaces `a`: entries 1 to 4.
+// Lists an empty map, adds `b` and then `a`, and replaces `a`: entries 1 to 4.
 fn are_changed<N: Own, R: Wait>(
     rt: &R,
     alloc: Global,
