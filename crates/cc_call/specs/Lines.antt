@@ -10,7 +10,7 @@ use Rattle.cc_call.specs.declared.lines.LineEnd.TheVariants as line
 use Rattle.cc_call.specs.declared.lines.LinesEnd.{LinesEnd}
 use Rattle.cc_call.specs.declared.lines.LinesEnd.TheVariants.{Answered, Refused, Unwritten}
 
--- a line that was answered: the input after it, all that is written then, and its answer
+-- a line that was answered: the input after it, all that is written by then, and its answer
 pub record LineTurn : Type 0 where
   pub rest : List ℕ
   pub written : Option (List ℕ)

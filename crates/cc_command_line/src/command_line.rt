@@ -24,7 +24,8 @@ use std::convert::AsStr;
 pub enum Work {
     /// Perform a task for the text.
     One(Task),
-    /// Show what the compiler makes of each function of the text, or only of the function with that name, for an image of this kind.
+    /// Show each function of the text, or only the function with that name, at each stage of the compiler, for an image of this
+    /// kind.
     Stages(Kind, Option<String>),
     /// Print the newest things that a run of the text does.
     Trace(Traced),

@@ -63,7 +63,7 @@ pub struct Traced {
     pub last: u32,
 }
 
-/// Runs in which it is counted how often each line is reached.
+/// Runs that count how often each line is reached.
 #[derive(Drop)]
 pub struct Covered {
     /// How many steps each run takes at most.

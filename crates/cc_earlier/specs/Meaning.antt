@@ -215,8 +215,8 @@ in_block part s = then_do (part s) (λ flow t. Gives flow (left_scope (length s.
 abbrev pub return : Option Expr → List Binding → Calls → State → Run Flow
 return e bs call s = then_do (evaluate_or 0 e bs call s) (λ w t. Gives (Returns w) t)
 
--- what a statement does, and a list of statements, if at most n steps are left (6.8). A block and each part of a statement are scopes, and
--- a `for` header is a scope around its body (6.8.2, 6.8.4, 6.8.5); a condition that is left out counts as true (6.8.5.3)
+-- what a statement or a list of statements does, if at most n steps are left (6.8). A block and each part of a statement are scopes, and a
+-- `for` header is a scope around its body (6.8.2, 6.8.4, 6.8.5); a condition that is left out counts as true (6.8.5.3)
 abbrev mutual
   pub execute : Stmt → ℕ → Calls → Visible → State → Run Flow
   execute (Block all) n call v s = in_block (execute_all all n call (opened v)) s

@@ -33,7 +33,7 @@ taken (Some bytes) piece next end true remaining more inside kept = sym kept ∙
 taken (Some bytes) piece next end false None more inside kept = kept
 taken (Some bytes) piece next end false (Some later) more inside kept = sym kept ∙ ap (λ (held : List ℕ). held ++ later) (range_more piece next end more inside)
 
--- if `prefix` was handed out and then `back`, then `prefix ++ back` was
+-- if `prefix` was handed out and then `back`, then `prefix ++ back` was handed out
 pub consumed_on : (before between after : Option (List ℕ)) (prefix back : List ℕ) → Consumes before between prefix → Consumes between after back
     → Consumes before after (prefix ++ back)
 consumed_on None between after prefix back one two = tt

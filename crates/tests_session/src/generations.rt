@@ -232,7 +232,7 @@ fn what_a_generation_counts(rt: HostRuntime) -> Result<(), Fail> {
     Ok(())
 }
 
-// While a script is being done, a generation goes on at the lower bound of bytes, and ends at the upper one and after its
+// While a script is being run, a generation goes on at the lower bound of bytes, and ends at the upper one and after its
 // scripts. Once it was found to be at its end, it does not go on.
 #[test]
 fn a_meter_that_clients_share(rt: HostRuntime) -> Result<(), Fail> {

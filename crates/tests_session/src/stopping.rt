@@ -78,7 +78,7 @@ where
     Ok(right)
 }
 
-// The last line of a script is done, an empty script has no line, and a line that can't be done counts as one.
+// The last line of a script is run, an empty script has no line, and a line that can't be run counts as one.
 static LINES: [Case; 4] = [
     ("list\nlist\nlist\n", "ok 1\nfault 61 Stopped\n", Some(61)),
     ("list\n", "ok 2\n", None),
