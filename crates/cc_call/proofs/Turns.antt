@@ -61,8 +61,8 @@ or_none : (a : Bool) → (a || false) ≡ a
 or_none true = refl
 or_none false = refl
 
--- `p` holds for one of the turns and a further one exactly if it holds for one of the turns, or for the
--- further one
+-- if a turn is added to a list, `p` holds for one of the turns exactly if it held for one before, or holds
+-- for the added one
 any_push : (p : LineTurn → Bool) (turns : List LineTurn) (turn : LineTurn) → list_any p (turns ++ turn ∷ []) ≡ (list_any p turns || p turn)
 any_push p turns turn = list_any-append p turns (turn ∷ []) ∙ ap (λ (b : Bool). list_any p turns || b) (or_none (p turn))
 
@@ -91,7 +91,7 @@ module _ (image : Image) (counted : Bool) (steps : ℕ) where
         answers_push t.rest t.written turns left mid turn before.4 both.1 some rest one,
       )
 
-  -- at the beginning, no line was answered yet
+  -- at the beginning, no line has been answered
   pub called_none : (input : List ℕ) (old remaining : Option (List ℕ)) → remaining ≡ Some input → HasCalled image counted steps input old 0 Answered remaining old
   called_none input old remaining is = record { turns = []; left = input; remains = is; answers = (refl, refl); so_far = (refl, refl); number_is = refl }
 
@@ -181,7 +181,7 @@ module _ (image : Image) (counted : Bool) (steps : ℕ) where
     pub ends_uncounted : number ≡ 2 ^ 64 - 1 → CallsLines image counted steps input old mid Refused
     ends_uncounted all = (called.turns, called.left, mid, called.answers, inr (inr (inr (refl, called.number_is ∙ all))))
 
--- if `P` holds for the bytes in case they are known, and implies `Q`, then `Q` does too
+-- if `P` implies `Q`, and the bytes have `P` if they are known, then they have `Q` if they are known
 pub if_known : (known : Option (List ℕ)) (P Q : List ℕ → Type 0) → ((bytes : List ℕ) → known ≡ Some bytes → P bytes → Q bytes) → IfSome known P → IfSome known Q
 if_known None P Q step p = tt
 if_known (Some bytes) P Q step p = step bytes refl p

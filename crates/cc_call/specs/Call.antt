@@ -18,8 +18,7 @@ use Rattle.cc_call.specs.declared.lines.LineEnd.TheVariants.{Answered, BadLine, 
 abbrev pub IsUnitOn : (seen name : List ℕ) → StoredUnit → Type 0
 IsUnitOn seen name unit = (units : Units) × Recovers seen units × IsFound units name unit
 
--- the run is what the image of the unit under the name does on the input words within the bound, with a count exactly if
--- `counted`
+-- the run is what the image of the unit under the name does on the words within the bound, with a count exactly if `counted`
 abbrev pub IsCallOn : (seen name : List ℕ) (counted : Bool) (steps : ℕ) (words : List ℕ) → CountedRun → Type 0
 IsCallOn seen name counted steps words run = (unit : StoredUnit) × IsUnitOn seen name unit × IsCounted unit.image counted steps words run
 

@@ -13,8 +13,7 @@ pub record HasStop (stop : Stop) (old new : Option (List ℕ)) : Type 0 where
   pub after : List ℕ
   pub written : Appends old new (before ++ stop_text stop ++ after)
 
--- the line that says how the run that the interpreter answers stops was written, with some text before and
--- after it
+-- the line that says how the interpreter's run stops was written, with some text before and after it
 pub record IsTraced (steps : ℕ) (words text : List ℕ) (old new : Option (List ℕ)) : Type 0 where
   pub outcome : Outcome
   pub ran : IsRan steps words text (Ran outcome)

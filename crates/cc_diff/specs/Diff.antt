@@ -36,7 +36,7 @@ abbrev pub unless : (same : Bool) → (name : List ℕ) → Difference → List 
 unless true name part = []
 unless false name part = line_of name part ∷ []
 
--- the lines of two units with one name: one line for each of source, image and certificate that differs
+-- the lines for two units with the same name: one line for each of source, image and certificate that differs
 abbrev pub lines_of_both : (name : List ℕ) → (left right : StoredUnit) → List DiffLine
 lines_of_both name left right =
     unless (bytes_eq left.source right.source) name Source
@@ -65,8 +65,7 @@ pub record IsDiff (left right : Units) (lines : List DiffLine) : Type 0 where
 
 -- ---- disks
 
--- the disks recover to two maps, the lines are the differences between the maps, and there are none exactly if the maps are the
--- same
+-- the disks recover to two maps, the lines are their differences, and there are no lines exactly if the maps are the same
 pub record IsDiffOn (seen_left seen_right : List ℕ) (lines : List DiffLine) : Type 0 where
   pub left : Units
   pub right : Units

@@ -49,7 +49,8 @@ fn with_names_of(alloc: Global, left: &UnitMap, right: &UnitMap) -> Result<UnitM
     Ok(both)
 }
 
-/// The differences between two maps: by name, in the order of the names' bytes. Err: memory ran out.
+/// The differences between two maps: by name, in the order of the names' bytes. Fails with `AllocError` if
+/// memory runs out.
 pub fn diff_maps(
     alloc: Global,
     left: &UnitMap,

@@ -1,4 +1,4 @@
-//! What an image does on input words, and how many instructions its run has; and how input words are read from a line of text.
+//! What an image does on input words, and how many instructions it executes; and how input words are read from a line of text.
 //!
 //! `count` runs an image and counts, `words` reads the words of a line, and `written` writes the answer of a run. The crate
 //! does not know libraries, so it is used both to run a library's unit and to run a text. It exports `CountedRun`,

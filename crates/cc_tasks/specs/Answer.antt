@@ -86,8 +86,7 @@ abbrev pub IsMeasured : Mode → (text : List ℕ) → Answer → Type 0
 IsMeasured m text (Measured it) = Measures m text it
 IsMeasured m text answer = ⊥
 
--- what `safe` answers: what may go wrong; if the list is empty, the program goes wrong for no cause, on no input and at no
--- bound
+-- what `safe` answers: what may go wrong; if that is nothing, the program never goes wrong, whatever the input and the bound
 abbrev pub IsJudged : (text : List ℕ) → Answer → Type 0
 IsJudged text (Judged lines) = (p : ProgramOf text) × (lines.items ≡ [] → IsSafe p.program)
 IsJudged text answer = ⊥

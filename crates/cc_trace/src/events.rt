@@ -40,7 +40,7 @@ pub enum Event<'a> {
     Turn(usize),
     /// A variable gets a word.
     Set(&'a Identifier, u32),
-    /// The element with an index gets a word.
+    /// The element at an index gets a word.
     SetElement(&'a Identifier, u32, u32),
     /// A word of the input is read.
     Read(usize, u32),

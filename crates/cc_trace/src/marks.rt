@@ -45,7 +45,7 @@ fn begins(token: Token) -> bool {
     }
 }
 
-// The offsets of the tokens that begin such statements.
+// The offsets of the tokens that begin a statement whose place the tree does not keep.
 fn words_of(alloc: Global, text: &[u8]) -> Result<Vec<usize>, AllocError> {
     match tokens(alloc, text) {
         Ok(tokens) => {

@@ -522,7 +522,7 @@ fn how_many_entries(rt: HostRuntime) {
     must(&rt, folder.end(layout, held), "its end");
 }
 
-// Makes as many directories as a client keeps names.
+// Makes as many directories as the number of names that a client keeps.
 fn fill_with_directories(folder: Folder) -> bool {
     for number in 1000..2024 {
         match format!(in folder.rt.alloc(); "0-{number}") {

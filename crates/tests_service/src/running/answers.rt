@@ -131,8 +131,8 @@ fn are_texts_refused<N: Own, R: Wait>(
     Ok(right)
 }
 
-// Whether the end returns the base, which has no name, the library with the map, and a history and receipts that the model
-// gives too.
+// Whether the end returns the base, which has no name, the library with the map, and a history and receipts with which the
+// model agrees.
 fn is_whole<D: Disk>(alloc: Global, closed: &Closed<D>) -> Result<bool, Fail> {
     let replays = match replayed(closed.history.as_slice(), closed.receipts.as_slice()) {
         Some(model) => model == AFTER,
