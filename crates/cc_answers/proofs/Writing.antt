@@ -25,7 +25,7 @@ one_more text a b c items i item within is one two =
     let more : take i items ++ item ∷ [] ≡ take (i + 1) items = ap (λ x. take i items ++ x ∷ []) (sym is) ∙ sym (take_more items i item within) in
     subst (λ (t : List ℕ). Appends a c t) (flat_map_more text [] (take i items) item ∙ ap (flat_map text) more) (Appends-trans a b c _ _ one two)
 
--- if a text is written, and the writer is then flushed, `Tells` holds
+-- if a text is written, and the writer is then flushed, the text is an answer that was written
 pub told : {T E U : Type 0} (write : Result T E) (answer : Result U ScriptFault) (a b c : Option (List ℕ)) (text : List ℕ) → OnOk write (Appends a b text) → Flushes write b c answer → Tells a c text answer
 told (Ok done) (Ok sent) a b c text one two = (tt, Appends-kept a b c text one two)
 told (Err e) (Ok sent) a b c text one two = absurd two

@@ -21,7 +21,7 @@ const MOST_CLIENTS: u64 = 64;
 /// A server keeps answers for at most this many days.
 const MOST_DAYS: u64 = 3650;
 
-/// A server may be told to remove old answers above a number of bytes. The number is at least this: 1 MiB.
+/// The number of bytes above which a server removes old answers is at least this: 1 MiB.
 const LEAST_DONE: u64 = 1_048_576;
 
 /// The number of bytes above which a server removes old answers is at most this: 1 TiB.

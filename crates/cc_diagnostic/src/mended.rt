@@ -183,7 +183,7 @@ impl Mended {
         self.text.len()
     }
 
-    /// Mends an expression that should be constant but is not. It begins at an offset.
+    /// Replaces the expression at an offset, which should be constant, with `1`.
     pub fn mend_constant(&mut self, tokens: &[Token], at: usize) {
         let end = self.end_of_constant(tokens, at);
         self.blank(at, end);

@@ -221,7 +221,7 @@ fn what_a_generation_counts(rt: HostRuntime) -> Result<(), Fail> {
     let done = served_in_memory(&rt, alloc, spools, 4096, by_scripts(1))?;
     let told = done.generations.as_slice();
     assert!(rt; done.left.end == SessionEnd::Finished && told.len() == 5);
-    // The bytes are 256, the 16 bytes of the source, and what was made of it.
+    // The bytes are 256, the 16 bytes of the source, and what was compiled from it.
     let bytes = told[0].bytes;
     assert!(rt; 256 + 16 < bytes && bytes < 4096);
     assert!(rt; told[0] == ended_well(1, 1, bytes, GenerationEnd::Scripts));

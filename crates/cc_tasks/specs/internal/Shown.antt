@@ -10,8 +10,7 @@ use Rattle.cc_tasks.specs.declared.fault.Fault.TheVariants.{Text, Meaning, Piece
 abbrev pub IsUnknown : (text name : List ℕ) → Type 0
 IsUnknown text name = (p : ProgramOf text) × (IsDefined p.program name → ⊥)
 
--- if the fault is one of the text, it is a refusal of that text, as for every task; it may also be another
--- fault
+-- a fault of the text is a refusal of that text, as for every task; nothing is stated about other faults
 abbrev pub IsTextRefused : (text : List ℕ) → Fault → Type 0
 IsTextRefused text (Text f) = IsTextRefusal text f
 IsTextRefused text (Meaning f) = Unit {0}
