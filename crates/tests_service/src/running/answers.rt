@@ -50,7 +50,7 @@ fn are_changed<N: Own, R: Wait>(
         && done_at(service.replace(rt, alloc, client, b"a", TEXTS[2])) == 4
 }
 
-// Looks at one name and at all, before and after a compaction, which is no entry: entries 5 to 7.
+// Looks at one name and at all, before and after a compaction, which makes no entry: entries 5 to 7.
 fn are_seen<N: Own, R: Wait>(
     rt: &R,
     alloc: Global,

@@ -1,4 +1,4 @@
-// A service on a file that is dropped without an end, and what the next one finds.
+// A service on a file, which is dropped before its end, and what the next service on the file finds.
 
 ghost use Rattle.tests_service.specs.internal.Named.{AreNamed};
 
