@@ -55,7 +55,7 @@ Calls = List ℕ → List ℕ → State → Run ℕ
 
 -- ---- variables and elements by name
 
--- the word of a variable: a local hides what file scope has (6.2.1, 6.5.1)
+-- the word of a variable: a local hides an object at file scope (6.2.1, 6.5.1)
 abbrev pub variable_word : List ℕ → State → ℕ
 variable_word x s = unwrap_or (local_word s.locals x) (unwrap_or (slice_get (earlier_words_of s.globals x) 0) 0)
 

@@ -98,9 +98,9 @@ fn write_of_texts<W: Write>(
     }
 }
 
-/// Writes a diagnostic of a text as `Diagnostic` does, such as `-:4:2: 'totl' is not declared`. If the text is made of others,
-/// the name, the line and the column are those of the text that has the place: `B.c:4:2: 'totl' is not declared`. Fails if the
-/// writer does or memory runs out; some lines may have been written then.
+/// Writes a diagnostic of a text as `Diagnostic` does, such as `-:4:2: 'totl' is not declared`. If the text was joined from
+/// others, the name, the line and the column are those of the text that contains the place: `B.c:4:2: 'totl' is not declared`.
+/// Fails if the writer does or memory runs out; some lines may have been written then.
 pub fn write_diagnostic<W: Write>(
     alloc: Global,
     text: &[u8],

@@ -112,7 +112,7 @@ fn ends(word: &str) -> bool {
     matches!(word.as_bytes(), [_, b';' | b')' | b']' | b'}', _])
 }
 
-// Whether one word of a list ends something.
+// Whether any word of a list ends something.
 fn one_ends(list: &[&str]) -> bool {
     for word in list {
         if ends(word) {

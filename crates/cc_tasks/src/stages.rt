@@ -161,7 +161,7 @@ pub fn perform_stages<H: AllocGlobal, R: Read, W: Write>(
 }
 
 /// Shows the functions as `perform_stages` does, and writes to `explanations` what helps a person with a fault, as
-/// `perform_and_explain` does; if no function has the name, a name near it helps.
+/// `perform_and_explain` does; if no function has the name, it writes which name is near it.
 pub fn perform_and_explain_stages<H: AllocGlobal, R: Read, W: Write, E: Write>(
     rt: &H,
     kind: Kind,
