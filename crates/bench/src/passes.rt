@@ -43,7 +43,7 @@ impl Step {
         }
     }
 
-    // The allocation that the step takes; None if the LTL is refused.
+    // The allocation that the step uses; None if the LTL is refused.
     fn allocation(self, alloc: Global, ltl: &[u8]) -> Option<Allocation> {
         match self {
             Step::Rtl | Step::Live | Step::Colour | Step::Check => Some(Allocation::Chosen),

@@ -40,7 +40,7 @@ said_text Unconfirmed = line (codes " unconfirmed")
 abbrev pub audit_text : (name : List ℕ) → Audit → List ℕ
 audit_text name audit = codes "audit " ++ name ++ said_text audit
 
--- how much of its area a library takes: four numbers on a line; then the same with `ok` after it
+-- how much of its area a library uses: four numbers on a line
 abbrev pub space_line : SpaceUse → List ℕ
 space_line space =
     codes "space " ++ (decimal space.area ++ (codes " " ++ (decimal space.used ++ (codes " " ++ (decimal space.compacted ++ (codes " " ++ (decimal space.units ++ codes "\n")))))))

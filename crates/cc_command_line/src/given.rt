@@ -92,7 +92,7 @@ pub(crate) fn number_of(
     }
 }
 
-/// The same number, if the word or the option is given.
+/// As `number_of`, if the word or the option is given.
 pub(crate) fn number_if_given(
     given: &ArgMatches<'_>,
     name: &str,
@@ -118,7 +118,7 @@ pub(crate) fn steps_of(given: &ArgMatches<'_>) -> Result<u64, Refused>
     number_of(given, "STEPS", 0, MOST_STEPS, STEPS_RULE)
 }
 
-// The words that these texts write; nothing if one of them is not a word.
+// The words that these texts write; `None` if one of them is not a word.
 fn words_in(alloc: Global, texts: &[&str]) -> Result<Option<Vec<u32>>, AllocError> {
     let mut words = Vec::new(alloc);
     for text in texts {
@@ -167,7 +167,7 @@ pub(crate) fn area_of(given: &ArgMatches<'_>) -> Result<u32, Refused>
     }
 }
 
-/// The same number of bytes, if the option is given.
+/// As `area_of`, if the option is given.
 pub(crate) fn area_if_given(given: &ArgMatches<'_>) -> Result<Option<u32>, Refused>
     ensures { IfOk result (λ area. IfSome area (λ a. (64 ≤ a) × (a ≤ 1073741824))) }
 {
@@ -180,7 +180,7 @@ pub(crate) fn area_if_given(given: &ArgMatches<'_>) -> Result<Option<u32>, Refus
     }
 }
 
-/// The text of a word; none if it is not given.
+/// The text of a word; `None` if the word is not given.
 pub(crate) fn text_if_given(
     alloc: Global,
     given: &ArgMatches<'_>,

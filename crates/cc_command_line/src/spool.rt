@@ -21,10 +21,10 @@ const MOST_CLIENTS: u64 = 64;
 /// A server keeps answers for at most this many days.
 const MOST_DAYS: u64 = 3650;
 
-/// A server keeps answers up to a number of bytes before it removes old ones. The number is at least this: 1 MiB.
+/// The number of bytes above which a server removes old answers is at least this: 1 MiB.
 const LEAST_DONE: u64 = 1_048_576;
 
-/// That number is at most this: 1 TiB.
+/// The number of bytes above which a server removes old answers is at most this: 1 TiB.
 const MOST_DONE: u64 = 1_099_511_627_776;
 
 /// A script may be at work for at most this many seconds while others wait.
@@ -171,12 +171,12 @@ pub struct Server {
     pub kind: Kind,
     /// How many scripts are run at a time: 1 to 64.
     pub clients: usize,
-    /// For how many days answers that nobody took away are kept: 1 to 3,650.
+    /// How many days answers that nobody took away are kept: 1 to 3,650.
     pub keep: u32,
     /// How many bytes of answers are kept before the oldest go: 1 MiB to 1 TiB.
     pub done: u64,
-    /// For how many seconds a script may be at work while other scripts wait for a client, or while the end of a generation or of the server
-    /// waits for it: 1 to 86,400.
+    /// How many seconds a script may be at work while other scripts wait for a client, or while the end of a generation or of
+    /// the server waits for it: 1 to 86,400.
     pub patience: u32,
 }
 
@@ -194,7 +194,7 @@ pub struct Submitter {
     /// The path of the file with the source that a line `update` is to replace. It is given exactly if the line's first word is
     /// `update`.
     pub was: Option<String>,
-    /// For how many seconds it waits, whether or not a server is there, if that is given: 1 to 86,400.
+    /// How many seconds it waits, whether or not a server is there: 1 to 86,400, if given.
     pub wait: Option<u32>,
 }
 
@@ -249,7 +249,7 @@ pub(crate) fn serve_of(alloc: Global, given: &ArgMatches<'_>) -> Result<Work, Re
     }))
 }
 
-// For how many seconds a script waits, if that is given.
+// How many seconds a script waits, if that is given.
 fn wait_of(given: &ArgMatches<'_>) -> Result<Option<u32>, Refused>
     ensures { IfOk result (λ wait. IfSome wait (λ seconds. (1 ≤ seconds) × (seconds ≤ 86400))) }
 {
@@ -265,7 +265,7 @@ fn is_word(word: &str) -> bool {
     word.bytes().all(|byte| byte != b' ' && byte != b'\n')
 }
 
-// Whether all of these may be.
+// Whether each of these words may be a word of a line.
 fn are_words(words: &[&str]) -> bool {
     for word in words {
         if !is_word(word) {

@@ -38,14 +38,14 @@ With DISK and NAME the image is that of a unit of a library, as it was stored:
 
 Its code lies from 0x00010000 on, the first values of its globals from 0x00200000 on.";
 
-// The same for `source`.
+// What a person reads below the words of `source`.
 const SOURCE_HELP: &str = "\
 What is printed is the source that was stored, to the byte.
 
 Example:
   cclib source units.disk quotient > quotient.c";
 
-// The same for `size`.
+// What a person reads below the words of `size`.
 const SIZE_HELP: &str = "\
 Without further words the program comes on standard input, or in files:
   cclib size -f main.c -f table.c
@@ -171,7 +171,8 @@ pub(crate) fn source_of(alloc: Global, given: &ArgMatches<'_>) -> Result<Work, R
     wanted_of(alloc, given, Part::Source, at)
 }
 
-/// What `size` asks for: what the image of a unit takes if DISK is given, else a task for a program.
+/// What `size` asks for: how much memory the image of a unit takes if DISK is given, else a task for a
+/// program.
 pub(crate) fn size_of(alloc: Global, given: &ArgMatches<'_>) -> Result<Work, Refused>
     ensures { IfOk result IsAllowed }
 {

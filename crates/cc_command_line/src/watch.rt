@@ -52,7 +52,7 @@ pub(crate) static COVER: Row = Row {
     help: "The program comes on standard input: cclib cover 1000 < examples/quotient.c",
 };
 
-/// A run. The newest things that it does are wanted.
+/// A run to be traced: the newest things that it does are printed.
 #[derive(Drop)]
 pub struct Traced {
     /// How many steps the run takes at most.
@@ -63,7 +63,7 @@ pub struct Traced {
     pub last: u32,
 }
 
-/// Runs. How often they reach each line is wanted.
+/// Runs that count how often each line is reached.
 #[derive(Drop)]
 pub struct Covered {
     /// How many steps each run takes at most.

@@ -152,7 +152,7 @@ fn named(alloc: Global, names: &[String]) -> Result<Vec<String>, AllocError> {
     Ok(all)
 }
 
-// The program's texts; none if one could not be read. The fault is then written and explained.
+// The program's texts; `None` if one could not be read: the fault is then written and explained.
 fn texts_of<R: AllocGlobal + Input, F: Files, W: Write, E: Write>(
     rt: &R,
     files: &F,
@@ -237,8 +237,9 @@ pub fn cover_files<R: AllocGlobal + Input, F: Files, W: Write, E: Write + Drop>(
     cover_inputs(rt, files, names, steps, inputs, true, seen, writer, told)
 }
 
-/// Runs it as `cover_files` does, once for the words of each line of a file; `seen` gets a newline for each. The fault is 50 if
-/// a line of the file is not a list of words, 53 if the file can't be read, and 52 if it has more than 16,777,216 bytes.
+/// Runs the program as `cover_files` does, once for the words of each line of a file; `seen` gets a newline for each run. The
+/// fault is 50 if a line of the file is not a list of words, 53 if the file can't be read, and 52 if it has more than
+/// 16,777,216 bytes.
 pub fn cover_lines<R: AllocGlobal + Input, F: Files, S: Write, W: Write, E: Write + Drop>(
     rt: &R,
     files: &F,

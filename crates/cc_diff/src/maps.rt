@@ -37,7 +37,7 @@ fn add_name(both: &mut UnitMap, other: &UnitMap, name: &Name) -> Result<(), Allo
     }
 }
 
-// A map with the names of both.
+// A map with the names of both maps.
 fn with_names_of(alloc: Global, left: &UnitMap, right: &UnitMap) -> Result<UnitMap, AllocError>
     ensures { IfOk result (HasNamesOf left.now right.now) }
 {
@@ -49,14 +49,15 @@ fn with_names_of(alloc: Global, left: &UnitMap, right: &UnitMap) -> Result<UnitM
     Ok(both)
 }
 
-/// The differences between two maps: by name, in the order of the names' bytes. Err: memory ran out.
+/// The differences between two maps: by name, in the order of the names' bytes. Fails with `AllocError` if
+/// memory runs out.
 pub fn diff_maps(
     alloc: Global,
     left: &UnitMap,
     right: &UnitMap,
 ) -> Result<Vec<DiffLine>, AllocError>
     ensures lines { IfOk result (λ lines. IsDiff left.now right.now lines.items) }
-    // There are none exactly if the two maps are the same.
+    // There are no differences exactly if the two maps are the same.
     ensures equal { IfOk result (λ lines. (lines.items ≡ []) ↔ (left.now ≡ right.now)) }
 {
     let both = with_names_of(alloc, left, right)?;

@@ -20,7 +20,7 @@ use std::rt::Files;
 const NO_MEMORY: &[u8] =
     b"{\"cclib\":1,\"kind\":\"fault\",\"name\":\"OutOfMemory\",\"number\":40}\n";
 
-// An explanation of nothing.
+// An empty explanation.
 fn nothing(alloc: Global) -> Explanation {
     Explanation {
         words: None,

@@ -49,7 +49,7 @@ fn answer_object(alloc: Global, line: &[u8]) -> Result<Object, AllocError> {
     Ok(object)
 }
 
-// The object for a line; nothing if the line is left out.
+// The object for a line; `None` if the line is left out.
 fn object_of(alloc: Global, lines: LineKind, line: &[u8]) -> Result<Option<Object>, AllocError> {
     match lines {
         LineKind::Answers => Ok(Some(answer_object(alloc, line)?)),

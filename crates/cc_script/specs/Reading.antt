@@ -94,7 +94,7 @@ IsNotRead before left EndOfScript = ⊥
 IsNotRead before left WriteFault = ⊥
 IsNotRead before left Stopped = ⊥
 
--- the same for a source of this many bytes; also 51, if fewer are left
+-- why no source of this many bytes is read: 51, if fewer bytes are left; 52 and 53 as for a line
 abbrev pub IsNoSource : (before : Ahead) → (count left : ℕ) → ScriptFault → Type 0
 IsNoSource before count left EndOfScript = HasFewer before.rest count
 IsNoSource before count left ScriptTooLong = IsNotRead before left ScriptTooLong

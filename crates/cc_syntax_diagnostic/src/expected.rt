@@ -1,8 +1,9 @@
 // Which tokens could come in place of an unexpected one.
 //
-// The parser itself decides: the text before the token is parsed with a candidate after it. If the parser then only misses
-// something at the very end, the candidate could come there. So the report agrees with the grammar by construction. Only the
-// external declaration that has the token is kept from the text before it; earlier declarations are complete.
+// The parser itself decides: the text before the token is parsed with a candidate after it. If the parser's only fault is then
+// that something is missing at the very end, the candidate could come there. So the report agrees with the grammar by
+// construction. From the text before the token, only the external declaration around it is kept; earlier declarations are
+// complete.
 
 use cc_syntax::{Punctuator, SyntaxFault, Token, TokenKind, parse, place_at};
 use std::alloc::{AllocError, Global};
@@ -282,7 +283,7 @@ static OTHERS: [Phrase; 11] = [
     },
 ];
 
-// The first one that fits is reported.
+// The first beginning that fits is reported.
 static BEGINNINGS: [Beginning; 5] = [
     Beginning {
         phrase: Phrase {

@@ -2,5 +2,5 @@
 pub mod Stages
 -- Why the stages of a text's functions are not shown.
 pub mod Shown
--- How far a task was done.
+-- How far a task got.
 pub mod Working

@@ -413,7 +413,7 @@ fn shown(machine: &mut Machine, steps: u64) -> Result<(MachineOutcome, Option<u3
     Ok((outcome, machine.output().first().copied()))
 }
 
-// The same after two runs, of `before` and of `steps` instructions.
+// As `shown`, after two runs, of `before` and of `steps` instructions.
 fn shown_twice(
     machine: &mut Machine,
     before: u64,

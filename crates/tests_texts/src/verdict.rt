@@ -13,7 +13,7 @@ pub fn passes(answer: Result<bool, Fail>) -> Result<(), Fail> {
     }
 }
 
-/// The same, but a failure also has this text.
+/// As `passes`, but a failure also has this text.
 pub fn passes_for(answer: Result<bool, Fail>, text: &str) -> Result<(), Fail> {
     match answer {
         Ok(true) => Ok(()),

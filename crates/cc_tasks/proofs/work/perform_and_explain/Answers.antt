@@ -1,4 +1,4 @@
--- How the task that was done ended.
+-- How the performed task ended.
 use Rattle.cc_tasks.proofs.Working.{performed}
 use Rattle.cc_tasks.proofs.work.perform_and_explain.Goals as goal
 
