@@ -114,8 +114,7 @@ HasNoProgram text OutOfMemory = Unit {0}
 HasNoProgram text Read = ⊥
 HasNoProgram text Write = ⊥
 
--- why a text gets no answer from a task that makes an image: the text is not a program, it has no image in the mode, or memory
--- was refused
+-- why a text gets no answer from a task that makes an image: the text is not a program, it has no image in the mode, or memory was refused
 abbrev pub HasNoImage : Mode → (text : List ℕ) → Fault → Type 0
 HasNoImage m text (Text f) = IsTextRefusal text f
 HasNoImage m text (Meaning f) = ⊥
