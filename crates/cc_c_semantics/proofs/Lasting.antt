@@ -127,7 +127,7 @@ pub lasts_choose : {A B : Type 0} (W : ℕ → B → Type 0) (k w : ℕ) (holds 
 lasts_choose W k zero holds fails s later other p q = q
 lasts_choose W k (suc w) holds fails s later other p q = p
 
--- if a part gives a result within `i` steps, so does the part after spending a step, within one step more
+-- if a part gives a result within `i` steps, a step followed by that part gives it within `i` + 1 steps
 lasts_step : {A B : Type 0} (V W : ℕ → B → Type 0) (i : ℕ) (s : State) (r : Run A) (later : B → State → Run A) → ((j : ℕ) (b : B) → V (suc j) b → W j b)
     → Lasts W i r (λ b j. later b (at s j)) → Lasts V (suc i) r (λ b j. spend_of j (later b) (at s j))
 lasts_step V W i s (Gives x t) later within h = (
@@ -165,7 +165,7 @@ lasts_body W Breaks go s later h = lasts_gives W Falls s
 lasts_body W Continues go s later h = h
 lasts_body W (Returns w) go s later h = lasts_gives W (Returns w) s
 
--- the body of a loop, which spends a step when it begins
+-- if a loop's body and what follows it give results, so does the body after the step that it spends when it begins
 pub lasts_begin : {B : Type 0} (V W : ℕ → B → Type 0) → Lowers W → (s : State) (body go : State → Run Flow) (bodies later : B → State → Run Flow)
     → ((j : ℕ) (b : B) → V (suc j) b → W j b)
     → ((i : ℕ) → suc i ≡ s.steps → Lasts W i (body (at s i)) (λ b j. bodies b (at s j)))
@@ -187,7 +187,7 @@ pub record Steady {A B : Type 0} (W : ℕ → B → Type 0) (part : B → State 
 pub steady_gives : {A B : Type 0} (W : ℕ → B → Type 0) (x : A) → Steady W (λ (b : B) s. Gives x s)
 steady_gives W x = record { grows = λ b s. begins_refl s.output; lasts = λ b s w. lasts_gives W x s }
 
--- one part, followed by another, which may use the earlier locals
+-- if the facts hold for a part, and for another that may use the earlier locals, they hold for the first followed by the second
 pub steady_then : {A C B : Type 0} (W : ℕ → B → Type 0) → Lowers W → (first : B → State → Run A) (rest : List Local → A → B → State → Run C)
     → Steady W first → ((ls : List Local) (x : A) → Steady W (rest ls x)) → Steady W (λ b s. then_do (first b s) (λ x t. rest s.locals x b t))
 steady_then W low first rest p q = record {

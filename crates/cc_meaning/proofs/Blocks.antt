@@ -67,7 +67,8 @@ module _ (form : FormTree) (cs : List Activation) (total : ℕ) where
     pub fits : Fits v total most variables t
     pub leads : Leads form c (conf q variables [] cs t)
 
-  -- the same, but with further locals of inner scopes, which no name refers to after that
+  -- from `c`, the form reaches `q` with the state `t`, which has further locals of inner scopes; no name
+  -- refers to those after that
   pub record Leaves (c : Configuration) (v : Environment) (most q : ℕ) (t : State) : Type 0 where
     pub extra : List (List ℕ)
     pub variables : List ℕ

@@ -55,7 +55,7 @@ pub enum Instruction {
     Repeat(usize),
     /// Spends a step; stops if none is left.
     Step,
-    /// Calls the function with this number, in the order of definitions.
+    /// Calls the function with this number; functions are numbered in the order of their definitions.
     Call(usize),
     /// Pushes the next word of the input, or 0 if none is left.
     Read,

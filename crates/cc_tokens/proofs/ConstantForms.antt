@@ -76,7 +76,7 @@ behind_found base n behind c =
     (and_cases (n == 0) (not (base == 8)) digits))
     e)
 
--- at least one decimal digit, beginning with one that is not 0
+-- if the first decimal digit is not 0, the prefix before the digits is empty
 decimal_digits : (b : ℕ) (bs : List ℕ) (n : ℕ) → (b ≡ 48 → ⊥) → (n ≡ 0 → ◌≡◌ {A = ℕ} 10 8) → IsPrefix [] 10 (take n (b ∷ bs))
 decimal_digits b bs zero apart some = absurd (let e = some refl in omega arith)
 decimal_digits b bs (suc n) apart some = decimal apart

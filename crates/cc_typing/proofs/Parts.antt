@@ -46,7 +46,7 @@ next f g whole xs ys os cs ds es before eo ee eg =
 pub last : (f whole : Found) (os : List RuleError) (es : List Name) → after f os es ≡ whole → os ≡ [] → es ≡ [] → f ≡ whole
 last f whole os es before eo ee = sym (after_nothing f) ∙ sym (ap (λ l. after f l []) eo) ∙ sym (ap (after f os) ee) ∙ before
 
--- what recording an error or a call does
+-- recording an error, or a call, adds just that one to what was found
 pub noted_one : (f : Found) (o : RuleError) → record f { first = Some (earlier f.first o) } ≡ after f (o ∷ []) []
 noted_one f o = refl
 
