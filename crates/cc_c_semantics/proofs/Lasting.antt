@@ -1,7 +1,7 @@
 -- A part of a run with more steps, and with a larger bound on its recursion. Three facts hold for each part: it only adds to the
--- output; an answer needs no more steps than it spends, and stays the same with any number more, for any bound; and a part that
--- had no step left continues, while one that went wrong goes wrong in the same way. This file shows them for the ways in which
--- parts are combined.
+-- output; a part that answers needs no more steps than it spends, and gives the same answer with any number more, for any bound;
+-- and a part that had no step left continues, while one that went wrong goes wrong in the same way. This file shows them for the
+-- ways in which parts are combined.
 use Rattle.std.proofs.Common.{◌≡◌, ℕ, zero, suc, ◌+◌, ◌<◌, ◌≤◌, List, [], ◌++◌, Option, Some, None, refl, sym, ap, ◌∙◌, subst, arith, append_assoc, append-nil}
 use Rattle.cc_c_semantics.specs.Meaning.{Local, State, Run, Gives, Going, Wrong, Flow, Falls, Breaks, Continues, Returns, then_do, choose, spend_of, behind_flow, behind_body, begin_body, turns, unless_decided}
 use Rattle.cc_simulation.specs.Behavior.{IsPrefixOf}
@@ -77,7 +77,7 @@ pub record Lowers {B : Type 0} (Within : ℕ → B → Type 0) : Type 0 where
 pub lasts_gives : {A B : Type 0} (Within : ℕ → B → Type 0) (x : A) (t : State) → Lasts Within t.steps (Gives x t) (λ (b : B) j. Gives x (at t j))
 lasts_gives Within x t = (0, omega arith, λ j b w. ap (λ n. Gives x (at t n)) (let e : 0 + j ≡ j = omega arith in e))
 
--- a part that does the same under another kind of bound also gives r
+-- if a part gives r, it also gives r when it is described with another kind of bound
 pub lasts_by : {A B C : Type 0} (V : ℕ → C → Type 0) (W : ℕ → B → Type 0) (f : C → B) (k : ℕ) (r : Run A) (go : B → ℕ → Run A) (other : C → ℕ → Run A)
     → ((j : ℕ) (c : C) → V j c → W j (f c)) → ((j : ℕ) (c : C) → V j c → other c j ≡ go (f c) j) → Lasts W k r go → Lasts V k r other
 lasts_by V W f k (Gives x t) go other within same h = (h.0, h.1, λ j c v. same (h.0 + j) c v ∙ h.2 j (f c) (within (h.0 + j) c v))
@@ -237,7 +237,7 @@ Both k b = (k < b.0) × (k < b.1)
 both : Lowers Both
 both = record { lower = λ j k b le h. (let p = h.0 in omega arith, let p = h.1 in omega arith) }
 
--- the same two bounds, for one step more
+-- both bounds, for one step more
 abbrev Further : ℕ → ℕ × ℕ → Type 0
 Further k b = (suc k < b.0) × (suc k < b.1)
 

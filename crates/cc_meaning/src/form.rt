@@ -65,7 +65,7 @@ pub enum Instruction {
     Return,
 }
 
-/// The index of a function's first instruction, how many parameters it has, and how many other variables.
+/// The index of a function's first instruction, how many parameters the function has, and how many other variables.
 #[derive(Clone, Copy)]
 pub struct Entry {
     pub start: usize,

@@ -95,7 +95,7 @@ unexpected s tokens k x r c h = inl (c.inside, no_unit)
         let rest = follow r.placed b.2.0 start s (AtFile b.1 Between) (x ∷ b.0) r.runs (read_unit b.1 b.2.0 b.2.1) same in
         stuck (AtFile b.1 Between) rest.0 b.0 rest.2 rest.3
 
--- if the text ends where no unit may end, its tokens spell no tree
+-- if no unit may end at the end of the text, the text's tokens spell no tree
 pub unexpected_end : (s : State) (tokens : List Lexeme) (k : ℕ) → Reached s tokens → k ≡ length tokens → tree_of s ≡ None → UnexpectedAt tokens k
 unexpected_end s tokens k r e h = inr (e, λ tree spelled. none tree spelled.0 spelled.1 (runs-one start s (AtFile tree Between) r.placed spelled.0 r.runs (read_unit tree spelled.0 spelled.1) (r.same ∙ sym spelled.2)).1)
   where

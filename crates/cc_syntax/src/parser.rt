@@ -58,7 +58,7 @@ fn place_of_token(text: &[u8], tokens: &[Token], number: usize) -> Place
     }
 }
 
-/// The fault for a text whose tokens were refused, by the grammar, a limit, or lack of memory.
+/// The fault for a text whose tokens were refused because of the grammar, a limit, or lack of memory.
 fn fault_of(text: &[u8], tokens: &[Token], refusal: Refusal) -> SyntaxFault
     requires fits { length text.now ≤ most_bytes }
     requires ordered { AreInOrder 0 tokens.now (length text.now) }

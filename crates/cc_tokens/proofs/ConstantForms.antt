@@ -39,7 +39,7 @@ long_suffix : (a b : ℕ) (bs : List ℕ) → suffix_of (a ∷ b ∷ bs) ≡ Non
 unfolding suffix_of
 long_suffix a b bs = cond-false _ _ _ (ne_eqb (length (a ∷ b ∷ bs)) 0 (λ e. omega arith)) ∙ cond-false _ _ _ (and_left _ _ (ne_eqb (length (a ∷ b ∷ bs)) 1 (λ e. omega arith)))
 
--- what is accepted as a suffix is one
+-- what is accepted as a suffix is a suffix
 suffix_found : (bs : List ℕ) (s : Bool) → suffix_of bs ≡ Some s → IsSuffix bs s
 unfolding suffix_of
 suffix_found [] true e = absurd (false≢true (some_same _ _ e))

@@ -16,7 +16,7 @@ use Rattle.cc_tokens.proofs.Tables.{keyword_named-bytes}
 use Rattle.cc_tokens.proofs.Words.{found_passes, missing_fails}
 use Rattle.cc_tokens.proofs.Punctuators.{is_descending, longest_first, head_test, punctuator_found, punctuator_longest, punctuator_missing, punctuator_one}
 
--- the keyword of some bytes is among those with the same first byte
+-- a search for a keyword among those with its first byte finds that keyword
 keyword_among : (k : Keyword) → find (λ j. bytes_eq (keyword_bytes j) (keyword_bytes k)) (keywords_with (slice_index (keyword_bytes k) 0)) ≡ Some k
 keyword_among keyword.Auto = refl
 keyword_among keyword.Break = refl

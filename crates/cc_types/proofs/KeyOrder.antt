@@ -1,4 +1,4 @@
--- A map ordered by its keys' bytes finds exactly the names that are the same.
+-- A look-up in a map ordered by its keys' bytes finds exactly the key that is the same name.
 use Rattle.std.proofs.Common.{◌≡◌, ℕ, Bool, cond, List, Option, sym, ap, ◌∙◌, Bor}
 use Rattle.std.specs.Cmp.Lexicographic.{slice_cmp, texts_ties}
 use Rattle.std.specs.declared.cmp.Ordering.{Ordering}

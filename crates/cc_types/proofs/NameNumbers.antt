@@ -9,7 +9,7 @@ use Rattle.cc_types.specs.Numberings.{numbered_in, number_of_name, number_or_nex
 use Rattle.std.specs.Ordering.{is_eq}
 use Rattle.cc_types.proofs.KeyOrder.{same_key, key_cmp, same_key-ties, lookup-get}
 
--- what the map has for a name is its number
+-- a look-up of a name in the map's entries finds the name's number
 pub lookup-numbered : (entries : List (Bor (List ℕ) × ℕ)) (q : Bor (List ℕ)) → lookup (same_key q) entries ≡ number_of_name (numbered_in entries) q.now
 lookup-numbered [] q = refl
 lookup-numbered (e ∷ es) q = ap (cond (same_name q.now e.0.now) (Some e.1)) (lookup-numbered es q)

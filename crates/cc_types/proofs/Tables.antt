@@ -77,7 +77,8 @@ entity_found-is (b ∷ bs) x (Some n) e h =
     ap (λ a. Some (entity_of a)) (h b) ∙ ap (λ (l : List Binding). Some (entity_of (get_or l n.number b).entity)) (sym (reverse-reverse (b ∷ bs)))
     ∙ sym ((at-reverse (reverse (b ∷ bs)) x n.number (sym e)).entity b)
 
--- a look-up finds the same if the entity is read from a list with one more binding at its end
+-- a look-up finds what the name denotes even if the entity is read from a list with one more binding at its
+-- end
 pub entity_found-pushed : (bs : List Binding) (b : Binding) (x : List ℕ) (r : Option Newest) → number_of r ≡ number_in (bindings_of bs) x
     → IfSome r (λ n. (d : Binding) → n.entity ≡ (get_or (bs ++ b ∷ []) n.number d).entity) → entity_found r ≡ scope.found (bindings_of bs) x
 entity_found-pushed bs b x None e h = entity_found-is bs x None e tt
