@@ -114,7 +114,7 @@ signature_takes s f e =
 
 -- ---- objects
 
--- the names of the laid-out objects
+-- one of these laid-out objects has this name
 abbrev named_in : List LaidObject → List ℕ → Bool
 named_in [] x = false
 named_in (p ∷ rest) x = same_name p.name x || named_in rest x

@@ -75,7 +75,7 @@ module _ (form : FormTree) (cs : List Activation) (total : ℕ) where
     pub fits : Fits (over extra v) total most variables t
     pub leads : Leads form c (conf q variables [] cs t)
 
-  -- the form reaches a return of a word
+  -- from `c`, the form reaches a return of the word `w`
   pub record Brings (layout : Layout) (c : Configuration) (most w : ℕ) (t : State) : Type 0 where
     pub offset : ℕ
     pub variables : List ℕ

@@ -41,7 +41,7 @@ record Broken (text : List ℕ) (f : SyntaxFault) : Type 0 where
   before : IsFineBefore tokens number
   here : RefusedAt text tokens number f
 
--- the three kinds of refusal
+-- the three reasons for a refusal: the text is too long, it has a lexical error, or one of its tokens is refused
 data Kind (text : List ℕ) (f : SyntaxFault) : Type 0 where
   long : f ≡ fault.SourceTooLarge → 65536 < length text → Kind text f
   erroneous : IsLexicalFault text f → Kind text f

@@ -13,7 +13,7 @@ operand c n ws = InFull (full_of c ws n) Operand
 abbrev pub operator : Context → ℕ → List Waiting → Expr → State
 operator c n ws e = InFull (full_of c ws n) (Operator e)
 
--- the count after the tokens of a list
+-- the count after the tokens of a list, if `n` tokens were counted before them
 abbrev pub count_after : ℕ → List Lexeme → ℕ
 count_after n [] = n
 count_after n (x ∷ xs) = count_after (suc n) xs

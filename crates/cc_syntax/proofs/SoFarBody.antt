@@ -13,7 +13,7 @@ use Rattle.cc_syntax.proofs.Forms.{count_after}
 use Rattle.cc_syntax.proofs.ReadsAction.{terminator}
 use Rattle.cc_syntax.proofs.ReadsStatement.{CanStand}
 
--- the level of what begins inside this many open statements
+-- the level of what begins inside these open statements
 abbrev pub depth : List Open → ℕ
 depth os = suc (suc (length os))
 
