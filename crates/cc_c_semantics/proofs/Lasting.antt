@@ -165,7 +165,7 @@ lasts_body W Breaks go s later h = lasts_gives W Falls s
 lasts_body W Continues go s later h = h
 lasts_body W (Returns w) go s later h = lasts_gives W (Returns w) s
 
--- if a loop's body and what follows it give results, so does the body after the step that it spends when it begins
+-- if a loop's body and what follows it give results, so do both together, with the step that the body spends when it begins
 pub lasts_begin : {B : Type 0} (V W : ℕ → B → Type 0) → Lowers W → (s : State) (body go : State → Run Flow) (bodies later : B → State → Run Flow)
     → ((j : ℕ) (b : B) → V (suc j) b → W j b)
     → ((i : ℕ) → suc i ≡ s.steps → Lasts W i (body (at s i)) (λ b j. bodies b (at s j)))
