@@ -165,7 +165,7 @@ pub enum Object {
     Single(Identifier, Option<ConstantExpression>),
     /// An array: its length if given, and the values of its initialiser list (none if there is no list).
     Array(Identifier, Option<ConstantExpression>, Vec<ConstantExpression>),
-    /// The same for an array of `unsigned char`.
+    /// An array of `unsigned char`: its length and its values, as for `Array`.
     Bytes(Identifier, Option<ConstantExpression>, Vec<ConstantExpression>),
 }
 

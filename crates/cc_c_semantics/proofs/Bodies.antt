@@ -152,7 +152,7 @@ main_named (Objects t os ∷ rest) d = main_named rest d
 abbrev pub final_scope : List External → FileScope
 final_scope unit = file_scope_behind_all unit first_file_scope
 
--- how many words a name takes in a call, given what it denotes at the end of the unit
+-- in a call, a name takes as many words as what it denotes at the end of the unit requires
 takes_by : (unit : List External) → IsTyped unit → (x : List ℕ) (r : Option Scalar) (ts : List Scalar) (writes reads : Bool) → same_name x (codes "write_word") ≡ writes → same_name x (codes "read_word") ≡ reads
     → found (final_scope unit).bindings x ≡ Some (scope.Function r ts) → has_name (final_scope unit).defined x ≡ true → Takes (names_in unit) (functions unit) x (length ts)
 takes_by unit typed x r ts true reads w d e has =
@@ -209,7 +209,7 @@ module _ (unit : List External) (typed : IsTyped unit) where
   abbrev TakesHere : List ℕ → ℕ → Type 0
   TakesHere = Takes (names_in unit) (functions unit)
 
-  -- what names refer to at the start of a body
+  -- at the start of a body, the names in scope refer to what `Scoped` says
   pub body_scoped : (s : Signature) (body : Stmts) (rest : List External) (f : FileScope) → file_scope_behind_all rest (file_scope_behind (Definition s body) f) ≡ final_scope unit
       → Scoped layout known TakesHere (environment_of layout s f)
   body_scoped s body rest f whole =

@@ -37,7 +37,7 @@ as_many_arities unit = length-map (functions unit) (λ (g : Function). length g.
 pub get_next : {A : Type 0} (x : A) (xs : List A) (k : ℕ) → slice_get (x ∷ xs) (1 + k) ≡ slice_get xs k
 get_next x xs k = ap (λ n. slice_get (x ∷ xs) n) (let z : 1 + k ≡ suc k = omega arith in z)
 
--- the name that has a name's number is that name
+-- the name at the place that a name's number gives is that name
 named_by : (y : List ℕ) (rest : List (List ℕ)) (x : List ℕ) (b : Bool) → same_name y x ≡ b → (if b then 0 else 1 + names_before rest x) < suc (length rest)
     → (names_before rest x < length rest → unwrap_or (slice_get rest (names_before rest x)) [] ≡ x) → unwrap_or (slice_get (y ∷ rest) (if b then 0 else 1 + names_before rest x)) [] ≡ x
 named_by y rest x true e lt ih = same_text y x (sym e)

@@ -114,7 +114,7 @@ signature_takes s f e =
 
 -- ---- objects
 
--- the names of the laid-out objects
+-- one of these laid-out objects has this name
 abbrev named_in : List LaidObject → List ℕ → Bool
 named_in [] x = false
 named_in (p ∷ rest) x = same_name p.name x || named_in rest x
@@ -152,7 +152,7 @@ declared_kept : (y x : List ℕ) (e' : Entity) (f : FileScope) (o : Option Entit
 declared_kept y x e' f None e h = absurd (true≢false (sym h))
 declared_kept y x e' f (Some z) e h = ap is_some (keeps_declared y x z e' f e)
 
--- what a look-up finds once a name is declared, depending on whether the name was declared before
+-- once a name is declared, a look-up finds what it found before, or the new entity if the name was not declared before
 new_by : (f : FileScope) (y x : List ℕ) (e' : Entity) (t : Scalar) (b c : Bool) (P : Type 0) → is_declared f.bindings y ≡ b → same_name y x ≡ c
     → found (if b then f.bindings else record { name = y; entity = e' } ∷ f.bindings) x ≡ Some (Variable t)
     → (found f.bindings x ≡ Some (Variable t) → P) → (b ≡ false → c ≡ true → e' ≡ Variable t → P) → P

@@ -44,7 +44,7 @@ IsRight (Wrong cause) = ⊥
 pub record ChecksSource (source : Source) (input : List ℕ) : Type 0 where
   -- as long as the source has not gone wrong, the checked program shows the same
   pub right : (n : ℕ) → IsRight (source_behavior source input n).stop → checked_behavior source input n ≡ source_behavior source input n
-  -- if the source goes wrong other than by depth, the checked program with any more steps is still running, with that output
+  -- if the source goes wrong, but not because of depth, the checked program with any more steps still runs, with that output
   pub still : (n more : ℕ) (cause : Cause) → (source_behavior source input n).stop ≡ Wrong cause → stays Checked cause ≡ true
       → checked_behavior source input (n + more) ≡ record { stop = Going; output = (source_behavior source input n).output }
   -- the checked program goes wrong only if calls in the source are nested too deep

@@ -58,7 +58,7 @@ pub record HasMeaning (unit : List External) : Type 0 where
   -- with no step left a call is unfinished
   pub none_left : (opened f : ℕ) (ws : List ℕ) (h : Shared) → f < length (functions unit) →
       call_function unit 0 opened f ws h ≡ Unfinished h.output
-  -- while the largest number of calls is open, a call spends a step and goes wrong
+  -- while `most_open` calls are open, a call spends a step and goes wrong
   pub too_deep : (n f : ℕ) (ws : List ℕ) (h : Shared) → f < length (functions unit) →
       call_function unit (suc n) most_open f ws h ≡ Failed Depth h.output
   -- otherwise a call with n + 1 steps does what the body does with n

@@ -58,7 +58,7 @@ other_names (x ∷ xs) = xs
 abbrev unnamed : NamedSize → world.Size
 unnamed z = record { width = z.width; elements = z.elements }
 
--- the objects of a world, with the names of the layout
+-- objects that are given the names of the layout have its sizes, and are unchanged once the names are removed
 sized_named : (ps : List LaidObject) (xs : List (List ℕ)) (os : List world.Object) → xs ≡ map (λ (p : LaidObject). p.name) ps → map world.size_of os ≡ map unnamed (laid_sizes ps)
     → (sizes (named xs os) ≡ laid_sizes ps) × (objects_of (named xs os) ≡ os)
 sized_named [] [] [] e f = (refl, refl)

@@ -61,7 +61,8 @@ nothing_is (Unary op a) l h b e is = absurd (cc)
 nothing_is (Binary op a c) l h b e is = absurd (cc)
 nothing_is (Load width o a) l h b e is = absurd (cc)
 
--- `==` and `!=`: the left operand if the right one is 0, else a word that is 0 exactly if they are equal
+-- for `==` and `!=` a branch may test the left operand if the right one is 0, else a word that is 0 exactly if the
+-- operands are equal
 equality_tests : (x y : Expression) (r : Bool) (l : ℕ → ℕ) (h : World) (a b w : ℕ) → value x l h ≡ Some a → value y l h ≡ Some b → not (a == b) ≡ flipped r (is_true w)
     → Tests (if is_nothing y then x else Binary two.Xor x y) r l h w
 equality_tests x y r l h a b w p q e = by (is_nothing y) refl

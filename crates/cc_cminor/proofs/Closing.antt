@@ -24,7 +24,7 @@ drop-one zero l = refl
 drop-one (suc n) [] = refl
 drop-one (suc n) (x ∷ l) = drop-one n l
 
--- one more local is removed
+-- if more than `locals` locals are left, `Closing` still holds after one more is removed
 pub closing-next : (locals number : ℕ) (v w u : Environment) → Closing locals v w → number ≡ length w.locals → locals < number
     → u ≡ record w { visible = record w.visible { inner = drop 1 w.visible.inner }; locals = drop 1 w.locals } → Closing locals v u
 closing-next locals number v w u h n lt e =

@@ -135,7 +135,7 @@ last_size [] = omega arith
 last_size (e ∷ []) = omega arith
 last_size (e ∷ f ∷ rest) = let a = last_size (f ∷ rest) in omega arith
 
--- the statements of a list, each with what joins it to the next one
+-- the size of the statements of a list, each with what joins it to the next one
 abbrev total : List Statement → ℕ
 total [] = 0
 total (s ∷ rest) = suc (statement_size s) + total rest

@@ -14,8 +14,8 @@
 -- it (Tokens).
 --
 -- Numbers below their limits: a unit's text has at most 512 tokens in a full expression (Longest); by the limits a function has
--- at most 8 parameters and 256 locals, and a unit 64 functions and 65,536 words of objects (Limits). A value that waits is above
--- the locals in scope, with fewer above them than its expression has tokens (Fits).
+-- at most 8 parameters and 256 locals, and a unit 64 functions and 65,536 words of objects (Limits). A value that waits is in a
+-- variable above the locals in scope; fewer variables above them are used than the full expression has tokens (Fits).
 -- a break is a cut at which the run goes wrong
 pub mod Breaks
 -- paths of a run, and what the code must do for a part of the source

@@ -122,7 +122,7 @@ module _ (effect : Calling) where
   pub one : (c d : Config) (n : ℕ) → cminor_move c ≡ Goes d → Reaches c n n d
   one c d n e = record { m = 1; t = 0; way = one_move c d e; fewer = omega arith; paid = omega arith }
 
-  -- a move that pays for a step
+  -- one move reaches the next configuration, and pays for one step
   pub one_paid : (c d : Config) (n : ℕ) → cminor_move c ≡ Goes d → Reaches c (suc n) n d
   one_paid c d n e = record { m = 1; t = 0; way = one_move c d e; fewer = omega arith; paid = omega arith }
 
@@ -156,7 +156,7 @@ module _ (effect : Calling) where
   pub stuck_moved : (b : Bool) (c d : Config) (n : ℕ) (o : List ℕ) → cminor_move c ≡ Goes d → Stuck b d n o → Stuck b c n o
   stuck_moved b c d n o e h = stuck_after b c d n n o (one c d n e) h
 
-  -- the run breaks here
+  -- if the first move is one that the run cannot make, the run breaks at once
   pub stuck_here : (b : Bool) (c : Config) (n : ℕ) (o : List ℕ) → cminor_move c ≡ Fails → cminor_output c ≡ o → Stuck b c n o
   stuck_here true c n o e f = inr (record { k = 1; j = 0; broke = ap (λ x. broken_act effect.does x (cminor_output c) 0 (breaks 0)) e ∙ ap (λ x. Some x) f })
   stuck_here false c n o e f = record { k = 1; j = 0; wrong = ap (λ x. act effect.does x (cminor_output c) 0 (runs 0)) e ∙ ap (λ x. record { stop = Wrong; output = x }) f }
@@ -188,7 +188,7 @@ module _ (effect : Calling) where
   comes_as Q R c n (meaning.Going o) h f = h
   comes_as Q R c n (meaning.Wrong cause o) h f = h
 
-  -- the run has already arrived
+  -- if Q holds already, the run has arrived without a move
   pub comes_here : {A : Type 0} (Q : A → State → Config → Type 0) (c : Config) (x : A) (s : State) → Q x s c → Comes Q c s.steps (Gives x s)
   comes_here Q c x s q = record { to = c; reaches = reaches_refl c s.steps; is = q }
 

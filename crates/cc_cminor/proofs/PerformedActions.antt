@@ -1,4 +1,4 @@
--- Assignments, increments and declarations.
+-- The code of assignments, increments and declarations does what they do in the source.
 use Rattle.std.proofs.Common.{◌≡◌, ℕ, suc, ◌<◌, ◌≤◌, Bool, true, false, if◌then◌else◌, List, [], ◌∷◌, ◌++◌, length, nat_lt, Option, Some, None, option_map, unwrap_or, is_some, slice_set, length-set, refl, sym, ap, ◌∙◌, subst, arith}
 use Rattle.std.proofs.lemmas.Bool.{ltb-true, ltb-false}
 use Rattle.std.proofs.lemmas.Option.{slice_get_past}
@@ -164,7 +164,8 @@ module _ (effect : Calling) (g : Layout) where
   element_comes ns x k i e κ l s (meaning.Wrong cause o) known at h p =
       stuck_here effect (stays effect.mode cause) (config (Store (width_of g x) (object_of g x) (Local k) e) κ l (world_at s)) s.steps o (store_needs (width_of g x) (object_of g x) k (λ y. y) (λ y m z missing. missing) e κ l (world_at s) p.0) (sym p.1)
 
-  -- the new value, given the old one and that of the right side
+  -- the code's expression has the new value that the source computes from the old one and that of the right
+  -- side
   new_by : (aop : Option BinaryOperator) (t u : Scalar) (d : Destination) (old e : Expression) (w : ℕ) (l : ℕ → ℕ) (s : State) → TakesBoth aop → PlainIs (old_value d s) s (value old l (world_at s)) → value e l (world_at s) ≡ Some w
       → PlainIs (new_value aop t u d w s) s (value (combined aop t u old e) l (world_at s))
   new_by None t u d old e w l s both p is = (refl, is)
@@ -174,7 +175,8 @@ module _ (effect : Calling) (g : Layout) where
       (λ x. subst (λ o. PlainIs (given op (binary_word op (working_type op t u) x w) s) s (then_value o (λ y. binary_word op (working_type op t u) x y))) (sym is) (plain_given op (binary_word op (working_type op t u) x w) s)))
 
   module _ (call : meaning.Calls) (n : ℕ) (facts : CallFacts effect g call n) where
-    -- the value is one expression of Cminor, or an expression with code before it
+    -- code that uses a value continues with it, whether the value is one expression of Cminor or has code
+    -- before it
     pub using_comes : {A : Type 0} (R : A → State → Config → Type 0) (e : Expr) (v : Environment) (k : ℕ) (f : Expression → Statement) (κ : Continuation) (l : ℕ → ℕ) (s : State) (go : ℕ → State → Run A)
         → NeedsValue f → Known g v e → free v ≤ k → s.steps < n → Fits g v.locals s l
         → ((x : Expression) (m : ℕ → ℕ) (u : State) (w : ℕ) → u.steps ≤ s.steps → Fits g v.locals u m → ((i : ℕ) → i < k → m i ≡ l i) → value x m (world_at u) ≡ Some w → Comes effect R (config (f x) κ m (world_at u)) u.steps (go w u))

@@ -303,7 +303,7 @@ module _ (effect : Calling) (g : Layout) where
         (λ y m u w less fits same is. puts_from k κ v.locals l m _ u.steps (Gives (truth_value (is_true w)) u) same
         (set_gives k (truth_value (is_true w)) (truth_of y) κ v.locals m u le fits (truth_is y m (world_at u) w is)))
 
-    -- what && and || do after their left operand
+    -- after their left operand, && and || do what they do in the source
     and_comes : (w : ℕ) (x : Expression) (t : Scalar) (b : Expr) (v : Environment) (k : ℕ) (κ : Continuation) (l : ℕ → ℕ) (s : State) → value x l (world_at s) ≡ Some w → PutsValue b → Known g v b → free v ≤ k → s.steps < n → Fits g v.locals s l
         → Comes effect (Puts k κ v.locals l) (config (branch x (used (is_plain b) (plain g v b) (put_expr g v k b) k (λ y. Set k (truth_of y))) (Set k (Constant 0))) κ l (world_at s)) s.steps
         (unless_decided (decided source.LogicalAnd w) (λ u. then_do (evaluate b (types_in v) call u) (λ y z. given source.LogicalAnd (binary_word source.LogicalAnd t w y) z)) s)
@@ -334,7 +334,7 @@ module _ (effect : Calling) (g : Layout) where
         (branch_moves x (Set k (Constant 1)) (used (is_plain b) (plain g v b) (put_expr g v k b) k (λ y. Set k (truth_of y))) κ l (world_at s) (suc w) is)
         (set_gives k 1 (Constant 1) κ v.locals l s le h refl))
 
-    -- an operator whose left word waits in variable k
+    -- an operator whose left word waits in variable k does what it does in the source
     right_comes : (x : ℕ) (op : BinaryOperator) (t : Scalar) (b : Expr) (v : Environment) (k : ℕ) (κ : Continuation) (l : ℕ → ℕ) (s : State) → kind op ≡ Strict → l k ≡ x → PutsValue b → Known g v b → free v ≤ k → s.steps < n → Fits g v.locals s l
         → Comes effect (Puts k κ v.locals l) (config (used (is_plain b) (plain g v b) (put_expr g v (suc k) b) (suc k) (λ y. Set k (binary_of op t (Local k) y))) κ l (world_at s)) s.steps
         (unless_decided (decided op x) (λ u. then_do (evaluate b (types_in v) call u) (λ y z. given op (binary_word op t x y) z)) s)

@@ -41,7 +41,7 @@ abbrev pub optional_tokens : Option Action → ℕ
 optional_tokens None = 0
 optional_tokens (Some a) = action_tokens a
 
--- a name, its initialiser, and what ends it
+-- the tokens of declared names, each with its initialiser and the token that ends it
 abbrev pub declared_tokens : List Declarator → ℕ
 declared_tokens [] = 0
 declared_tokens (d ∷ rest) = 2 + tokens_or d.initial + declared_tokens rest
@@ -68,7 +68,7 @@ abbrev mutual
   statements_tokens end = 0
   statements_tokens (next first rest) = statement_tokens first + statements_tokens rest
 
--- ---- the tokens of what spells it
+-- ---- what spells a tree has at least that many tokens
 
 full_long : (xs : List Lexeme) (n : ℕ) → length (full_after n xs) ≡ length xs
 full_long [] n = refl

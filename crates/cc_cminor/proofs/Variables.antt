@@ -189,7 +189,7 @@ extent_by : (b : Bool) (p : LaidObject) (ps : List LaidObject) (x : List ℕ) �
 extent_by true p ps x = refl
 extent_by false p ps x = refl
 
--- how many elements an object has
+-- an object has as many elements as the layout says
 pub size_object : (gs : List Global) (ps : List LaidObject) (x : List ℕ) → sizes gs ≡ laid_sizes ps → length (global_words gs x) ≡ (extent_of ps x).length
 size_object [] [] x e = refl
 size_object [] (p ∷ ps) x e = absurd (let q : ◌≡◌ {A = List NamedSize} [] (laid_sizes (p ∷ ps)) = e in cc)
@@ -203,7 +203,7 @@ width_by : (b : Bool) (k u : Width) (p : LaidObject) (ps : List LaidObject) (x :
 width_by true k u p ps x e f = e
 width_by false k u p ps x e f = f
 
--- how wide an object's elements are
+-- an object's elements are as wide as the layout says
 width_object : (gs : List Global) (ps : List LaidObject) (x : List ℕ) → sizes gs ≡ laid_sizes ps → width_by_name gs x ≡ (extent_of ps x).width
 width_object [] [] x e = refl
 width_object [] (p ∷ ps) x e = absurd (let q : ◌≡◌ {A = List NamedSize} [] (laid_sizes (p ∷ ps)) = e in cc)

@@ -11,7 +11,7 @@ most_variables = 2048
 abbrev pub most_lowered : ℕ
 most_lowered = 1024
 
--- a unit has at most this many objects, since each has a word; then the most functions of a unit
+-- a unit has at most this many objects, since each has at least one word; the next is the most functions of a unit
 abbrev pub most_objects : ℕ
 most_objects = 65536
 

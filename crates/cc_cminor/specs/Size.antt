@@ -80,7 +80,7 @@ code_partials (Block a) = code_partials a
 code_partials (Exit k) = 0
 code_partials (Return e) = partials e
 
--- function f's code has at most one operation that can lack a value for each token of its definition (of any that spell it)
+-- function f's code has at most one operation that can lack a value for each token of any list that spells its definition
 abbrev pub AtMostOnePartialAToken : List External → (f : ℕ) → Statement → Type 0
 AtMostOnePartialAToken unit f s =
     (definition : External) → slice_get (definitions unit) f ≡ Some definition → (tokens : List Measured) → SpellsExternal tokens definition

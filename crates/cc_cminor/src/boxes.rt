@@ -60,7 +60,7 @@ pub fn set(
     boxed_statement(alloc, Statement::Set(variable, value))
 }
 
-/// Two statements, one after the other.
+/// A statement that runs two statements one after the other.
 pub fn both(
     alloc: Global,
     first: Box<Statement>,
@@ -74,7 +74,7 @@ pub fn both(
     boxed_statement(alloc, Statement::Sequence(all))
 }
 
-/// These statements, one after another.
+/// A statement that runs these statements one after another.
 pub fn sequence(alloc: Global, all: Vec<Statement>) -> Result<Box<Statement>, AllocError>
     ensures { IfOk result (λ s. statement_of s.value ≡ in_sequence (statements_of all.items)) }
 {

@@ -34,7 +34,7 @@ pub enum Statement {
     Read(Option<usize>),
     /// Appends a word to the output.
     Write(Box<Expression>),
-    /// The statements one after another.
+    /// Runs the statements one after another.
     Sequence(Vec<Statement>),
     /// Runs the first statement if the value is not 0, else the second.
     If(Box<Expression>, Box<Statement>, Box<Statement>),

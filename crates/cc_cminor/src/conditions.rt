@@ -1,7 +1,7 @@
 // Branches: what a branch tests, chosen to cost least.
 //
 // A branch only asks whether a word is 0. So a comparison need not be turned into a word of 0 or 1 if another word is 0 in the
-// same cases, or in exactly the other cases; then the two branches are exchanged.
+// same cases. A word that is 0 in exactly the other cases will also do, with the two branches exchanged.
 
 ghost use Rattle.std.specs.Prelude.{◌≡◌, if◌then◌else◌, IfOk};
 ghost use Rattle.cc_cminor.specs.Cminor as cminor;

@@ -78,7 +78,7 @@ stays_below n p f is = let lt : nat_lt f.variable n ≡ true = and_left (nat_lt 
 stays_unset : (n : ℕ) (p : ℕ → Bool) (f : Limit) → stays n p f ≡ true → p f.variable ≡ false
 stays_unset n p f is = is_false (p f.variable) (and_right (nat_lt f.variable n) (not (p f.variable)) is)
 
--- a bound that stays is of a variable below n
+-- a bound that stays is a bound of a variable below n
 stays_skip : (n : ℕ) (p : ℕ → Bool) (f : Limit) → stays n p f ≡ true → stays n (sets Skip) f ≡ true
 stays_skip n p f is = both_true (nat_lt f.variable n) true (and_left (nat_lt f.variable n) (not (p f.variable)) is) refl
 
@@ -107,7 +107,7 @@ limits_of : (n : ℕ) (gs : List Limit) → ((f : Limit) → Has gs f → f.vari
 limits_of n [] f = tt
 limits_of n (g ∷ gs) f = (f g (inl refl), limits_of n gs (λ k i. f k (inr i)))
 
--- the bounds kept are of variables below n
+-- the bounds that are kept are bounds of variables below n
 pub kept_under : (n : ℕ) (p : ℕ → Bool) (ks : List Limit) → LimitsUnder n (kept n p ks)
 kept_under n p ks = limits_of n (kept n p ks) (λ f i. stays_below n p f (is_kept n p ks f i).1)
 

@@ -37,7 +37,7 @@ pub mod HeldWriting
 pub mod Lowered
 -- code whose constants are words computes only words
 pub mod Words
--- a unit that needs no guard goes wrong only in depth
+-- a unit that needs no guard goes wrong only because calls are nested too deep
 pub mod OnlyDepth
 -- guards are written as the definition says
 pub mod Writing

@@ -1,6 +1,6 @@
 -- What the guards need from the code of a pair and from the meaning of a unit. The code's variables are below the number from
 -- which the guards set theirs, each exit leaves blocks that exist, and a call that answers keeps the size of each object.
--- Also, guarded code makes only calls that are right if the original code does.
+-- Also, if the original code makes only calls that are right, so does the guarded code.
 use Rattle.std.proofs.Common.{◌≡◌, ℕ, suc, ◌≤◌, ◌<◌, List, [], ◌∷◌, ◌++◌, length, map, Option, Some, None, refl, sym, ap, ◌∙◌, Bool, true, false, if◌then◌else◌, subst, arith}
 use Rattle.std.proofs.lemmas.Bool.Decides.{nat_tests}
 use Rattle.cc_ast.specs.Tree.{External}

@@ -326,7 +326,7 @@ module _ (effect : ℕ → Question → Effect) (Related : Config → Config →
     broken_on rate n (Unfinished o) c d rel p = let y = hung p.moves p.steps o c d rel p.breaks n in (y.k, p.steps, (y.same, enough rate n (works y.k p.steps d) y.paid))
     broken_on rate n (Failed o) c d rel p = absurd p
 
-    -- what is kept after the first moves of a run is kept from its start
+    -- if `IsKept` holds after the first moves of a run, it holds at the start of the run
     pub kept_after : (m rate n : ℕ) (e : Effect) (c d : Config) → Way m c d → IsKept rate n e d → IsKept rate n e c
     kept_after m rate n (Gives a left) c d p (k, j, q) =
         (m + k, j, (way_run m k j c d p ∙ q.0, more_paid rate n left (works k j d) (works (m + k) j c) (let e = way_work m k j c d p in omega arith) q.1))

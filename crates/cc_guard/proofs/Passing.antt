@@ -73,7 +73,7 @@ module _ (h : World) where
   meets_with gs is l None go Q R p f = stops_first gs is l p
   meets_with gs is l (Some a) go Q R p f = then_meets gs is l a (go a) Q R p (λ m q. f m a refl q)
 
-  -- what is always computed from a value needs no further guards
+  -- a result that can always be computed from a value needs no guards besides those of the value
   pub meets_made : {A B : Type 0} (gs : List Guard) (l : Variables) (o : Option A) (f : A → B) (Q : Variables → A → Type 0) (R : Variables → B → Type 0) → Meets gs l o Q
       → ((m : Variables) (a : A) → Q m a → R m (f a)) → Meets gs l (then_value o (λ a. Some (f a))) R
   meets_made gs l None f Q R p g = p

@@ -155,7 +155,7 @@ module _ (objects : List Size) where
     abbrev pub IsGuarded : ℕ → Guarded → Variables → Option ℕ → Type 0
     IsGuarded n g l o = Meets h g.before l o (λ m w. HasValue n g.value g.known l m w)
 
-    -- a value can be put into a variable
+    -- once a value is put into a variable, the variable has that value
     put_waits : (n : ℕ) (g : Guarded) (l : Variables) (o : Option ℕ) → IsSound n g → IsGuarded n g l o
         → Meets h (g.before ++ Put g.next g.value ∷ []) l o (λ m w. HasValue n (Local g.next) g.known l m w)
     put_waits n g l o s p =
@@ -183,7 +183,7 @@ module _ (objects : List Size) where
 
     -- ---- two operands
 
-    -- the guards of both operands come first
+    -- the guards of both operands, followed by those of what is computed from their values, are guards of the result
     pub both_guarded : {B : Type 0} (n : ℕ) (a b : Guarded) (is : List Guard) (l : Variables) (oa ob : Option ℕ) (go : ℕ → ℕ → Option B) (R : Variables → B → Type 0) → IsSound n a → IsSound a.next b → IsGuarded n a l oa
         → ((m : Variables) → Agree n m l → Holds a.known m → IsGuarded a.next b m ob)
         → ((k : Variables) (x y : ℕ) → Agree n k l → oa ≡ Some x → ob ≡ Some y → value a.value k h ≡ Some x → value b.value k h ≡ Some y → Holds a.known k → Holds b.known k → Meets h is k (go x y) R)

@@ -117,7 +117,7 @@ abbrev pub told_of : Expression → Option ℕ → Option Limit
 told_of (Local x) (Some m) = Some (record { variable = x; most = m })
 told_of e m = None
 
--- the bound that becomes known if the first of two values is below the second (`way`) or is not; then the same for "at most"
+-- the bound that becomes known if the first of two values is below the second (`way` is true) or not (false); next, for "at most"
 abbrev pub told_less : (way : Bool) → (a b : Expression) → (most_a most_b : Option ℕ) → Option Limit
 told_less true a b m k = told_of a (less_one k)
 told_less false a b m k = told_of b m
@@ -300,7 +300,7 @@ stored_word objects i e = guarded objects i.known i.next e
 
 -- ---- what is known after a statement
 
--- this variable gets the result; then: the statement, or a part of it, sets this variable
+-- this variable gets the result; the next definition: the statement, or a part of it, sets this variable
 abbrev pub sets_result : Option ℕ → (variable : ℕ) → Bool
 sets_result None x = false
 sets_result (Some y) x = y == x

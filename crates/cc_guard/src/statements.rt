@@ -124,8 +124,8 @@ pub struct Done {
     pub known: Vec<Limit>,
 }
 
-// Returns this code as done. The bounds known after it are found by a separate walk, so this is only for statements that
-// contain no others.
+// Returns this code as done. A separate walk of the statement finds the bounds known after it, so this function is used
+// only for statements that contain no others.
 fn alone(
     alloc: Global,
     sizes: &[ObjectSize],

@@ -61,7 +61,7 @@ module _ (form : FormTree) (cs : List Activation) (total : ℕ) where
 
   -- ---- variables
 
-  -- both kinds of instruction store in the variable what the source stores
+  -- the instructions of a plain assignment and of an update store in the variable what the source stores
   pub record Stores (v : Environment) (most : ℕ) (vs : List ℕ) (s : State) (x : List ℕ) : Type 0 where
     pub variables : ℕ → List ℕ
     pub fits : (w : ℕ) → Fits v total most (variables w) (stored x w s)
@@ -148,7 +148,7 @@ module _ (form : FormTree) (cs : List Activation) (total : ℕ) where
 
   -- ---- elements
 
-  -- a write to an element, whether or not the index is in the array
+  -- a write to an element does what the source does, whether or not the index is in the array
   element_set_by : (v : Environment) (most : ℕ) (vs : List ℕ) (x : List ℕ) (i p w : ℕ) (s : State) (b : Bool) → nat_lt i (extent_of v.layout.objects x).length ≡ b → Fits v total most vs s
       → slice_get form.code p ≡ Some (instruction.SetElement (extent_of v.layout.objects x)) → (b ≡ true → Puts v total most vs s x i w)
       → Meets form (conf p vs (w ∷ i ∷ []) cs s) (Acted form cs total (conf p vs (w ∷ i ∷ []) cs s) v most (p + 1)) (if b then Gives Falls (record s { globals = with_element x i w s.globals }) else Wrong Index s.output)

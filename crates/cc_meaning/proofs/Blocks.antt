@@ -39,7 +39,7 @@ names_drop zero ls = refl
 names_drop (suc d) [] = refl
 names_drop (suc d) (l ∷ ls) = names_drop d ls
 
--- variables that fit inside a scope also fit after it, when no name refers to the scope's locals any more
+-- variables that fit inside a scope also fit after it, when no name refers to the scope's locals
 pub fits_left : (v : Environment) (extra : List (List ℕ)) (total most before : ℕ) (vs : List ℕ) (t : State) → before ≡ length v.locals → Fits (over extra v) total most vs t → Fits v total most vs (left_scope before t)
 fits_left v extra total most before vs t e h =
     let ls : List Local = t.locals in
@@ -67,14 +67,15 @@ module _ (form : FormTree) (cs : List Activation) (total : ℕ) where
     pub fits : Fits v total most variables t
     pub leads : Leads form c (conf q variables [] cs t)
 
-  -- the same, but with further locals of inner scopes, which no name refers to after that
+  -- from `c`, the form reaches `q` with the state `t`, which has further locals of inner scopes; no name
+  -- refers to those after that
   pub record Leaves (c : Configuration) (v : Environment) (most q : ℕ) (t : State) : Type 0 where
     pub extra : List (List ℕ)
     pub variables : List ℕ
     pub fits : Fits (over extra v) total most variables t
     pub leads : Leads form c (conf q variables [] cs t)
 
-  -- the form reaches a return of a word
+  -- from `c`, the form reaches a return of the word `w`
   pub record Brings (layout : Layout) (c : Configuration) (most w : ℕ) (t : State) : Type 0 where
     pub offset : ℕ
     pub variables : List ℕ

@@ -313,7 +313,7 @@ module _ (form : FormTree) (layout : Layout) (defined : List (List ℕ)) (fs : L
 
   -- ---- main
 
-  -- the run of a body that no other function calls stops as the source does
+  -- the run of a body whose call has no caller stops as the source does
   pub main_meets : (n : ℕ) (e : (x : List ℕ) × Entered form layout defined fs x) (t : State) (opened : ℕ) → opened ≡ 1 → (e.1).function.parameters ≡ [] → t.steps < n → layout_from 0 t.globals ≡ layout.objects
       → Meets form (conf (e.1).start (replicate (e.1).code.variables 0) [] [] t) (λ w u. Halts form (conf (e.1).start (replicate (e.1).code.variables 0) [] [] t) (record { stop = outcome.Ended w; output = u.output }))
       (run_body (e.1).function n (calls n fs opened) [] t)

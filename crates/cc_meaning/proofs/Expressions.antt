@@ -166,7 +166,7 @@ module _ (form : FormTree) (cs : List Activation) (total : ℕ) where
   true_word : (a : ℕ) → is_true (suc a) ≡ true
   true_word a = ap not (eqb-suc-zero a)
 
-  -- the end of `&&` or `||`: the right operand as 0 or 1
+  -- at the end of `&&` or `||`, the instructions push the right operand as 0 or 1
   truth_meets : (v : Environment) (most : ℕ) (vs ops : List ℕ) (p q : ℕ) (right : List Instruction) (second : State → Run ℕ) (op : BinaryOperator) (t : Scalar) (a : ℕ) (s : State)
       → ((b : ℕ) → binary_word op t a b ≡ Some (truth_value (is_true b))) → Part v most vs right second → Stands form.code p right → slice_get form.code (p + length right) ≡ Some instruction.Truth
       → q ≡ p + length right + 1 → Fits v total most vs s

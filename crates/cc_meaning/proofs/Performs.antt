@@ -151,7 +151,7 @@ module _ (form : FormTree) (cs : List Activation) (total : ℕ) (layout : Layout
 
   -- ---- declarations
 
-  -- a new local, which is 0
+  -- once a variable is set to 0 for a new local, the variables fit the state with that local
   new_local : (t : Scalar) (x : List ℕ) (v : Environment) (most : ℕ) (vs : List ℕ) (s : State) → Fits v total most vs s → length v.locals < total
       → Fits (with_local t x v) total most (slice_set vs (length v.locals) 0) (meaning.with_local x s)
   new_local t x v most vs s h lt =

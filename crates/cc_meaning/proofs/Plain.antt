@@ -111,7 +111,7 @@ plain_xor = record { undecided = λ a. refl; joins = λ o l r. refl; works = λ 
 plain_or : IsPlain Or
 plain_or = record { undecided = λ a. refl; joins = λ o l r. refl; works = λ t a b. refl; fails = λ t. refl }
 
--- an operator is && or ||, or a plain one
+-- an operator is `&&`, `||` or a plain one
 pub data Kind (op : BinaryOperator) : Type 0 where
   IsAnd : op ≡ LogicalAnd → Kind op
   IsOr : op ≡ LogicalOr → Kind op

@@ -94,7 +94,7 @@ module _ (unit : List External) (typed : IsTyped unit) where
   matched (Objects t os ∷ rest) f o d whole =
       matched rest (with_objects t os f) (nil_right (external_errors (Objects t os) f) (externals_errors rest (with_objects t os f)) o) (defined_right known (called_in_external (Objects t os)) (called rest) d) whole
 
-  -- the name of one of these functions: its function, its number, and the place of its instructions
+  -- `x` is the name of one of these functions: the function, its number, and the place of its instructions
   record Listed (gs : List Function) (cs : List FunctionCode) (xs : List (List ℕ)) (code : List Instruction) (at : ℕ) (x : List ℕ) : Type 0 where
     function : Function
     instructions : FunctionCode

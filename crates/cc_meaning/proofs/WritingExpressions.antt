@@ -25,7 +25,7 @@ set_behind xs old new x y n e en =
     let none : length xs - length xs ≡ 0 = omega arith in
     ap (λ i. set new i y) at ∙ ap (λ l. set l (length xs) y) e ∙ set-append_right xs (x ∷ old) (length xs) (length xs) y refl le ∙ ap (λ i. xs ++ set (x ∷ old) i y) none
 
--- the instruction of a call, after those of its arguments, is the code of the call
+-- the instructions of the arguments, followed by the instruction of the call, are the code of the call
 pub call-code : (v : Environment) (f : Name) (es : Exprs) (e : Expr) (old mid new : List Instruction) → e ≡ tree.Call f es → mid ≡ call_of v f.text ∷ old → new ≡ arguments_code v es ++ mid
     → new ≡ expression_code v e ++ old
 call-code v f es e old mid new ee em en = behind (arguments_code v es) (call_of v f.text ∷ []) old mid new en em ∙ sym (ap (λ t. expression_code v t ++ old) ee)

@@ -92,7 +92,7 @@ Resolving-next p all v code entries e rest v' code' entries' before ev ec ee =
           (ee ∙ ap (λ q. entries ++ entries_from (length code) (functions_code q f (e ∷ []))) before.layout);
     }
 
--- the state before the first external declaration
+-- before the first external declaration, the state of the walk is as `Resolving` says
 pub Resolving-first : (all : List External) (p : Layout) (v : Environment) (code : List Instruction) (entries : List Entry)
     → v ≡ record { visible = file_level first_file_scope.bindings; locals = []; layout = p } → p ≡ layout_of all → code ≡ [] → entries ≡ []
     → Resolving (layout_of all) (unit_functions all) v code entries all
@@ -109,7 +109,7 @@ Resolving-first all p v code entries ev ep ec ee =
           ∙ ap (λ l. entries_from (length l) (functions_code (layout_of all) (file_of v.visible) all)) ec ∙ ap (entries_from 0) there;
     }
 
--- the result after the last external declaration
+-- after the last external declaration, the code and the entries of all functions are written
 pub Resolving-last : (all : List External) (v : Environment) (code : List Instruction) (entries : List Entry) (rest : List External)
     → Resolving (layout_of all) (unit_functions all) v code entries rest → rest ≡ [] → (code ≡ all_code (unit_functions all)) × (entries ≡ entries_from 0 (unit_functions all))
 Resolving-last all v code entries rest last none =

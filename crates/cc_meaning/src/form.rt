@@ -55,7 +55,7 @@ pub enum Instruction {
     Repeat(usize),
     /// Spends a step; stops if none is left.
     Step,
-    /// Calls the function with this number, in the order of definitions.
+    /// Calls the function with this number; functions are numbered in the order of their definitions.
     Call(usize),
     /// Pushes the next word of the input, or 0 if none is left.
     Read,
@@ -65,7 +65,7 @@ pub enum Instruction {
     Return,
 }
 
-/// The index of a function's first instruction, how many parameters it has, and how many other variables.
+/// The index of a function's first instruction, how many parameters the function has, and how many other variables.
 #[derive(Clone, Copy)]
 pub struct Entry {
     pub start: usize,

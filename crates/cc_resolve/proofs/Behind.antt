@@ -19,11 +19,11 @@ use Rattle.cc_resolve.specs.internal.Laying.{offset_behind}
 pub one-more : {A : Type 0} (done done' : List A) (x : A) (rest whole : List A) → done ++ (x ∷ rest) ≡ whole → done' ≡ done ++ x ∷ [] → done' ++ rest ≡ whole
 one-more done done' x rest whole e is = ap (λ l. l ++ rest) is ∙ append_assoc done (x ∷ []) rest ∙ e
 
--- the same for some more members at once
+-- moving several members at once does not change the whole list either
 pub some-more : {A : Type 0} (done done' xs rest whole : List A) → done ++ (xs ++ rest) ≡ whole → done' ≡ done ++ xs → done' ++ rest ≡ whole
 some-more done done' xs rest whole e is = ap (λ l. l ++ rest) is ∙ append_assoc done xs rest ∙ e
 
--- the same for one more of n zeros
+-- moving one of n zeros does not change the whole list
 pub one-more-zero : (done done' whole : List ℕ) (n k : ℕ) → k < n → done ++ replicate (n - k) 0 ≡ whole → done' ≡ done ++ 0 ∷ [] → done' ++ replicate (n - (k + 1)) 0 ≡ whole
 one-more-zero done done' whole n k h e is =
     let left : n - k ≡ suc (n - (k + 1)) = omega arith in
@@ -124,7 +124,7 @@ Naming-next t v0 all v o rest v' before e = record {
       ∙ before.names;
 }
 
--- an environment in which only file scope is open
+-- if no inner scope has declared a name, the environment is one in which only file scope is open
 pub in-file : (v : Environment) → v.visible.inner ≡ [] → v ≡ record v { visible = file_level v.visible.outer }
 in-file v e i = record { visible = record { inner = e i; outer = v.visible.outer }; locals = v.locals; layout = v.layout }
 

@@ -94,7 +94,7 @@ pub Entering-found : (all : List External) (function : ℕ) (v : Environment) (s
 Entering-found all function v s body rest v' before ev =
     sym before.found ∙ ap Some (sym (ev ∙ ap (λ p. environment_of p s (file_of v.visible)) before.layout))
 
--- ---- the same in terms of the code
+-- ---- the walk, in terms of the code
 
 pub Entering-at : (all : List External) (function : ℕ) (v : Environment) (left : ℕ) (x y : declared.External) (rest : List declared.External)
     → x ≡ y → Entering all function v left (external_trees (x ∷ rest)) → Entering all function v left (external_trees (y ∷ rest))

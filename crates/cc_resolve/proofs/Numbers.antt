@@ -16,7 +16,8 @@ use Rattle.cc_resolve.specs.declared.layout.Extent.{Extent}
 
 -- ---- a name is added
 
--- the place of a name, which may have been found already; else the last place, if the name is the last one
+-- the place that was found for a name already; if none was found, the last place, provided the last name is that
+-- name
 abbrev pub or_last : Option ℕ → ℕ → Bool → Option ℕ
 or_last None n b = cond b (Some n) None
 or_last (Some i) n b = Some i

@@ -113,7 +113,7 @@ impl<'a> Environment<'a> {
         self.locals.pop();
     }
 
-    /// Removes all locals, once they are in no scope any more.
+    /// Removes all locals, once none of them is in scope.
     pub(crate) fn forget_locals(&mut self)
         ensures { self.new ≡ record self.old { locals = [] } }
     {

@@ -72,7 +72,7 @@ valued : (w : Position) (t : Scalar) (ds : List Declarator) (os : List Open) (mi
 valued w t ds os mine v sign value n =
     (n.0, n.1, n.2, n.3, n.4, n.5, n.6, ap (λ (z : List Measured). z ++ value) n.7 ∙ deep n.0 (map outside n.3) n.1 (outside (identifier v) ∷ outside sign ∷ []) value (first (position_level w os) 0 n.2))
 
--- a declared name with its initialiser, which another name follows
+-- a declared name and its initialiser, with a comma after them, extend what the tokens of a declaration spell
 pub next-declared : (w : Position) (t : Scalar) (ds : List Declarator) (os : List Open) (mine : List Measured) (v : Name) (i : Option Expr) (initial : List Measured) (x : Lexeme) → Marks punctuator.Comma x → SpellsInitial initial i → NamedSoFar w t ds (outside (identifier v) ∷ initial) os mine → NamedSoFar w t (ds ++ declared v i ∷ []) [] os (mine ++ outside x ∷ [])
 next-declared w t ds os mine v i initial x h s n =
     let one : List Measured = outside (identifier v) ∷ initial in

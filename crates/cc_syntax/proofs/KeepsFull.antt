@@ -15,7 +15,7 @@ use Rattle.cc_syntax.proofs.KeepsExpression.{spells-looser, room-most, room-one,
 pub identified : (x : Lexeme) → x.kind ≡ kind.Identifier → x ≡ identifier (name_of x)
 identified x h = ap (λ (k : TokenKind). let y : Lexeme = record { kind = k; text = x.text; at = x.at } in y) h
 
--- an expression has at least one token
+-- the list has at least one token
 abbrev pub HasToken : List Lexeme → Type 0
 HasToken xs = (y : Lexeme) × (ys : List Lexeme) × (xs ≡ y ∷ ys)
 

@@ -39,7 +39,7 @@ naming-more n behind mine more h =
     let one : List Measured = outside (identifier n.name) ∷ behind in
     (h.0, h.1, h.2, h.3, regrouped mine (map outside h.0) (h.1 ++ one) more h.4 ∙ ap (λ (z : List Measured). map outside h.0 ++ z) (append_assoc h.1 one more))
 
--- the named object is complete
+-- once the named object is complete, the tokens spell it after the earlier objects
 pub object-done : (n : Naming) (o : Object) (behind mine : List Measured) → NamingSoFar n behind mine → SpellsName n.kind (outside (identifier n.name) ∷ behind) o → ObjectsSoFar n.kind (λ row. SpellsRow (SpellsName n.kind) row (with_object n o)) [] mine
 object-done n o behind mine h k =
     let one : List Measured = outside (identifier n.name) ∷ behind in
@@ -80,7 +80,7 @@ list-spelled : (vs : List ConstantExpr) (sign opening closing : Lexeme) (row : L
 list-spelled [] sign opening closing row comma h k m s c = absurd s
 list-spelled (v ∷ vs) sign opening closing row comma h k m s c = (sign, opening, closing, row, comma, h, k, m, s, c, refl)
 
--- an array's list is complete
+-- once the list of a named array is complete, the tokens spell the array after the earlier objects
 pub array-done : (n : Naming) (size : Option ConstantExpr) (vs us : List ConstantExpr) (mine more row : List Measured) (comma : List Lexeme) (x : Lexeme) → (h : OuterSoFar (Valuing n size vs) mine) → Marks punctuator.CloseBrace x → SpellsRow SpellsConstantExpr row us → IsOptionalComma comma → h.5 ++ more ≡ row ++ (map outside comma ++ outside x ∷ []) → ObjectsSoFar n.kind (λ r. SpellsRow (SpellsName n.kind) r (with_object n (array_of n.kind n.name size us))) [] (mine ++ more)
 array-done n size vs us mine more row comma x h m s c e =
     let list : List Measured = outside h.2 ∷ outside h.3 ∷ row ++ (map outside comma ++ outside x ∷ []) in

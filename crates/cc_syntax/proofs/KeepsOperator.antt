@@ -38,7 +38,8 @@ first-joins : (c : Context) (x : Lexeme) (qs : List Measured) → leads_of c (fu
 first-joins (OfBody b p) x qs = leads-joins (spot_of p) b.opened x [] qs
 first-joins (OfObject es n p) x qs = refl
 
--- the state before an operand, if only the tokens `zs` of the same full expression precede the operand's expression
+-- the tokens spell what the state before an operand says, if `zs` are all tokens of the full expression that
+-- precede the operand's expression
 pub begun : (b : Inside) (p : Purpose) (k : ℕ) (before ts : List Measured) (zs : List Lexeme) → ContextSoFar (OfBody b p) before zs → k ≡ count_after 0 zs → ((qs : List Measured) → leads (spot_of p) b.opened (full zs ++ qs) ≡ leads (spot_of p) b.opened (full zs) ++ qs) → ts ≡ before ++ leads (spot_of p) b.opened (full zs) → FullSoFar (OfBody b p) [] k Operand ts
 begun b p k before ts zs h c j w =
     let same : zs ≡ zs ++ [] = sym (append-nil zs) in

@@ -198,7 +198,7 @@ kept-parameter-named role.CloseParenthesis f es before mine ts x h k o e =
     kept-headed-by f (λ row. SpellsRow SpellsParameter row f.parameters) es before mine ts x h k o (some-parameters f.parameters o.2 o.5) e
 kept-parameter-named _ f es before mine ts x h k o e = tt
 
--- a parameter is complete
+-- once a parameter is complete, the tokens spell the function's head with that parameter
 parameter-done : (f : Signature) (t : Scalar) (v : Option Name) (words : List Lexeme) (mine : List Measured) → SpellsType words t → ParametersSoFar f (λ row. RowSoFar SpellsParameter row f.parameters) (map outside words ++ map outside (optional_identifier v)) mine → OuterSoFar (ParameterNamed (with_parameter f t v)) mine
 parameter-done f t v words mine h o =
     let p : Parameter = record { scalar = t; name = v } in

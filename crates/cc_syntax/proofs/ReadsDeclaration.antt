@@ -112,7 +112,7 @@ pub record Begins (s : State) (b : Inside) (w : Position) (level : ℕ) : Type 0
   pub int_level : level ≡ role_level s role.Int
   pub sign_level : (t : Scalar) → level ≡ role_level s (role.SignWord t)
 
--- the parser reads the keywords of a type, if what follows is read
+-- if the parser reads what follows the keywords of a type, it reads the keywords and what follows them
 read_type : (t : Scalar) (xs : List Lexeme) (s : State) (b : Inside) (w : Position) (level : ℕ) (rest : List Measured) (m : State) → Begins s b w level → SpellsType xs t → ((a : State) → Names a b w t [] → Runs a rest m) → Runs s (begins level (map outside xs ++ rest)) m
 read_type t xs s b w level rest m begin (inl h) on =
     subst (λ (z : List Lexeme). Runs s (begins level (map outside z ++ rest)) m) (sym h.3)

@@ -19,7 +19,7 @@ use Rattle.cc_syntax.proofs.Settles.{within, settled-within, settled-count, sett
 use Rattle.cc_syntax.proofs.ReadsAction.{read_full, read_ended, Enters, read_action, no-operator}
 use Rattle.cc_syntax.proofs.ReadsDeclaration.{Begins, read_local}
 
--- whether a statement or declaration may come here
+-- the statement or declaration may come inside these open statements
 abbrev pub CanStand : List Open → Stmt → Type 0
 CanStand [] s = Unit {0}
 CanStand (InBlock ss ∷ os) s = Unit {0}

@@ -26,7 +26,7 @@ pub record ReadTo (text : List ℕ) (s : State) (at : ℕ) : Type 0 where
 pub read_none : (text : List ℕ) (s : State) → s ≡ start → ReadTo text s 0
 read_none text s e = record { tokens = []; found = found_none text; reached = subst (λ (z : State). Reached z []) (sym e) at_start }
 
--- if the tokens read so far are all tokens before a later offset, they led to the state there too
+-- if the tokens read so far are also all the tokens before a later offset, the state is the one at that offset too
 pub read_blank : (text : List ℕ) (s : State) (at to : ℕ) (r : ReadTo text s at) → FoundBefore text r.tokens to → ReadTo text s to
 read_blank text s at to r f = record { tokens = r.tokens; found = f; reached = r.reached }
 

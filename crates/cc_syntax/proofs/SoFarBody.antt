@@ -13,7 +13,7 @@ use Rattle.cc_syntax.proofs.Forms.{count_after}
 use Rattle.cc_syntax.proofs.ReadsAction.{terminator}
 use Rattle.cc_syntax.proofs.ReadsStatement.{CanStand}
 
--- the level of what begins inside this many open statements
+-- the level of what begins inside these open statements
 abbrev pub depth : List Open → ℕ
 depth os = suc (suc (length os))
 
@@ -167,7 +167,7 @@ StageSoFar (Stepped op t p k) os mine =
     (before : List Measured) × (x : Lexeme) × (xs : List Lexeme) × SpotSoFar p os before × SpellsAction (x ∷ xs) (Step op t) × (k ≡ count_after 0 (x ∷ xs))
     × (mine ≡ before ++ leads p os (full (x ∷ xs)))
 
--- what the action with this purpose is
+-- what the action is that a full expression with this purpose belongs to
 abbrev pub spot_of : Purpose → Spot
 spot_of (ToPerform p) = p
 spot_of (ToAssign op t p) = p

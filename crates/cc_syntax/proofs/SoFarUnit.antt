@@ -90,7 +90,7 @@ abbrev pub leads_of : Context → List Measured → List Measured
 leads_of (OfBody b p) ts = leads (spot_of p) b.opened ts
 leads_of (OfObject es n p) ts = ts
 
--- the offset that was recorded, at which the constant expression begins
+-- the recorded offset at which the constant expression begins
 abbrev pub offset_of : Part → ℕ
 offset_of (ToSize at) = at
 offset_of (ToSingle at) = at

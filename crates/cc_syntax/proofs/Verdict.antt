@@ -95,7 +95,7 @@ unexpected s tokens k x r c h = inl (c.inside, no_unit)
         let rest = follow r.placed b.2.0 start s (AtFile b.1 Between) (x ∷ b.0) r.runs (read_unit b.1 b.2.0 b.2.1) same in
         stuck (AtFile b.1 Between) rest.0 b.0 rest.2 rest.3
 
--- if the text ends before a unit does, the tokens spell no tree
+-- if no unit may end at the end of the text, the text's tokens spell no tree
 pub unexpected_end : (s : State) (tokens : List Lexeme) (k : ℕ) → Reached s tokens → k ≡ length tokens → tree_of s ≡ None → UnexpectedAt tokens k
 unexpected_end s tokens k r e h = inr (e, λ tree spelled. none tree spelled.0 spelled.1 (runs-one start s (AtFile tree Between) r.placed spelled.0 r.runs (read_unit tree spelled.0 spelled.1) (r.same ∙ sym spelled.2)).1)
   where
@@ -103,7 +103,7 @@ unexpected_end s tokens k r e h = inr (e, λ tree spelled. none tree spelled.0 s
     none [] ts u t = absurd u
     none (d ∷ ds) ts u t = let e : None ≡ Some (d ∷ ds) = sym h ∙ ap (λ (z : State). tree_of z) t in cc
 
--- a token read within the limits is too deep in no unit
+-- a token that was read within the limits is not too deep in any unit
 in_run : (placed prefix rest : List Measured) (p : Measured) (s : State) (tree : List External) (zs : List Lexeme) → Runs start placed s → AllByRecursion IsWithin placed → SpellsUnit (prefix ++ p ∷ rest) tree → plain_tokens placed ≡ plain_tokens (prefix ++ p ∷ []) ++ zs → PassesLimit p → ⊥
 in_run placed prefix rest p s tree zs runs fine unit same past =
     let whole = subst (λ (z : List Measured). Runs start z (AtFile tree Between)) (sym (append_assoc prefix (p ∷ []) rest)) (read_unit tree (prefix ++ p ∷ rest) unit) in
@@ -156,7 +156,8 @@ reach_next s m xs x r h within =
       same = plain_tokens-append r.placed (p ∷ []) ∙ ap (λ (z : List Lexeme). z ++ x ∷ []) r.same;
     }
 
--- the same for the token at the index `k`
+-- once the parser has reached the token at the index `k`, it reaches the next state over that token, if the token is within
+-- the limits
 pub reach : (s m : State) (tokens : List Lexeme) (k : ℕ) (x : Lexeme) → Reached s (take k tokens) → IsCutAt tokens k x → step s x ≡ Some m → IsWithin (standing s x m) → Reached m (take (suc k) tokens)
 reach s m tokens k x r c h within = subst (λ (z : List Lexeme). Reached m z) (sym c.next) (reach_next s m (take k tokens) x r h within)
 

@@ -58,7 +58,7 @@ fn place_of_token(text: &[u8], tokens: &[Token], number: usize) -> Place
     }
 }
 
-/// The fault for a text whose tokens were refused, by the grammar, a limit, or lack of memory.
+/// The fault for a text whose tokens were refused because of the grammar, a limit, or lack of memory.
 fn fault_of(text: &[u8], tokens: &[Token], refusal: Refusal) -> SyntaxFault
     requires fits { length text.now ≤ most_bytes }
     requires ordered { AreInOrder 0 tokens.now (length text.now) }
@@ -135,10 +135,10 @@ fn parse_text(alloc: Global, text: &[u8]) -> Result<Unit, SyntaxFault>
 
 /// Returns the text with the tree that it spells (C99 6.5 to 6.9, and the profile's grammar).
 ///
-/// Refuses with 7 (SourceTooLarge) or 1 to 4, as `tokens` does. Otherwise it refuses with 5 or 6 at the first token that is
-/// wrong. The fault is 5 (Unexpected) if no unit begins with the tokens up to and including that one; the end of the text counts
-/// as a last token. It is 6 (TooDeep) if the token comes after the 512th of its full expression, or begins a statement or
-/// declaration below level 64. It refuses with 40 (OutOfMemory) if memory runs out.
+/// Refuses with 7 (SourceTooLarge) or a lexical error (1 to 4), as `tokens` does. Otherwise it refuses with 5 or 6 at the first
+/// token that is wrong. The fault is 5 (Unexpected) if no unit begins with the tokens up to and including that one; the end of
+/// the text counts as a last token. It is 6 (TooDeep) if the token comes after the 512th of its full expression, or begins a
+/// statement or declaration below level 64. It refuses with 40 (OutOfMemory) if memory runs out.
 pub fn parse(alloc: Global, text: &[u8]) -> Result<Unit, SyntaxFault>
     ensures fits { IfOk result (λ _. length text.now ≤ most_bytes) }
     ensures text { IfOk result (λ u. (source u).text ≡ text.now) }

@@ -58,7 +58,7 @@ pub comment_is_found : (c after bytes : List ℕ) → IsComment c after → byte
 comment_is_found _ after bytes (block body none) whole = block_is_found body after none bytes whole
 comment_is_found _ after bytes (line body none ends) whole = line_is_found body after none ends bytes whole
 
--- an unclosed comment: no `*/` follows
+-- if no `*/` follows, the scanner finds that the comment is unclosed
 pub unclosed_is_found : (body : List ℕ) → Nowhere begins_close body [] → comment_head (47 ∷ 42 ∷ body) ≡ head.Error UnclosedComment 0
 unclosed_is_found body none =
     let place : offset_within begins_close (length body) body ≡ length body = ap (offset_within begins_close (length body)) (sym (append-nil body)) ∙ place_none_before begins_close body [] none in

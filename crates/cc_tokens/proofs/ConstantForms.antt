@@ -39,7 +39,7 @@ long_suffix : (a b : ℕ) (bs : List ℕ) → suffix_of (a ∷ b ∷ bs) ≡ Non
 unfolding suffix_of
 long_suffix a b bs = cond-false _ _ _ (ne_eqb (length (a ∷ b ∷ bs)) 0 (λ e. omega arith)) ∙ cond-false _ _ _ (and_left _ _ (ne_eqb (length (a ∷ b ∷ bs)) 1 (λ e. omega arith)))
 
--- what is accepted as a suffix is one
+-- what is accepted as a suffix is a suffix
 suffix_found : (bs : List ℕ) (s : Bool) → suffix_of bs ≡ Some s → IsSuffix bs s
 unfolding suffix_of
 suffix_found [] true e = absurd (false≢true (some_same _ _ e))
@@ -76,7 +76,7 @@ behind_found base n behind c =
     (and_cases (n == 0) (not (base == 8)) digits))
     e)
 
--- at least one decimal digit, beginning with one that is not 0
+-- if the first decimal digit is not 0, the prefix before the digits is empty
 decimal_digits : (b : ℕ) (bs : List ℕ) (n : ℕ) → (b ≡ 48 → ⊥) → (n ≡ 0 → ◌≡◌ {A = ℕ} 10 8) → IsPrefix [] 10 (take n (b ∷ bs))
 decimal_digits b bs zero apart some = absurd (let e = some refl in omega arith)
 decimal_digits b bs (suc n) apart some = decimal apart

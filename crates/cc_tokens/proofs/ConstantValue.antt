@@ -61,7 +61,7 @@ kind_from_parts number base n suffixed base_is some n_is digits suffix_is =
     ap (λ v. typed (type_of_value base suffixed v) v) capped ∙ capped_type base suffixed (fold (λ v b. v * base + digit_value b) 0 (take n behind))
     ∙ sym (ap constant_kind (ap (λ b. constant_behind b (prefix_len (is_digit_of b) (drop (prefix_of_base b) number)) (drop (prefix_of_base b) number)) (sym base_is) ∙ whole))
 
--- the same for the values that the code has computed
+-- the values that the code has computed are the parts of the constant that the number spells
 pub kind_from_behind : (number behind : List ℕ) (base n v : ℕ) (suffixed : Bool) (r : Result TokenKind LexicalError) → base ≡ base_of number → 1 ≤ base
     → behind ≡ drop (prefix_of_base base) number
     → n ≡ prefix_len (is_digit_of base) behind

@@ -59,7 +59,7 @@ module _ (b : ℕ) (bs : List ℕ) where
 
 -- Sound.
 
--- the run of a word or a number, and what follows it
+-- the bytes are the run of a word or a number, followed by the rest
 run_whole : (may : ℕ → ℕ → Bool) (b : ℕ) (bs : List ℕ) → b ∷ bs ≡ (b ∷ take (run_length may b bs) bs) ++ drop (run_length may b bs) bs
 run_whole may b bs = ap (λ xs. b ∷ xs) (sym (take-append-drop (run_length may b bs) bs))
 

@@ -107,7 +107,7 @@ run_bounds may b bs other rest run =
 taken_length : (may : ℕ → ℕ → Bool) (b : ℕ) (bs : List ℕ) → length (take (run_length may b bs) bs) ≡ run_length may b bs
 taken_length may b bs = length-take-le (run_length may b bs) bs (run_fits may b bs)
 
--- the word at the beginning is the longest token there, and if a number is there, so is the number
+-- the word or the number at the beginning is the longest token there
 pub word_is_longest : (b : ℕ) (bs : List ℕ) → is_nondigit b ≡ true → IsLongest (b ∷ take (run_length continues_word b bs) bs) (drop (run_length continues_word b bs) bs)
 word_is_longest b bs letter = record {
   can_be = word (letter, run_continues continues_word b bs);

@@ -41,7 +41,8 @@ pub enum NextToken {
     Error(LexicalError, usize),
 }
 
-/// Returns the next token of a text at or after `at`, an offset at which the tokens before it end. Takes no memory.
+/// Returns the next token of a text at or after the offset `at`. The result is right if the text before `at` consists of whole
+/// tokens, comments and white space (`found`). Takes no memory.
 pub fn next_token(text: &[u8], at: usize) -> NextToken
     requires { at ≤ length text.now }
     ensures found { (ts : List token.Token) → FoundBefore text.now ts at → FoundNext text.now ts result }

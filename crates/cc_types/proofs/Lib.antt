@@ -1,4 +1,4 @@
--- a map ordered by bytes finds the names that are the same
+-- a look-up in a map ordered by bytes finds the key that is the same name
 pub mod KeyOrder
 -- a name keeps its number, and no other name gets it
 pub mod NameNumbers

@@ -9,7 +9,7 @@ use Rattle.cc_types.specs.Numberings.{numbered_in, number_of_name, number_or_nex
 use Rattle.std.specs.Ordering.{is_eq}
 use Rattle.cc_types.proofs.KeyOrder.{same_key, key_cmp, same_key-ties, lookup-get}
 
--- what the map has for a name is its number
+-- a look-up of a name in the map's entries finds the name's number
 pub lookup-numbered : (entries : List (Bor (List ℕ) × ℕ)) (q : Bor (List ℕ)) → lookup (same_key q) entries ≡ number_of_name (numbered_in entries) q.now
 lookup-numbered [] q = refl
 lookup-numbered (e ∷ es) q = ap (cond (same_name q.now e.0.now) (Some e.1)) (lookup-numbered es q)
@@ -82,7 +82,7 @@ module _ (old new : List (List ℕ × ℕ)) (x : List ℕ) (n : ℕ) (numbers : 
   pub IsNumbered-is : IsNumbered old new x n
   IsNumbered-is = record { number = is; found = found; numbers = record { one = one; below = below }; longer = longer }
 
--- the map after a name gets a number, its own or the next
+-- once a name gets a number, its own or the next, the names in the map are numbered as `IsNumbered` says
 module _ (old new : BTreeMap (Bor (List ℕ)) ℕ) (k : Bor (List ℕ)) (n : ℕ) (numbers : AreNumbers (numbered_in old.entries)) where
   IsNumbered-map : n ≡ number_or_next (numbered_in old.entries) k.now → ((q : Bor (List ℕ)) → get key_cmp new q ≡ cond (is_eq (key_cmp k q)) (Some n) (get key_cmp old q))
       → length new.entries ≡ length old.entries + cond (is_some (get key_cmp old k)) 0 1 → IsNumbered (numbered_in old.entries) (numbered_in new.entries) k.now n

@@ -68,7 +68,7 @@ not-found (b ∷ bs) x e = by (same_name b.name x) (not-found bs x) e
     by true f k = absurd cc
     by false f k = f k
 
--- what a look-up of a name finds, given the number of its newest binding
+-- if a look-up of a name returns the number of the name's newest binding, it finds what the name denotes
 pub entity_found-is : (bs : List Binding) (x : List ℕ) (r : Option Newest) → number_of r ≡ number_in (bindings_of bs) x → IfSome r (λ n. (d : Binding) → n.entity ≡ (get_or bs n.number d).entity)
     → entity_found r ≡ scope.found (bindings_of bs) x
 entity_found-is bs x None e h = sym (not-found (bindings_of bs) x (sym e))
@@ -77,7 +77,8 @@ entity_found-is (b ∷ bs) x (Some n) e h =
     ap (λ a. Some (entity_of a)) (h b) ∙ ap (λ (l : List Binding). Some (entity_of (get_or l n.number b).entity)) (sym (reverse-reverse (b ∷ bs)))
     ∙ sym ((at-reverse (reverse (b ∷ bs)) x n.number (sym e)).entity b)
 
--- a look-up finds the same if the entity is read from a list with one more binding at its end
+-- a look-up finds what the name denotes even if the entity is read from a list with one more binding at its
+-- end
 pub entity_found-pushed : (bs : List Binding) (b : Binding) (x : List ℕ) (r : Option Newest) → number_of r ≡ number_in (bindings_of bs) x
     → IfSome r (λ n. (d : Binding) → n.entity ≡ (get_or (bs ++ b ∷ []) n.number d).entity) → entity_found r ≡ scope.found (bindings_of bs) x
 entity_found-pushed bs b x None e h = entity_found-is bs x None e tt
@@ -110,7 +111,7 @@ IsTable-numbered bs old new x n table before is = record {
 pub table-at : (bs : List Binding) (names : List (List ℕ × ℕ)) (table : ℕ → Option ℕ) → IsTable bs names table → (x : List ℕ) (n : ℕ) → number_of_name names x ≡ Some n → table n ≡ number_in (bindings_of bs) x
 table-at bs names table is x n e = sym (ap (at_number table) e) ∙ is.found x
 
--- the same for a name that has just been given its number
+-- the table also has the newest binding of a name that has just been given its number
 pub hidden-is : (bs : List Binding) (old new : List (List ℕ × ℕ)) (x : List ℕ) (n : ℕ) (table : ℕ → Option ℕ) → IsTable bs old table → IsNumbered old new x n → (r : Option ℕ) → r ≡ table n → r ≡ number_in (bindings_of bs) x
 hidden-is bs old new x n table before is r e = e ∙ table-at bs new table (IsTable-numbered bs old new x n table before is) x n (number-own old new x n is)
 

@@ -55,7 +55,7 @@ closed around v = record { inner = take around v.outer; outer = drop around v.ou
 abbrev pub file_level : List scope.Binding → Visible
 file_level bs = record { inner = []; outer = bs }
 
--- file scope if no other scope is open, with these names of defined functions, and without them
+-- file scope if no other scope is open: with these names of defined functions, or without such names
 abbrev pub file_with : Visible → List (List ℕ) → scope.FileScope
 file_with v defined = record { bindings = v.outer; defined = defined }
 

@@ -173,7 +173,7 @@ abbrev pub length_errors : Option ℕ → ℕ → ℕ → List RuleError
 length_errors None given at = []
 length_errors (Some n) given at = broken_if (n == 0 || nat_lt n given) WrongCount at
 
--- an array new at file scope. Its length comes before the point from which its name is in scope, its values after it (6.2.1).
+-- an array: its name must be new at file scope, and is in scope in the array's values, but not in its length (6.2.1)
 abbrev pub named_array_errors : Scalar → Name → Option ConstantExpr → List ConstantExpr → FileScope → List RuleError
 named_array_errors t x n values f =
     broken_if (is_declared f.bindings x.text) Redeclared x.at

@@ -58,7 +58,7 @@ abbrev pub scope_behind_beginning : Beginning → Visible → Visible
 scope_behind_beginning (Declares t ds) v = all_declared t ds v
 scope_behind_beginning (Performs a) v = v
 
--- the scope after a parameter, which possibly has no name
+-- the scope after a parameter, which may have no name
 abbrev pub parameter_declared : Scalar → Option Name → Visible → Visible
 parameter_declared t None v = v
 parameter_declared t (Some x) v = declared x.text (Variable t) v

@@ -90,7 +90,7 @@ constant_value (Conditional c a b) = with_word (constant_value c) (λ w. if is_t
 abbrev pub constant_word : ConstantExpr → Option ℕ
 constant_word c = if is_constant c.expr then constant_value c.expr else None
 
--- how many elements a length means: 0 if the length is of type int and below 0 (6.7.5.2)
+-- how many elements an array of this length has: 0 if the length is of type int and below 0 (6.7.5.2)
 abbrev pub elements_of_word : Scalar → ℕ → ℕ
 elements_of_word Int w = if is_true (lt_s w 0) then 0 else w
 elements_of_word Unsigned w = w

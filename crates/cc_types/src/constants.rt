@@ -37,7 +37,8 @@ fn unary_word(operator: UnaryOperator, word: u32) -> u32
     }
 }
 
-/// The word that a binary operator yields in the working type, or `None` if C leaves that word undefined.
+/// The word that a binary operator yields in the working type, or `None` if the operator has no value for
+/// these words.
 pub fn binary_word(operator: BinaryOperator, working: Scalar, a: u32, b: u32) -> Option<u32>
     ensures { result ≡ binary_word operator working a b }
 {

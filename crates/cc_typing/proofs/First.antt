@@ -8,7 +8,7 @@ use Rattle.cc_types.specs.Typed.{NotAfter, IsFirst}
 use Rattle.cc_typing.specs.internal.Findings.{is_before, earlier, noted}
 use Rattle.cc_types.specs.declared.rule.RuleError.{RuleError}
 
--- the order of errors, as a relation between numbers
+-- the test for the order of errors decides how their offsets and numbers are related
 order-true : (a b m n : ℕ) → (nat_lt a b || (a == b && nat_lt m n)) ≡ true → (a < b) ⊎ ((a ≡ b) × (m ≤ n))
 order-true a b m n h = grind (arith, nat_tests)
 

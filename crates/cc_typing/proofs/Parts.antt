@@ -33,7 +33,7 @@ after_after f xs ys cs ds i = record { first = noted-append f.first xs ys i; und
 pub after_noted : (f : Found) (xs ys : List RuleError) (cs : List Name) → after (after f xs cs) ys [] ≡ after f (xs ++ ys) cs
 after_noted f xs ys cs i = record { first = noted-append f.first xs ys i; undefined = noted f.undefined (undefined_among f.functions.defined cs); functions = f.functions }
 
--- what is found in two parts, one after the other, is what is found in both
+-- what is found in one part and then in another is what is found in both together
 pub two : (f g h : Found) (xs ys os : List RuleError) (cs ds es : List Name) → g ≡ after f xs cs → h ≡ after g ys ds → os ≡ xs ++ ys → es ≡ cs ++ ds → h ≡ after f os es
 two f g h xs ys os cs ds es eg eh eo ee = eh ∙ ap (λ k. after k ys ds) eg ∙ after_after f xs ys cs ds ∙ sym (ap (λ l. after f l (cs ++ ds)) eo) ∙ sym (ap (after f os) ee)
 
@@ -46,7 +46,7 @@ next f g whole xs ys os cs ds es before eo ee eg =
 pub last : (f whole : Found) (os : List RuleError) (es : List Name) → after f os es ≡ whole → os ≡ [] → es ≡ [] → f ≡ whole
 last f whole os es before eo ee = sym (after_nothing f) ∙ sym (ap (λ l. after f l []) eo) ∙ sym (ap (after f os) ee) ∙ before
 
--- what recording an error or a call does
+-- recording an error, or a call, adds just that one to what was found
 pub noted_one : (f : Found) (o : RuleError) → record f { first = Some (earlier f.first o) } ≡ after f (o ∷ []) []
 noted_one f o = refl
 
@@ -57,7 +57,7 @@ called_undefined f x e = sym (ap (λ b. record f { undefined = noted f.undefined
 pub called_defined : (f : Found) (x : Name) → has_name f.functions.defined x.text ≡ true → f ≡ after f [] (x ∷ [])
 called_defined f x e = sym (ap (λ b. record f { undefined = noted f.undefined (broken_if (not b) Undefined x.at ++ []) }) e)
 
--- what is found in three parts, one after another, is what is found in all three
+-- what is found in three parts, one after another, is what is found in all three together
 pub three : (f g h k : Found) (xs ys zs os : List RuleError) (cs ds es all : List Name) → g ≡ after f xs cs → h ≡ after g ys ds → k ≡ after h zs es → os ≡ xs ++ (ys ++ zs) → all ≡ cs ++ (ds ++ es) → k ≡ after f os all
 three f g h k xs ys zs os cs ds es all eg eh ek eo ee =
     two f g k xs (ys ++ zs) os cs (ds ++ es) all eg (two g h k ys zs (ys ++ zs) ds es (ds ++ es) eh ek refl refl) eo ee

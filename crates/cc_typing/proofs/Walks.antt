@@ -74,14 +74,14 @@ Declaring-next t v0 f0 all v f d rest v' f' before es ef = record {
 
 -- ---- statements
 
--- the errors of a return, as the code finds them
+-- the code finds exactly the errors of a return
 pub return-is : (r : Option Scalar) (bs : List Binding) (at : ℕ) (e : Option Expr) → return_errors r bs at e ≡ broken_if (is_bad_return r e) BadReturn at ++ optional_errors bs e
 return-is None bs at None = refl
 return-is None bs at (Some e) = refl
 return-is (Some t) bs at None = refl
 return-is (Some t) bs at (Some e) = refl
 
--- what is found in four parts, one after another, is what is found in all four
+-- what is found in four parts, one after another, is what is found in all four together
 four : (f g h k m : Found) (xs ys zs ws os : List RuleError) (cs ds es gs all : List tree.Name) → g ≡ after f xs cs → h ≡ after g ys ds → k ≡ after h zs es → m ≡ after k ws gs
     → os ≡ xs ++ (ys ++ (zs ++ ws)) → all ≡ cs ++ (ds ++ (es ++ gs)) → m ≡ after f os all
 four f g h k m xs ys zs ws os cs ds es gs all eg eh ek em eo ee =
@@ -125,8 +125,8 @@ module _ (a : Around) (v : Visible) (t : Stmt) (f : Found) where
       two f g h (looped body) (tested c) _ (called_in_statement body) (called_in c) _ (eg ∙ ap (λ u. after f (statement_errors body u (opened v)) (called_in_statement body)) ew) eh
       (ap (λ u. statement_errors u a v) is ∙ ap (λ u. looped u ++ tested c) (sym eb)) (ap called_in_statement is ∙ ap (λ u. called_in_statement u ++ called_in c) (sym eb))
 
-  -- what is found in a `for`; `u` is the scope that its header opens, and `n` the scope after the header's first
-  -- part
+  -- what is found in the parts of a `for`, one after another, is what is found in the whole `for`; `u` is the
+  -- scope that its header opens, and `n` the scope after the header's first part
   pub for-found : (w : Around) → w ≡ within_loop a → (u n : Visible) → u ≡ opened v → (g h k m : Found) (start : Beginning) (c : Option Expr) (behind : Option Action) (b body : Stmt)
       → t ≡ For start c behind b → body ≡ b → n ≡ scope_behind_beginning start u
       → g ≡ after f (beginning_errors start u) (called_in_beginning start) → h ≡ after g (optional_errors (in_scope n) c) (called_in_optional c)

@@ -24,10 +24,10 @@ const MAIN: &[u8] = b"main";
 
 /// Checks the rules of scope and type (C99 6.2.1, 6.5 to 6.9) and the limits.
 ///
-/// Refuses with one of the faults 11 to 18 and 21: the one at the earliest token, and if there are several at that token, the
-/// one with the least number. If there is none of these, a unit without `main` is refused with 19 (NoMain), at the end of the
-/// text, and otherwise with 20 (Undefined) at the first call of a function that is not defined, if there is one. Refuses with
-/// 40 (OutOfMemory) if memory runs out. An `Err` drops the unit.
+/// Refuses with one of the faults 11 to 18 and 21 (`TypeFault` names them): the one at the earliest token, and if there are
+/// several at that token, the one with the least number. If there is none of these, a unit without `main` is refused with 19
+/// (NoMain), at the end of the text. A unit with `main` is then refused with 20 (Undefined) at the first call of a function
+/// that is not defined, if there is one. Refuses with 40 (OutOfMemory) if memory runs out. An `Err` drops the unit.
 pub fn check(alloc: Global, unit: Unit) -> Result<TypedUnit, TypeFault>
     ensures answer { IfOk result (λ t. t ≡ unit) }
     ensures typed { OnOk result (IsTyped (source unit).externals) }

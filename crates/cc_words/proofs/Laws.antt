@@ -33,7 +33,7 @@ signed_value-word_of z h = grind (arith, ints)
 pub signed_value_injective : (a b : ℕ) → IsWord a → IsWord b → signed_value a ≡ signed_value b → a ≡ b
 signed_value_injective a b p q e = sym (word_of-signed_value a p) ∙ ap word_of e ∙ word_of-signed_value b q
 
--- a difference of words, computed with natural numbers only
+-- a difference of words can be computed with natural numbers only
 pub sub_is : (a b : ℕ) → IsWord a → IsWord b → sub a b ≡ (a + (2 ^ 32 - b)) % 2 ^ 32
 sub_is a b p q = grind (arith, ints)
 

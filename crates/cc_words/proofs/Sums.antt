@@ -47,7 +47,7 @@ signed_value_form : (w : ℕ) → IsWord w → (signed_value w ≡ pos w) ⊎ ((
 signed_value_form w h =
     elim (word_cases w h) [ inl e ↦ inl e | inr e ↦ inr (below_zero (signed_value w) w e h) ]
 
--- products with one factor below 0, and products with both below 0
+-- if one factor or both are below 0, the product differs from that of the words by a multiple of n
 product_of_one : (n a b x : ℕ) → b + x ≡ n → neg_ℤ (pos (a * x)) +ℤ pos (a * n) ≡ pos (a * b)
 product_of_one n a b x e = let f : a * n ≡ a * b + a * x = ap (λ t. a * t) (sym e) ∙ mul-add a b x in omega (arith, ints)
 

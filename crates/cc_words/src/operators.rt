@@ -92,8 +92,7 @@ pub enum Binary {
 impl Binary {
     /// The operator's value for these words.
     ///
-    /// `None` exactly if C leaves the value undefined: a divisor of 0, a signed division of -2147483648 by -1, or a shift by 32
-    /// or more.
+    /// `None` exactly if there is no value: a divisor of 0, a signed division of -2147483648 by -1, or a shift by 32 or more.
     pub fn apply(self, left: u32, right: u32) -> Option<u32>
         ensures { result ≡ apply_binary self left right }
     {

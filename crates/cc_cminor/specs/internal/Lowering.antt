@@ -165,7 +165,7 @@ is_reversed (Unary op a) = is_zero_test op && not (is_reversed a)
 is_reversed (Binary op a b) = is_opposite op b
 is_reversed e = false
 
--- the first if the value of an expression is not 0, else the second
+-- a branch that runs the first statement if the value of an expression is not 0, else the second
 abbrev pub branch : Expression → (nonzero otherwise : Statement) → Statement
 branch e a b = if is_reversed e then If (condition e) b a else If (condition e) a b
 

@@ -15,7 +15,7 @@ short_cut LogicalAnd n = Some (AndThen n)
 short_cut LogicalOr n = Some (OrElse n)
 short_cut op n = None
 
--- an instruction that may be absent
+-- the list of an instruction, or the empty list if the instruction is absent
 abbrev pub some_code : Option Instruction → List Instruction
 some_code None = []
 some_code (Some i) = i ∷ []

@@ -82,7 +82,7 @@ abbrev pub position_view : position.Position → Position
 position_view positions.Local = AsLocal
 position_view positions.Header = AsHeader
 
--- an action's place and a declaration of locals are taken from the parser's fields
+-- the purpose of a full expression, with the action's `Spot` and the declaration of locals from the parser's fields
 abbrev pub purpose_view : spot.Spot → locals.Locals → purpose.Purpose → Purpose
 purpose_view p l purposes.Perform = ToPerform (spot_view p)
 purpose_view p l (purposes.Assign op t) = ToAssign op (target_tree t) (spot_view p)
@@ -110,7 +110,7 @@ phase_view (phases.Operator e) = Operator (expression_tree e.value)
 phase_view (phases.CastSign t) = CastSign t
 phase_view (phases.CastType t) = CastType t
 
--- the number is how many tokens an increment or decrement has
+-- what comes next in a function's body; the number is how many tokens an increment or decrement has
 abbrev pub stage_view : spot.Spot → locals.Locals → ℕ → stage.Stage → Stage
 stage_view p l k stages.Item = Item
 stage_view p l k (stages.AfterThen e s) = AfterThen (expression_tree e.value) (statement_tree s.value)

@@ -201,7 +201,7 @@ wrong_part_not_evaluated = refl
 unsigned_and_signed : errors (tree.Objects Int (tree.Array (name (codes "a") 4) (Some (record { at = 6; expr = (tree.Binary Less (tree.Number Int 1) (tree.Number Unsigned 2)) })) [] ∷ []) ∷ tree.Definition (record { result = (Some Int); name = (name (codes "main") 16); parameters = [] }) tree.end ∷ []) ≡ []
 unsigned_and_signed = refl
 
--- the same unit calls no function that is not defined
+-- the unit `each_statement` calls no function that is not defined
 none_is_undefined : undefined_calls each_statement ≡ []
 none_is_undefined = refl
 

@@ -77,7 +77,7 @@ quotient_is_no_int = refl
 remainder_of_no_int : rem_s 2147483648 4294967295 ≡ None
 remainder_of_no_int = refl
 
--- the same divisions of unsigned numbers
+-- divisions of unsigned numbers: only the one by zero has no value
 unsigned_quotient : div_u 2147483648 4294967295 ≡ Some 0
 unsigned_quotient = refl
 

@@ -14,8 +14,8 @@ invariant-arguments-loop-left l = record {
 abbrev pub decreases-arguments-loop-left : goal.decreases-arguments-loop-left
 decreases-arguments-loop-left l = l.left
 
--- the depth decreases from an expression to its parts; a function that writes several parts comes between the
--- two
+-- the size decreases from an expression to its parts; the measure of a list of arguments lies between that of
+-- the call and those of the arguments
 abbrev pub decreases-expression : goal.decreases-expression
 decreases-expression l = 2 * the_size l.tree.now
 
