@@ -32,7 +32,7 @@ enum Place {
     Line,
     // In a source; this many of its bytes are left.
     Within(u32),
-    // After a source: a newline comes.
+    // After a source: a newline comes next.
     Behind,
     // After a source that was followed by a byte other than a newline: nothing that follows is reported.
     Broken,

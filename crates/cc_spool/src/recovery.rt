@@ -163,7 +163,7 @@ fn complete_left(layout: &FolderLayout, name: &str) -> Result<(), Refusal> {
 }
 
 /// Completes an answer that was left, so that it can be handed over. The result is whether its script was begun. An answer whose
-/// script was not begun is removed. An `Err` leaves both for the next start.
+/// script was not begun is removed. An `Err` leaves the answer and its script for the next start.
 pub(crate) fn complete_answer(layout: &FolderLayout, name: &str) -> Result<bool, Refusal> {
     match left_answer(layout, name)? {
         LeftAnswer::Gone => Ok(false),
@@ -199,8 +199,8 @@ pub struct Recovered {
     pub begun: u64,
     /// The names of scripts that could not be answered yet, for the spool that tries them again (`FolderSpool::keep`).
     pub kept: Vec<String>,
-    /// How many claims of scripts that were answered could not be removed: directories that somebody put in a script's place, and
-    /// that are not empty.
+    /// How many claims of scripts that were answered could not be removed: in the script's place there is a directory that somebody
+    /// put there, and it is not empty.
     pub stuck: u64,
 }
 
