@@ -36,7 +36,7 @@ fn bytes_of<E: Write>(
     found
 }
 
-/// Explains a fault to a person. The fault that no unit has the name was explained before.
+/// Explains a fault to a person. The fault for a name that no unit has was explained before.
 pub fn explain_part<E: Write>(fault: PartFault, errors: &mut E) -> io::Result<()> {
     match fault {
         PartFault::Library(LibraryFault::DiskFault) => errors.write_all(NO_FILE.as_bytes())?,

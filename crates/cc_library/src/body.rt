@@ -35,7 +35,7 @@ pub fn command_body(
     Ok(body)
 }
 
-/// The number of bytes that the body of a command's record takes. It takes no memory.
+/// The number of bytes that the body of a command's record takes. The call takes no memory.
 pub fn body_length(command: &LibraryCommand) -> usize
     ensures length { result ≡ length (body_of command.now) }
     // Only a certificate can be too long for a body.

@@ -53,7 +53,7 @@ pub record HoldsPrefix {D : Type 0} (book : BookView D) (image : List ℕ) : Typ
 -- a moment up to the opening, and what a crash from that moment until the opening had left.
 pub record IsSound {Disk : Type 0} (D : Ghosts Disk) (base : Units) (from : ℕ) (left : List ℕ → Type 0) (book : BookView Disk) : Type 0 where
   pub base_is : IsTrue D.honest → book.base ≡ base
-  -- each answer is that of a single thread at that point; the map is the base with the changes; a unit was at the opening or was compiled
+  -- each answer is that of a single thread at that point; the map is the base with the changes; each unit is the base's or was compiled
   pub legal : IsLegal book.base book.history
   pub map : book.library.units ≡ units_after book.base book.history
   pub agrees : EachAgrees book.base book.library.units

@@ -422,8 +422,8 @@ impl<N: Named + Send + Sync + 'static, D: Disk> Service<N, D> {
         answer
     }
 
-    /// Whether some client waits for a unit that it puts. No clause says this. If a client makes no other call at the time, and hands texts
-    /// in early only if this is false, no other client waits longer because of it.
+    /// Whether some client waits for a unit that it puts. No clause says anything about the answer. A client that makes no other call at
+    /// the time, and hands in texts early only if the answer is false, makes no other client wait longer.
     pub fn is_busy(&self) -> bool {
         self.putting.load(Ordering::SeqCst) != 0
     }

@@ -55,7 +55,7 @@ pub(crate) struct Player<'a, N: Named, H, D: Disk, P> {
 }
 
 impl<'a, N: Named + Send + Sync + 'static, H: Wait, D: Disk, P: Patience> Player<'a, N, H, D, P> {
-    // The text of a source that is read up to here, which was handed to the workers before its turn or is handed to them now.
+    // The text of the source that was read up to here. It was handed to the workers before its turn, or is handed to them now.
     fn begun<R: Read>(
         &self,
         client: &mut Client<N>,
@@ -75,7 +75,7 @@ impl<'a, N: Named + Send + Sync + 'static, H: Wait, D: Disk, P: Patience> Player
         }
     }
 
-    // Hands the sources of the next commands to the workers, unless some client waits for them.
+    // Hands the sources of the next commands to the workers, unless some client is waiting for the workers.
     fn look_ahead<R: Read>(&self, client: &mut Client<N>, script: &Reading<R>, hints: &mut Hints<N>)
         ensures { client.new.member ≡ client.old.member }
     {

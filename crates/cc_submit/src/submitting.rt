@@ -37,7 +37,7 @@ pub struct Ended {
     pub came: Option<Submission>,
     /// The status.
     pub status: u8,
-    /// Whether everything was printed that was to be.
+    /// Whether everything that was to be printed was printed.
     pub is_written: bool,
 }
 
@@ -283,7 +283,7 @@ fn put<W: Write>(text: &[u8], writer: &mut W) -> bool
     }
 }
 
-// Explains to a person the fault that an answer reported last; if the fault has a place in the source, this is what `check`
+// Explains to a person the fault that an answer reported last; if the fault has a place in the source, the explanation is what `check`
 // reports about the source.
 fn explain<R: AllocGlobal, E: Write>(
     rt: &R,
