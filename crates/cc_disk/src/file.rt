@@ -26,7 +26,7 @@ const OWN: u32 = 0o600;
 /// (DeviceFailed) if that call is refused or does less than was asked. After a failed sync every later call returns 35: the
 /// system may have dropped the pages that it could not write, and a later sync would not report the loss.
 ///
-/// While it exists, no other process has the file open as a disk.
+/// While this value exists, no other process has the file open as a disk.
 pub struct FileDisk {
     file: fs::File,
     size: usize,

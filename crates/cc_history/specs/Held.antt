@@ -30,8 +30,7 @@ asked_bytes (Change command) = command_bytes command
 asked_bytes (Fetch name) = 0
 asked_bytes Names = 0
 
--- a reply counts as 48 for each name in a list, however short the name; a unit in a reply belongs to the library and is not
--- counted
+-- a reply counts as 48 for each name in a list, however short the name; a unit in a reply belongs to the library and is not counted
 abbrev pub reply_bytes : Reply → ℕ
 reply_bytes reply.Done = 0
 reply_bytes reply.Exists = 0

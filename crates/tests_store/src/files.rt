@@ -13,7 +13,7 @@ fn is_held(rt: &HostRuntime, path: &str) -> bool {
     FileDisk::open(rt, path).is_err() && FileDisk::create(rt, path, 9).is_err()
 }
 
-// Makes a journal with one record in a new file. The result is whether nobody else has the file while the journal does.
+// Makes a journal with one record in a new file. The result is whether nobody else can use the file while the journal is open.
 fn is_written(rt: &HostRuntime, alloc: Global, path: &str) -> Result<bool, Fail> {
     let mut disk = FileDisk::create(rt, path, 144)?;
     let has_size = disk.size() == 144;

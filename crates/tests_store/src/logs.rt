@@ -194,7 +194,7 @@ fn closed_after(alloc: Global, passes: u64) -> Result<Log<FuseDisk<MemoryDisk>>,
     }
 }
 
-// Whether a log that such a call has closed answers 36, and its disk has the same bytes after this answer.
+// Whether a log that the failure of a call has closed answers 36, and its disk has the same bytes after this answer.
 fn stays_closed(alloc: Global, passes: &u64) -> Result<bool, Fail> {
     let before = bytes_of(alloc, &mut closed_after(alloc, *passes)?.into_disk())?;
     let mut log = closed_after(alloc, *passes)?;
