@@ -211,12 +211,12 @@ fn is_whole(answer: io::Result<usize>, wanted: usize) -> bool
     }
 }
 
-// Writes these bytes from `offset` on with one system call, and returns whether that call wrote them all.
+// Writes these bytes at `offset` with one system call, and returns whether that call wrote them all.
 fn is_written(file: &fs::File, offset: usize, bytes: &[u8]) -> bool {
     is_whole(file.write_at(bytes, offset as u64), bytes.len())
 }
 
-// Fills the buffer from `offset` on with one system call, and returns whether that call filled it.
+// Fills the buffer, with one system call, with the file's bytes at `offset`, and returns whether that call filled it.
 fn is_read(file: &fs::File, offset: usize, buffer: &mut [u8]) -> bool {
     let answer = file.read_at(buffer, offset as u64);
     is_whole(answer, buffer.len())

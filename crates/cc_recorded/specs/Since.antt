@@ -27,9 +27,7 @@ module _ {Disk : Type 0} where
       ((j : ℕ) × (entries ≤ j) × (j ≤ length book.history) × RecoversAlone image (units_after book.base (take j book.history)))
       ⊎ ((c : LibraryCommand) × (book.failed ≡ c ∷ []) × RecoversAlone image (after book.library.units c))
 
-  -- An image of the disk as it was when the history had this many entries: it recovers to the base after these; or to the map with the change
-
-  -- in which the device failed.
+  -- an image of the disk when the history had this many entries: it recovers to the base after these, or to the map with the failed change
   abbrev pub HoldsJust : BookView Disk → ℕ → List ℕ → Type 0
   HoldsJust book entries image =
       RecoversAlone image (units_after book.base (take entries book.history))

@@ -90,7 +90,7 @@ module _ {Disk : Type 0} (D : Ghosts Disk) (failures : ℕ) (named : Units) (fro
   kept_by book after disk sound blamed closed own =
       inl (inl refl, record { base = named; begun = begun; book = book; disk = sym disk; sound = sound; blamed = blamed; own = own; holds = closed })
 
-  -- how a service that was given up ends
+  -- a service that was given up has ended, as `IsEnded` says
   pub given_up_by : (are_all : Bool) (after : Disk) → IsGivenUp D failures named from left clients are_all after → IsEnded D failures bytes from left clients played (given_up_after are_all played) after
   given_up_by true after it =
       inl (given_up_whole played, record { base = named; begun = begun; book = it.book; disk = it.disk_is; sound = it.sound; blamed = it.blamed; own = it.own; holds = it.closed refl })
@@ -176,7 +176,7 @@ module _ {Disk : Type 0} (D : Ghosts Disk) where
       (subst (λ (e : SessionEnd). EndsSince D from begins Untouched HaveDone a b e) (sym told)
       (inl ((base, fault, refl, why), reads, untouched)))
 
-  -- what a crash may have left at the service's beginning
+  -- if the disk was only read, a crash since the beginning leaves only what it could have left then
   pub past_at : (first a b : Disk) → ((image : List ℕ) → D.left_since a (D.moment a) image → D.may_leave a image) → first ≡ a → OnlyReads D.seen D.may_leave D.moment D.left_since a b
       → IsPast D (D.moment first) (D.may_leave first) b
   past_at first a b only is reads =

@@ -296,7 +296,7 @@ sent_on x y z count source is_ended sent is read ended =
     between_then x y z (λ b a. IsSource b count (option_map (λ bytes. bytes.items) source) a) (λ b a. IsLineEnd b is_ended a) (λ b a. HasSent b count sent a) read ended
     (λ b m a one two. sent_step b m a count source is_ended sent is one two)
 
--- what is ahead in a script that has not been read at all
+-- if nothing of a script was read, all its bytes are ahead
 pub unread : (remaining : Option (List ℕ)) → ◌≡◌ {A = Ahead} (record { rest = rest_from [] false remaining; left = 16777216 }) (record { rest = remaining; left = 16777216 })
 unread None = refl
 unread (Some bytes) = refl

@@ -91,7 +91,7 @@ impl AnswerWords {
         }
     }
 
-    /// How the lines were answered, in turn.
+    /// How the lines were answered, in order.
     pub(crate) fn words(&self) -> &[Word] {
         self.words.as_slice()
     }

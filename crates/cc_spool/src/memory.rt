@@ -70,7 +70,7 @@ impl<R: Read + Drop + Send, W: Write + Drop + Send> MemorySpool<R, W> {
         self.is_awaited = is_awaited;
     }
 
-    /// The answers so far, in turn.
+    /// The answers so far, in order.
     pub fn answered(&self) -> &[Answered<W>]
         ensures { result.now ≡ self.now.answered.items }
     {

@@ -17,11 +17,11 @@ pub trait Spool {
     /// What its answer is written to.
     type Answer: Write + Drop + Send;
 
-    /// The scripts that were taken so far, in turn: for each its bytes, and the contents of the writer of its answer at that time, if
+    /// The scripts that were taken so far, in order: for each its bytes, and the contents of the writer of its answer at that time, if
     /// these are known.
     ghost taken: { Self → List Taken };
 
-    /// The answers that were handed over so far, in turn: for each the contents of its writer, if these are known, and the number of the
+    /// The answers that were handed over so far, in order: for each the contents of its writer, if these are known, and the number of the
     /// fault that ended its script, 51 to 54 or 61, if one did.
     ghost ended: { Self → List Delivered };
 

@@ -41,8 +41,8 @@ fn a_journal_in_a_file(rt: HostRuntime) -> Result<(), Fail> {
     passes(Ok(right && fs::remove_file(&rt, path).is_ok()))
 }
 
-// Whether reading twenty bytes from this offset on succeeds or fails as `wanted` says, on a disk of 100 bytes, and exactly one
-// read has failed so far.
+// Whether reading twenty bytes at this offset succeeds or fails as `wanted` says, on a disk of 100 bytes, and exactly one read
+// has failed so far.
 fn is_read(disk: &mut FileDisk, offset: usize, wanted: bool) -> bool {
     let mut buffer = [0u8; 20];
     offset <= 80
