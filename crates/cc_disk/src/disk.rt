@@ -87,7 +87,7 @@ pub trait Disk {
         ensures time { IsTrue honest
             → Elapses (moment self.old) (moment self.new) (left_since self.old) (left_since self.new) (may_leave self.new) };
 
-    /// Writes the bytes at `offset`, unsettled. A failure (35) leaves arbitrary bytes, unsettled, in the range.
+    /// Writes these bytes at `offset`, unsettled. A failure (35) leaves arbitrary bytes, unsettled, in the range.
     fn write_at(&mut self, offset: usize, bytes: &[u8]) -> Result<(), DiskFault>
         requires { offset + length bytes.now ≤ size self.old }
         ensures model { writes self.old offset bytes.now (is_ok result) self.new }

@@ -73,10 +73,11 @@ impl Drop for FileDisk {
 
 impl FileDisk {
     /// Makes a disk on a file of `size` zeros, in place of any file at the path. Its space is allocated, and the file and its
-    /// name are synced. An old journal there is made unrecognisable, and this is synced, before the old file is cut, so a crash
-    /// leaves either the whole old journal or nothing that is recognised as a journal.
+    /// name are synced. An old journal there is made unrecognisable, and this is synced, before the old file is truncated, so a
+    /// crash leaves either the whole old journal or nothing that is recognised as a journal.
     ///
-    /// A block device is not cut. The disk is its first `size` bytes; the first 17 become zeros, the others stay as they were.
+    /// A block device is not truncated. The disk is its first `size` bytes; the first 17 become zeros, the others stay as they
+    /// were.
     ///
     /// A new file gets the access rights 0600, whatever the umask, because it will have the sources of all units. An existing
     /// file keeps its rights.
@@ -223,8 +224,8 @@ fn is_read(file: &fs::File, offset: usize, buffer: &mut [u8]) -> bool {
 }
 
 // Makes a journal on the file unrecognisable, then clears its beginning; each write is on the medium before the next call.
-// Otherwise a file system that fills a cut file with zeros in place could keep a journal's beginning, with zeros at arbitrary
-// places after it. A single byte is written first: whether torn or not, this write leaves the old journal whole or
+// Otherwise a file system that fills a truncated file with zeros in place could keep a journal's beginning, with zeros at
+// arbitrary places after it. A single byte is written first: whether torn or not, this write leaves the old journal whole or
 // unrecognisable. The file's length does not matter, since it may not have reached the medium either.
 fn spoil(file: &fs::File) -> Result<(), DiskFault> {
     let zeros = [0u8; BEGINNING];

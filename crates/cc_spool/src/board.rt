@@ -229,7 +229,7 @@ impl Board {
         });
     }
 
-    // Whether it is time to try names again that were passed over.
+    // Whether it is time to retry names that were passed over.
     fn is_time_again(&self, now: Instant) -> bool {
         let has_rested = match self.tried {
             Some(tried) => AGAIN <= now.duration_since(tried).as_secs(),

@@ -327,8 +327,8 @@ fn explain_source<R: AllocGlobal, E: Write>(
     };
 }
 
-// Writes the line for the fault that reports that the system refused a call in the folder: 40 if memory ran out, else 56. The result
-// is whether the line was written.
+// Writes the line for a system call in the folder that was refused: 40 if memory ran out, else 56. The result is whether the line was
+// written.
 fn refused<W: Write>(why: &io::Error, writer: &mut W) -> bool
     ensures { SaysRefused result (W.contents writer.old) (W.contents writer.new) [] }
 {

@@ -51,8 +51,8 @@ fn is_read(disk: &mut FileDisk, offset: usize, wanted: bool) -> bool {
         && disk.failures() == 1
 }
 
-// Whether a disk of zeros reads no further than its file goes, once somebody has cut the file: a read past the file's end returns
-// fewer bytes.
+// Whether a disk of zeros reads no further than its file goes, once somebody has truncated the file: a read past the file's end
+// returns fewer bytes.
 fn is_cut(rt: &HostRuntime, alloc: Global, path: &str) -> Result<bool, Fail> {
     let mut disk = FileDisk::create(rt, path, 100)?;
     let are_zeros = has_bytes(alloc, &mut disk, &[0; 100])?;

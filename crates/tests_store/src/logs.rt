@@ -91,7 +91,7 @@ fn appends_bytes<D: Disk>(
     Ok(appends(alloc, log, body, bytes, number))
 }
 
-// A disk whose log has records with these bodies, after these steps, which must be answered as they should be. No step closes
+// A disk whose log has records with these bodies, after these steps, each of which must get the right answer. No step closes
 // the log.
 fn played(
     alloc: Global,
