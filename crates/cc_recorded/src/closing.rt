@@ -71,8 +71,7 @@ impl<N: Based, D: Disk> RecordedLibrary<N, D> {
         self.history.len() as u64
     }
 
-    // Ok if the library can be ended with these clients: they are all of the `made` clients that were made, and their receipts
-    // match.
+    // Ok if the library can be ended with these clients: they are all of the `made` clients, and their receipts match.
     pub(crate) fn ready<C: HasReceipts>(&self, made: u64, clients: &[C]) -> Result<(), BookFault>
         ensures many { OnOk result (length clients.now ≡ made) }
         ensures apart { OnOk result (AreApart (map C.member clients.now)) }

@@ -219,7 +219,7 @@ impl FolderLayout {
         self.common.taken.load(Ordering::SeqCst)
     }
 
-    /// Notes that an answer was handed over that takes this many bytes.
+    /// Notes that an answer that takes this many bytes was handed over.
     pub(crate) fn note_taken(&self, bytes: u64) {
         self.common.taken.fetch_add(bytes, Ordering::SeqCst);
     }

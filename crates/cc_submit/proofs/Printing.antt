@@ -58,7 +58,7 @@ fetched (Ok (CutShort name why)) answer old new ended was is = handed true (Some
 fetched (Ok (Lost name why)) answer old new ended was is = handed true (Some (Lost name why)) old new ended is.came_is (is.status_is, is.ends)
 fetched (Err why) answer old new ended was is = handed true None old new ended is.came_is (is.status_is, is.ends)
 
--- if nothing was written yet, the command ends as it does from the writer's first contents
+-- if the writer is unchanged so far, `Finishes` also holds from its earlier contents
 pub ended_from : (came : Option Submission) (old between new : Option (List ℕ)) (ended : Ended) → between ≡ old → Finishes came between new ended → Finishes came old new ended
 ended_from came old between new ended same is = subst (λ (o : Option (List ℕ)). Finishes came o new ended) same is
 
