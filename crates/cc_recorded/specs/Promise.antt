@@ -29,10 +29,10 @@ pub record IsBook {Disk : Type 0} (D : Ghosts Disk) (failures from : ℕ) (left 
   pub opened : IsTrue D.honest → IsSinceOpening D from left b.book
   pub ordered : IsTrue D.honest → IsInOrder D b.book
 
--- What a crash leaves of a book's disk recovers to the library of a prefix of the commands in commit order. These are first some commands
--- that led to the base, then the changes of the history, then the one in which the device failed. The prefix has each acknowledged command,
--- as often as it was acknowledged: those of the base, and those of the history. Each unit in the library was found at the opening, or its
--- image agrees with its source.
+-- What a crash leaves of a book's disk recovers to the library that a prefix of the commands, in commit order, makes. These are first some
+-- commands that led to the base, then the changes of the history, then the one in which the device failed. The prefix has each acknowledged
+-- command, as often as it was acknowledged: those of the base, and those of the history. Each unit in the library was found at the opening,
+-- or its image agrees with its source.
 pub record SurvivesCrash {D : Type 0} (book : BookView D) (image : List ℕ) : Type 0 where
   pub earlier : List LibraryCommand
   pub base : library_of earlier ≡ book.base

@@ -54,8 +54,8 @@ module _ {Disk : Type 0} (D : Ghosts Disk) where
   abbrev pub AreSince : BookView Disk → List (BookView Disk) → Type 0
   AreSince book since = (k : ℕ) (old : BookView Disk) → slice_get since k ≡ Some old → IsSince book old
 
-  -- `disk` is the disk as it was when the history had this many entries, each of them answered: a crash at that moment left exactly
-  -- these, and whatever a crash has left since then has these.
+  -- `disk` is the disk as it was when the history had this many entries, each of them answered: a crash at that moment left exactly these
+  -- entries, and whatever a crash has left since has them.
   pub record StoodWith (book : BookView Disk) (entries : ℕ) (disk : Disk) : Type 0 where
     pub past : D.moment disk ≤ D.moment book.library.disk
     pub just : (image : List ℕ) → D.may_leave disk image → HoldsJust book entries image
