@@ -116,7 +116,7 @@ fn parse_header(bytes: &[u8; 16], size: usize) -> Option<(usize, usize)>
     Some((start, area))
 }
 
-// The records from `start` on, within an area of `area` bytes, and how many bytes they take.
+// The records in the area of `area` bytes that begins at `start`, and how many bytes they take.
 #[tactic(auto, using(crate::proofs::Ahead::shows_none))]
 fn read_records<D: Disk>(
     alloc: Global,

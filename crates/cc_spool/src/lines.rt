@@ -38,7 +38,7 @@ enum Place {
     Broken,
 }
 
-// A number with one more digit appended, at most the largest value.
+// A number with one more digit appended, or the largest value if that is exceeded.
 fn with_digit(number: u32, byte: u8) -> u32
     requires { (48 ≤ byte) × (byte ≤ 57) }
     ensures { result ≡ with_digit number byte }

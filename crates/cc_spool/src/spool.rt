@@ -55,8 +55,8 @@ pub trait Spool {
     /// be taken.
     fn is_awaited(&self) -> bool;
 
-    /// Hands over the answer of the script. `fault` is the number of the fault that ended the script, 51 to 54 or 61, if one did.
-    /// With 54 the answer may be cut anywhere, and has no line for that fault.
+    /// Hands over the answer of the script. `fault` is the number of the fault that ended the script, 51 to 54 or 61, if one did. With 54
+    /// the answer may be cut off anywhere, and has no line for that fault.
     fn deliver(&mut self, script: Self::Script, answer: Self::Answer, fault: Option<u32>)
         ensures taken { taken self.new ≡ taken self.old }
         ensures ended { ended self.new ≡ ended self.old ++ delivered_as (Self.Answer.contents answer) fault ∷ [] };

@@ -8,7 +8,7 @@ use std::alloc::Global;
 use std::test::Fail;
 use tests_texts::verdict::passes;
 
-// How many bytes are read ahead, from the beginning of an area on, when a journal is opened.
+// How many bytes are read ahead, from the beginning of an area, when a journal is opened.
 const AHEAD: usize = 65_536;
 
 // This many bytes, whose values depend on their places.
