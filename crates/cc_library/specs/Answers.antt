@@ -66,7 +66,7 @@ module _ {D : Type 0} where
   ChangeAnswers old command before after (Err Damaged) = ⊥
   ChangeAnswers old command before after (Err NotALibrary) = ⊥
 
-  -- a change leaves, apart from the disk: after Ok the map after the command; after 35 the old map, closed; after other refusals no change
+  -- what a change leaves besides the disk: after Ok the map after the command; after 35 the old map, closed; after other refusals no change
   abbrev pub ChangeLeaves : {T : Type 0} → LibraryCommand → (old new : View D) → Result T LibraryFault → Type 0
   ChangeLeaves command old new (Ok done) = new ≡ record { disk = new.disk; area = old.area; bodies = old.bodies ++ body_of command ∷ []; units = after old.units command; closed = false }
   ChangeLeaves command old new (Err DiskFault) = new ≡ record old { disk = new.disk; closed = true }

@@ -90,8 +90,8 @@ fn ends_with(file: &File, end: u64, line: &[u8]) -> Result<bool, Refusal> {
 }
 
 // Completes the answer to a script that was begun: what was written up to the last whole line is kept, and a line after it says,
-// once, that the script was interrupted. An answer that begins with the line for 54 is cut to that line: a server was killed while
-// it wrote the line over the answer.
+// once, that the script was interrupted. An answer that begins with the line for 54 is cut off after that line: a server was killed
+// while it wrote the line over the answer.
 //
 // An answer that ends within a source is cut off before the line that says how long the source is. Otherwise the line for 55 could
 // be taken for the rest of the source, and nobody could tell the two apart.

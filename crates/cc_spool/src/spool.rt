@@ -38,7 +38,7 @@ pub trait Spool {
         ensures taken { taken self.new ≡ taken self.old }
         ensures ended { ended self.new ≡ ended self.old };
 
-    /// The next script, and what its answer is to be written to; none if none came within 64 ms, or one is in hand.
+    /// The next script, and what its answer is to be written to; none if no script came within 64 ms, or one is in hand.
     fn next(&mut self) -> Option<(Self::Script, Self::Answer)>
         ensures taken { IfSome result (λ job. taken self.new ≡ taken self.old ++ taken_as (Self.Script.remaining job.0) (Self.Answer.contents job.1) ∷ []) }
         ensures none { IfNone result (taken self.new ≡ taken self.old) }
