@@ -91,7 +91,7 @@ fn appends_bytes<D: Disk>(
     Ok(appends(alloc, log, body, bytes, number))
 }
 
-// A disk whose log has records with these bodies, after these steps, each of which must get the right answer. No step closes
+// A disk whose log has records with these bodies, after these steps. Each step must get the right answer, and no step closes
 // the log.
 fn played(
     alloc: Global,
