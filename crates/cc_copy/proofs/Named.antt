@@ -22,14 +22,14 @@ module _ {X : Type 0} (f : X → List ℕ) where
       let more : take i texts ++ text ∷ [] ≡ take (i + 1) texts = ap (λ x. take i texts ++ x ∷ []) is ∙ sym (take_more texts i text within) in
       sym (ap (map f) more) ∙ map-append f (take i texts) (text ∷ [])
 
-  -- if the texts so far are names, and the next one is, they still all are
+  -- if the texts so far are names, and so is the next one, all of them are names
   pub all_more : (texts : List X) (i : ℕ) (text : X) → i < length texts → text ≡ get_or texts i text → IsTrue (is_name (f text)) → All (λ name. IsTrue (is_name name)) (map f (take i texts))
       → All (λ name. IsTrue (is_name name)) (map f (take (i + 1) texts))
   all_more texts i text within is one all =
       let P : List ℕ → Type 0 = λ name. IsTrue (is_name name) in
       subst (All P) (sym (names_more texts i text within is)) (All-push P (map f (take i texts)) (f text) all one)
 
-  -- a text that is not a name is one at its index
+  -- if the text at an index is not a name, `IsNoName` holds of that index
   pub no_name : (texts : List X) (i : ℕ) (text : X) → i < length texts → text ≡ get_or texts i text → is_name (f text) ≡ false → IsNoName (map f texts) i
   no_name texts i text within is none =
       let same : get_or (map f texts) i [] ≡ f text = get_or-map f texts i text [] within ∙ ap f (sym is) in

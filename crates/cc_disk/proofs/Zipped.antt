@@ -75,8 +75,8 @@ cells-from i (b ∷ bytes) [] within same d e = absurd (omega (arith, same))
 cells-from zero (b ∷ bytes) (m ∷ marks) within same d e = refl
 cells-from (suc i) (b ∷ bytes) (m ∷ marks) within same d e = cells-from i bytes marks (omega (arith, within)) (omega (arith, same)) d e
 
--- if one more cell is left with its chosen byte, the cells so far and the crash of the rest still make up the
--- crash
+-- if a crash leaves one more cell with its chosen byte, the cells so far and the crash of the rest still make
+-- up the whole crash
 crash-more : (cells : List Cell) (i : ℕ) (cell : Cell) (after choice : List ℕ) (byte x : ℕ) (rest : List ℕ) → drop i cells ≡ cell ∷ drop (suc i) cells
     → settled byte ≡ left cell x → map settled after ++ crashed (drop i cells) (x ∷ rest) ≡ crashed cells choice
     → map settled (after ++ byte ∷ []) ++ crashed (drop (suc i) cells) rest ≡ crashed cells choice

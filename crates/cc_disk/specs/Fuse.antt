@@ -30,6 +30,6 @@ after_call (Some zero) = None
 after_call (Some (suc n)) = Some n
 after_call None = None
 
--- A write reached the disk and then fails. The fuse counts the failure, or, if the write itself failed, the disk does.
+-- A write reaches the disk and then fails. The fuse counts the failure, or, if the write itself failed, the disk does.
 abbrev pub ReachesAndFails : {D : Type 0} → (write : Bool → D → Type 0) → (before after : ℕ) → D → Type 0
 ReachesAndFails write before after new = ((after ≡ before) × write true new) ⊎ ((after ≡ before + 1) × write false new)

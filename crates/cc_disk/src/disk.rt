@@ -75,7 +75,7 @@ pub trait Disk {
     fn size(&self) -> usize
         ensures { result ≡ size self.now };
 
-    /// Fills the buffer with the bytes from `offset` on. A failure (35) leaves arbitrary bytes in the buffer.
+    /// Fills the buffer with the bytes that begin at `offset`. A failure (35) leaves arbitrary bytes in the buffer.
     fn read_at(&mut self, offset: usize, buffer: &mut [u8]) -> Result<(), DiskFault>
         requires { offset + length buffer.old ≤ size self.old }
         ensures model { reads self.old offset buffer.old (is_ok result) buffer.new self.new }
@@ -87,7 +87,7 @@ pub trait Disk {
         ensures time { IsTrue honest
             → Elapses (moment self.old) (moment self.new) (left_since self.old) (left_since self.new) (may_leave self.new) };
 
-    /// Writes the bytes from `offset` on, unsettled. A failure (35) leaves arbitrary bytes, unsettled, in the range.
+    /// Writes these bytes at `offset`, unsettled. A failure (35) leaves arbitrary bytes, unsettled, in the range.
     fn write_at(&mut self, offset: usize, bytes: &[u8]) -> Result<(), DiskFault>
         requires { offset + length bytes.now ≤ size self.old }
         ensures model { writes self.old offset bytes.now (is_ok result) self.new }

@@ -26,7 +26,7 @@ const OWN: u32 = 0o600;
 /// (DeviceFailed) if that call is refused or does less than was asked. After a failed sync every later call returns 35: the
 /// system may have dropped the pages that it could not write, and a later sync would not report the loss.
 ///
-/// While it exists, no other process has the file open as a disk.
+/// While this value exists, no other process has the file open as a disk.
 pub struct FileDisk {
     file: fs::File,
     size: usize,
@@ -73,10 +73,11 @@ impl Drop for FileDisk {
 
 impl FileDisk {
     /// Makes a disk on a file of `size` zeros, in place of any file at the path. Its space is allocated, and the file and its
-    /// name are synced. An old journal there is made unrecognisable, and this is synced, before the old file is cut, so a crash
-    /// leaves either the whole old journal or nothing that is recognised as a journal.
+    /// name are synced. An old journal there is made unrecognisable, and this is synced, before the old file is truncated, so a
+    /// crash leaves either the whole old journal or nothing that is recognised as a journal.
     ///
-    /// A block device is not cut. The disk is its first `size` bytes; the first 17 become zeros, the others stay as they were.
+    /// A block device is not truncated. The disk is its first `size` bytes; the first 17 become zeros, the others stay as they
+    /// were.
     ///
     /// A new file gets the access rights 0600, whatever the umask, because it will have the sources of all units. An existing
     /// file keeps its rights.
@@ -211,20 +212,20 @@ fn is_whole(answer: io::Result<usize>, wanted: usize) -> bool
     }
 }
 
-// Writes these bytes from `offset` on with one system call, and returns whether that call wrote them all.
+// Writes these bytes at `offset` with one system call, and returns whether that call wrote them all.
 fn is_written(file: &fs::File, offset: usize, bytes: &[u8]) -> bool {
     is_whole(file.write_at(bytes, offset as u64), bytes.len())
 }
 
-// Fills the buffer from `offset` on with one system call, and returns whether that call filled it.
+// Fills the buffer, with one system call, with the file's bytes at `offset`, and returns whether that call filled it.
 fn is_read(file: &fs::File, offset: usize, buffer: &mut [u8]) -> bool {
     let answer = file.read_at(buffer, offset as u64);
     is_whole(answer, buffer.len())
 }
 
 // Makes a journal on the file unrecognisable, then clears its beginning; each write is on the medium before the next call.
-// Otherwise a file system that fills a cut file with zeros in place could keep a journal's beginning, with zeros at arbitrary
-// places after it. A single byte is written first: whether torn or not, this write leaves the old journal whole or
+// Otherwise a file system that fills a truncated file with zeros in place could keep a journal's beginning, with zeros at
+// arbitrary places after it. A single byte is written first: whether torn or not, this write leaves the old journal whole or
 // unrecognisable. The file's length does not matter, since it may not have reached the medium either.
 fn spoil(file: &fs::File) -> Result<(), DiskFault> {
     let zeros = [0u8; BEGINNING];

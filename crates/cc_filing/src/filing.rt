@@ -101,7 +101,7 @@ fn is_same(files: &HostRuntime, one: &str, other: &str) -> bool {
     }
 }
 
-// Removes the file under the name `making`, which a server left that was killed while it made a library. If the file also has
+// Removes the file named `making`, which was left by a server that was killed while it made a library. If the file also has
 // another name, the server was killed after it had given the finished library its name: then only `making` is removed. A file
 // that has records was prepared by somebody, and is kept.
 fn clear_name(files: &HostRuntime, making: &str) -> Result<(), NoDisk> {

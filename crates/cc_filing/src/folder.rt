@@ -21,7 +21,7 @@ pub enum NoFolder {
     Refused(io::Error),
     /// 57: another server works in the folder.
     InUse,
-    /// 56: the folder could be used at the start, but can't be any more.
+    /// 56: the folder could be used at the start, but can no longer be used.
     Lost,
 }
 

@@ -1,5 +1,5 @@
-// The commands `image` and `source` with a library: they print a part of a unit of the library in a file. The file is opened as
-// for `library`, with its lock, and nothing is written to it.
+// The commands `image` and `source` with a library: they print a part of a unit that the library in a file has. The file is
+// opened as for `library`, with its lock, and nothing is written to it.
 
 ghost use Rattle.std.specs.Prelude.{◌≡◌, false, true, MatchResult};
 ghost use Rattle.std.specs.Io.KnownBytes.{Appends};
@@ -36,7 +36,7 @@ fn bytes_of<E: Write>(
     found
 }
 
-/// Explains a fault to a person. The fault that no unit has the name was explained before.
+/// Explains a fault to a person. The fault for a name that no unit has was explained before.
 pub fn explain_part<E: Write>(fault: PartFault, errors: &mut E) -> io::Result<()> {
     match fault {
         PartFault::Library(LibraryFault::DiskFault) => errors.write_all(NO_FILE.as_bytes())?,
@@ -89,9 +89,9 @@ pub fn write_found<W: Write, E: Write>(
     }
 }
 
-/// Writes a part of a unit of the library in a file to standard output: the unit's image as Intel HEX, or its source, byte for
-/// byte. Returns the status. On a terminal, control bytes of the source are shown as `?`. Fails only if memory was refused
-/// before anything began.
+/// Writes to standard output a part of a unit that the library in a file has: the unit's image as Intel HEX, or its source,
+/// byte for byte. Returns the status. On a terminal, control bytes of the source are shown as `?`. Fails only if memory was
+/// refused before anything began.
 pub fn take_out_of_file<R: AllocGlobal + Print, E: Write + Drop>(
     rt: &R,
     files: &HostRuntime,

@@ -18,12 +18,12 @@ pub kept_alone : (honest : Bool) (size : ℕ) (seen : List ℕ) (may_leave : Lis
 kept_alone honest size seen may_leave start area used bodies closed kept h not_closed image now =
     subst (λ (l : List ℕ). HoldsAlone l area bodies) (sym (kept.alone h not_closed image now)) (holds_alone seen area bodies (kept.holds h not_closed).holds)
 
--- how much of an area the records take if one more is added
+-- one more record and the closed gate take the record's body and 6 bytes in addition to the records
 pub room_push : (bodies : List (List ℕ)) (body : List ℕ) (used : ℕ) → used ≡ length (records bodies) → room_of (bodies ++ body ∷ []) ≡ used + (length body + 6)
 room_push bodies body used taken = omega (arith, taken, length-records_push bodies body)
 
--- if the code works out the area byte from the area's offset, it names the same other area as the disk's area
--- byte
+-- if the code works out the area byte from the area's offset, that byte names the same other area as the
+-- disk's area byte
 same_other : (start area b side : ℕ) → 1 ≤ area → start ≡ 16 + b % 2 * area → (start ≡ 16 → side ≡ 0) → (start ≢ 16 → side ≡ 1) → other_area side ≡ other_area b
 same_other start area b side some is zero one =
     ⊎_elim

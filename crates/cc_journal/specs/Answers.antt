@@ -26,7 +26,7 @@ CommitAnswers closed area bodies before after (Err OutOfMemory) = (closed ≡ fa
 CommitAnswers closed area bodies before after (Err Damaged) = ⊥
 CommitAnswers closed area bodies before after (Err NotALibrary) = ⊥
 
--- `append`: what a commit answers that makes the old records and the new one the records
+-- `append`: the answer of a commit that makes the old records and the new one the records
 abbrev pub AppendAnswers : {T : Type 0} → (closed : Bool) (area : ℕ) (bodies : List (List ℕ)) (body : List ℕ) (before after : ℕ) → Result T JournalFault → Type 0
 AppendAnswers closed area bodies body before after result = CommitAnswers closed area (bodies ++ body ∷ []) before after result
 

@@ -37,7 +37,7 @@ pub record HasHeader (image : List ℕ) (area : ℕ) : Type 0 where
   pub bytes : image ≡ header area_byte area ++ rest
   pub is_area : IsArea (length image) area
 
--- the image begins with the header with this area byte and for areas of this size
+-- the image begins with the header for this area byte and for areas of this size
 abbrev pub HasAreaByte : List ℕ → (area_byte area : ℕ) → Type 0
 HasAreaByte image area_byte area = (rest : List ℕ) × (image ≡ header area_byte area ++ rest)
 

@@ -245,7 +245,7 @@ impl<D: Disk> Log<D> {
         ensures bytes { OnOk result (IsTrue D.honest → (area_byte : ℕ) × HasAreaByte (D.seen self.old.disk) area_byte self.old.area
             × IsCommitted (rewrite_commit area_byte self.old.area bodies.items) (D.seen self.old.disk) (D.seen self.new.disk)) }
 
-        // After Ok this is so for any area byte that the disk had, and all of the new bytes are settled.
+        // After Ok the disk has those bytes whatever area byte it had, and all of the new bytes are settled.
         ensures committed { OnOk result (IsTrue D.honest → (area_byte : ℕ) → HasAreaByte (D.seen self.old.disk) area_byte self.old.area
             → IsCommitted (rewrite_commit area_byte self.old.area bodies.items) (D.seen self.old.disk) (D.seen self.new.disk)
             × LeavesAlone (D.seen self.new.disk) (D.may_leave self.new.disk)) }

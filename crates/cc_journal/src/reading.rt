@@ -75,7 +75,7 @@ fn read_header<D: Disk>(disk: &mut D) -> Result<Option<(usize, usize)>, DiskFaul
     Ok(parse_header(&bytes, size))
 }
 
-// The header of an empty or a full journal: area byte, name, area size, zeros.
+// The header of a journal, empty or not: area byte, name, area size, zeros.
 pub fn header_bytes(area_byte: u8, area: u32) -> [u8; 16]
     ensures { result ≡ header area_byte area }
 {
@@ -116,7 +116,7 @@ fn parse_header(bytes: &[u8; 16], size: usize) -> Option<(usize, usize)>
     Some((start, area))
 }
 
-// The records from `start` on, within an area of `area` bytes, and how many bytes they take.
+// The records in the area of `area` bytes that begins at `start`, and how many bytes they take.
 #[tactic(auto, using(crate::proofs::Ahead::shows_none))]
 fn read_records<D: Disk>(
     alloc: Global,

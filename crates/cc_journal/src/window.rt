@@ -1,6 +1,6 @@
 // Reads ahead. Records are short, and a device call for each of their parts would cost more than the parts. So one call reads a
-// window of bytes from an offset on, and the parts of the records there are taken from this window. A body that goes on after the
-// window is completed by a call of its own, so no byte is read twice.
+// window of bytes that begins at some offset, and the parts of the records there are taken from this window. A body that goes on
+// after the window is completed by a call of its own, so no byte is read twice.
 
 ghost use Rattle.std.specs.Prelude.{◌≡◌, ◌+◌, ◌-◌, ◌^◌, ◌<◌, ◌≤◌, [], List, ℕ, IsTrue, length, take, drop, IfOk, IfErr, OnOk};
 ghost use Rattle.cc_disk.specs.Images.{OnlyReads};
@@ -13,7 +13,7 @@ use std::alloc::Global;
 /// The largest number of bytes that are read ahead.
 pub const WINDOW: usize = 65_536;
 
-/// The bytes that were read ahead from a disk, from an offset on.
+/// The bytes that were read ahead from a disk, and the offset at which they begin.
 #[derive(Drop)]
 pub struct Window {
     pub offset: usize,
@@ -85,7 +85,7 @@ impl Window {
         Ok(())
     }
 
-    /// The `count` bytes of the disk from this offset on.
+    /// The `count` bytes of the disk that begin at this offset.
     pub fn read<D: Disk>(
         &self,
         alloc: Global,

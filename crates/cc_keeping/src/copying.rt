@@ -134,7 +134,7 @@ fn write_beside<E: Write>(
     }
 }
 
-// Makes the new library of these units, or says why it can't.
+// Makes the new library of these units, or says why that failed.
 fn write_new<E: Write>(
     alloc: Global,
     files: &HostRuntime,

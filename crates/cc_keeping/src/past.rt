@@ -35,7 +35,7 @@ fn bytes_of(
     found
 }
 
-/// Writes a part of what the command with this number stored in the library in a file to standard output. The result is the
+/// Writes to standard output a part of what the command with this number stored in the library in a file. The result is the
 /// status. On a terminal, control bytes of the source are shown as `?`. The only error is that memory ran out before the
 /// command began.
 pub fn take_out_of_past<R: AllocGlobal + Print, E: Write + Drop>(

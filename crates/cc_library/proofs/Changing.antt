@@ -24,7 +24,7 @@ pub refused_by : (answer : Result Units ℕ) (number : ℕ) → Some number ≡ 
 refused_by (Ok made) number is = absurd (cc is)
 refused_by (Err n) number is = cc is
 
--- if an absent name is refused, it is refused with 32
+-- if a change that needs a present name is refused, the number is 32
 absent_where : (there : Bool) (made : Units) (number : ℕ) → Some number ≡ refusal (cond there (Ok made) (Err absent)) → cond there (Ok made) (Err absent) ≡ Err absent
 absent_where true made number is = absurd (cc is)
 absent_where false made number is = refl

@@ -107,7 +107,7 @@ pub room_record : (bodies : List (List ℕ)) (body : List ℕ) → room_of (bodi
 room_record [] body = omega (arith, length-append (record_bytes body) [], record_long body)
 room_record (b ∷ bodies) body = omega (arith, room_record bodies body, length-append (record_bytes b) (records (bodies ++ body ∷ [])), length-append (record_bytes b) (records bodies))
 
--- if a body is within five bytes of the area's size, its record does not fit
+-- if a body is at least as long as the area less five bytes, its record does not fit
 pub no_room_left : (bodies : List (List ℕ)) (body : List ℕ) (area n : ℕ) → n ≡ length body → area - 5 ≤ n → room_of (bodies ++ body ∷ []) ≤ area → ⊥
 no_room_left bodies body area n long few fits = omega (arith, room_record bodies body, long, few, fits)
 

@@ -13,7 +13,7 @@ use Rattle.cc_library.proofs.Fields.{both_true}
 
 -- ---- the number of a prefix
 
--- taking byte `k` into the number of a prefix leaves the bytes from `k + 1` on
+-- once byte `k` is taken into the number of a prefix, the bytes after it are left
 at_byte : (a n k : ℕ) (bytes : List ℕ) → prefix_number a (suc n) (drop k bytes) ≡ prefix_number (a * 256 + get_or bytes k 0) n (drop (suc k) bytes)
 unfolding prefix_number
 at_byte a n zero [] = ap (λ (m : ℕ). prefix_number m n []) (omega arith)
@@ -44,7 +44,7 @@ least a (suc n) [] = omega arith
 least a (suc n) (zero ∷ xs) = subst (λ (m : ℕ). prefix_number (a * 256) n [] ≤ prefix_number m n xs) (omega arith) (least (a * 256) n xs)
 least a (suc n) (suc x ∷ xs) = omega (arith, stays (a * 256) (a * 256 + suc x) n [] xs (omega arith) tt)
 
--- how two prefixes compare, given how their first bytes compare
+-- two prefixes compare as their first bytes do, or, if these are equal, as their other bytes do
 by_first : (a n x y : ℕ) (xs ys : List ℕ) (o : Ordering) → MatchOrdering o (x < y) (x ≡ y) (y < x) → x < 256 → y < 256 → AreBelow 256 xs → AreBelow 256 ys
     → (x ≡ y → MatchOrdering (slice_cmp nat_cmp xs ys) (prefix_number (a * 256 + x) n xs < prefix_number (a * 256 + y) n ys) (prefix_number (a * 256 + x) n xs ≡ prefix_number (a * 256 + y) n ys)
     (prefix_number (a * 256 + y) n ys < prefix_number (a * 256 + x) n xs))

@@ -56,7 +56,8 @@ pub too_few : (n : ℕ) (bytes : List ℕ) → length bytes < 4 * n → words_in
 too_few zero bytes few = absurd (omega (arith, few))
 too_few (suc n) bytes few = none_in_few n bytes (ltb (length bytes) 4) refl few (λ fewer. too_few n (drop 4 bytes) fewer)
 
--- if word `i` is set to the next four bytes, the words read and those still to be read are the same in all
+-- if word `i` is set to the next four bytes, the words read and those still to be read are together the same
+-- as before
 pub sets_on : (words bytes : List ℕ) (n i word : ℕ) (total : Option (List ℕ × List ℕ)) → i < n → i < length words → 4 * n ≤ length bytes
     → word ≡ from_le_bytes w32 (get_or bytes (4 * i) 0 ∷ get_or bytes (4 * i + 1) 0 ∷ get_or bytes (4 * i + 2) 0 ∷ get_or bytes (4 * i + 3) 0 ∷ [])
     → with_prefix (take i words) (words_in (n - i) (drop (4 * i) bytes)) ≡ total → with_prefix (take (i + 1) (slice_set words i word)) (words_in (n - (i + 1)) (drop (4 * (i + 1)) bytes)) ≡ total

@@ -21,9 +21,7 @@ Gives view (Ok x) found = found ≡ Some (view x)
 Gives view (Err read.NoCommand) found = found ≡ None
 Gives view (Err read.OutOfMemory) found = Unit {0}
 
--- `open`: 35 exactly if the device failed; else, on an honest disk with these bytes, 38 exactly if there is no valid header, and 37 exactly
-
--- if there is one but nothing is recovered
+-- `open`: 35 exactly if the device failed; else, if honest, 38 exactly if no header is valid, 37 exactly if one is but nothing is recovered
 abbrev pub OpenFaults : (honest : Bool) (seen : List ℕ) (before after : ℕ) → LibraryFault → Type 0
 OpenFaults honest seen before after DiskFault = after ≡ before + 1
 OpenFaults honest seen before after NotALibrary = (after ≡ before) × (IsTrue honest → (area : ℕ) → HasHeader seen area → ⊥)
@@ -68,7 +66,7 @@ module _ {D : Type 0} where
   ChangeAnswers old command before after (Err Damaged) = ⊥
   ChangeAnswers old command before after (Err NotALibrary) = ⊥
 
-  -- a change leaves, apart from the disk: after Ok the map after the command; after 35 the old map, closed; after other refusals no change
+  -- what a change leaves besides the disk: after Ok the map after the command; after 35 the old map, closed; after other refusals no change
   abbrev pub ChangeLeaves : {T : Type 0} → LibraryCommand → (old new : View D) → Result T LibraryFault → Type 0
   ChangeLeaves command old new (Ok done) = new ≡ record { disk = new.disk; area = old.area; bodies = old.bodies ++ body_of command ∷ []; units = after old.units command; closed = false }
   ChangeLeaves command old new (Err DiskFault) = new ≡ record old { disk = new.disk; closed = true }

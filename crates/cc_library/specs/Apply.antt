@@ -11,11 +11,11 @@ use Rattle.cc_library.specs.declared.command.Change.TheVariants.{Add, Replace, W
 abbrev pub Units : Type 0
 Units = FinMap (slice_cmp nat_cmp) StoredUnit
 
--- the number of the refusal that a name exists
+-- the number with which a name that exists already is refused
 abbrev pub exists : ℕ
 exists = 31
 
--- the number of the refusal that a name is absent
+-- the number with which a name that does not exist is refused
 abbrev pub absent : ℕ
 absent = 32
 

@@ -7,7 +7,7 @@ use Rattle.cc_library.specs.Apply.{Units}
 use Rattle.cc_library.specs.Compact.{compacted}
 use Rattle.cc_library.specs.Recovered.{StandFor}
 
--- of an area with these records and this map: the bytes of the records, those that they would take after a compaction, and the names
+-- the figures of an area with these records and this map: the records' bytes, their bytes after a compaction, and the number of names
 abbrev pub space_use : (area : ℕ) (bodies : List (List ℕ)) → Units → SpaceUse
 space_use area bodies map = record { area = area; used = length (records bodies); compacted = length (records (compacted map)); units = len map }
 

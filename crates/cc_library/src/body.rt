@@ -13,7 +13,7 @@ use cc_journal::{Body, CLOSED};
 use cc_unit::{Certificate, StoredUnit};
 use std::alloc::{AllocError, Global};
 
-/// The body of the record of a command of this kind: the version, which is 1 for a unit without a certificate and otherwise 2; the kind's
+/// The body of a record for a command of this kind: the version, which is 1 for a unit without a certificate and otherwise 2; the kind's
 /// byte; the name's length as one byte, and the name; for Add and Replace the source's length, the source, the number of code words, the
 /// code words, the number of global words, and the global words; and, for a unit with a certificate, the certificate's length and the
 /// certificate. Each number and word is four bytes, the lowest first. A certificate has at most 4,294,967,295 bytes. Err: memory ran out.
@@ -35,7 +35,7 @@ pub fn command_body(
     Ok(body)
 }
 
-/// The number of bytes that the body of a command's record takes. It takes no memory.
+/// The number of bytes that the body of a command's record takes. The call takes no memory.
 pub fn body_length(command: &LibraryCommand) -> usize
     ensures length { result ≡ length (body_of command.now) }
     // Only a certificate can be too long for a body.

@@ -265,7 +265,8 @@ impl<D: Disk> Library<D> {
     }
 
     /// Carries out each edit in turn, opens the disk again after each 35, and stops if that opening is refused. The answer has the number
-    /// of each edit that was carried out, in order (0 for Ok), and either the library after them, or why the run stopped and the disk.
+    /// of each edit that was carried out, in order (0 for Ok), and either the library after them, or the disk and the reason why the run
+    /// stopped.
     ///
     /// Memory for all the numbers is taken first; if it runs out, the answer is 40 without numbers, and nothing was done. After that only
     /// the refusals of `open` are possible; on an honest disk these are 35 and 40.

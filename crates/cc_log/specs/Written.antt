@@ -31,7 +31,7 @@ command_text (Withdraw name) = codes " withdraw " ++ (name ++ codes "\n")
 abbrev pub line_text : Option (List ℕ) → (number : ℕ) → LibraryCommand → List ℕ
 line_text name number command = if is_asked name command then decimal number ++ command_text command else []
 
--- the lines for commands that are numbered from this number plus 1
+-- the lines for commands, whose numbers begin at one more than this number
 abbrev pub lines_after : Option (List ℕ) → ℕ → List LibraryCommand → List ℕ
 lines_after name number [] = []
 lines_after name number (command ∷ commands) = line_text name (number + 1) command ++ lines_after name (number + 1) commands

@@ -70,7 +70,7 @@ pub on_ok : {T F : Type 0} {A B : Type 0} → (A → B) → (r : Result T F) →
 on_ok step (Ok t) a = step a
 on_ok step (Err f) a = tt
 
--- after a change that was made, the map is the one that the change makes
+-- after Ok, every image recovers to the map that the change makes
 pub kept_as : {D : Type 0} (answer : Result (Unit {0}) LibraryFault) (command : LibraryCommand) (old new : View D) (may_leave : D → List ℕ → Type 0) (H : Type 0) (made : Units)
     → after old.units command ≡ made → ChangeLeaves command old new answer → OnOk answer (H → (image : List ℕ) → may_leave new.disk image → RecoversAlone image new.units)
     → OnOk answer (H → (image : List ℕ) → may_leave new.disk image → RecoversAlone image made)

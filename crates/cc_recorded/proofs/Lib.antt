@@ -15,7 +15,7 @@ pub mod Beginning
 pub mod Rewriting
 -- how the tie between a book and the core is kept
 pub mod Tying
--- whatever a crash has left since an earlier call has the calls up to that one
+-- whatever a crash has left since an earlier call has all calls up to that call
 pub mod Sinces
 -- only a device call that fails adds a failed change
 pub mod Blaming

@@ -1,4 +1,4 @@
--- Each call keeps that whatever a crash has left since an earlier call has the calls up to that one.
+-- After each call, it still holds that whatever a crash has left since an earlier call has all calls up to that earlier call.
 use Rattle.std.proofs.Common.{◌≡◌, ◌⊎◌, ℕ, ◌≤◌, inl, inr, false, List, [], ◌∷◌, ◌++◌, length, take, Result, Ok, Err, refl, sym, ap, ◌∙◌, subst, arith, append_assoc, length-append}
 use Rattle.std.proofs.lemmas.Bool.{cases_lt}
 use Rattle.std.proofs.lemmas.List.{take-append-le, take_all}

@@ -94,7 +94,7 @@ module _ {P : Type 0} (rules : Rules P) (keeps : P → Type 0) (law : TurnLaw ru
     pub command : length (body_of c) < 2 ^ 32 → IsCommand c
     pub area : closed old.core.phase ≡ None → old.core.store.area ≤ 2 ^ 30
 
-  -- if the command of a job can be spelled, its Begin begins with a spelling
+  -- if the command of a job can be spelled, `BeginsSpelled` holds of the job's Begin
   spelled : (old : Contents P) (client : ClientId) (c : made.LibraryCommand) → Has rules old client c → CanSpell old c → BeginsSpelled rules old (event.Begin client)
   spelled old client c has can other job command is held comes open' fits =
       let same : client ≡ other = cc in

@@ -29,10 +29,10 @@ pub record IsBook {Disk : Type 0} (D : Ghosts Disk) (failures from : ℕ) (left 
   pub opened : IsTrue D.honest → IsSinceOpening D from left b.book
   pub ordered : IsTrue D.honest → IsInOrder D b.book
 
--- What a crash leaves of a book's disk recovers to the library of a prefix of the commands in commit order. These are first some commands
--- that led to the base, then the changes of the history, then the one in which the device failed. The prefix has each acknowledged command,
--- as often as it was acknowledged: those of the base, and those of the history. Each unit in the library was found at the opening, or its
--- image agrees with its source.
+-- What a crash leaves of a book's disk recovers to the library that a prefix of the commands, in commit order, makes. These are first some
+-- commands that led to the base, then the changes of the history, then the one in which the device failed. The prefix has each acknowledged
+-- command, as often as it was acknowledged: those of the base, and those of the history. Each unit in the library was found at the opening,
+-- or its image agrees with its source.
 pub record SurvivesCrash {D : Type 0} (book : BookView D) (image : List ℕ) : Type 0 where
   pub earlier : List LibraryCommand
   pub base : library_of earlier ≡ book.base
@@ -53,7 +53,7 @@ pub record HoldsPrefix {D : Type 0} (book : BookView D) (image : List ℕ) : Typ
 -- a moment up to the opening, and what a crash from that moment until the opening had left.
 pub record IsSound {Disk : Type 0} (D : Ghosts Disk) (base : Units) (from : ℕ) (left : List ℕ → Type 0) (book : BookView Disk) : Type 0 where
   pub base_is : IsTrue D.honest → book.base ≡ base
-  -- each answer is that of a single thread at that point; the map is the base with the changes; a unit was at the opening or was compiled
+  -- each answer is that of a single thread at that point; the map is the base with the changes; each unit is the base's or was compiled
   pub legal : IsLegal book.base book.history
   pub map : book.library.units ≡ units_after book.base book.history
   pub agrees : EachAgrees book.base book.library.units

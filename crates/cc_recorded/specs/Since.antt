@@ -27,9 +27,7 @@ module _ {Disk : Type 0} where
       ((j : ℕ) × (entries ≤ j) × (j ≤ length book.history) × RecoversAlone image (units_after book.base (take j book.history)))
       ⊎ ((c : LibraryCommand) × (book.failed ≡ c ∷ []) × RecoversAlone image (after book.library.units c))
 
-  -- An image of the disk as it was when the history had this many entries: it recovers to the base after these; or to the map with the change
-
-  -- in which the device failed.
+  -- an image of the disk when the history had this many entries: it recovers to the base after these, or to the map with the failed change
   abbrev pub HoldsJust : BookView Disk → ℕ → List ℕ → Type 0
   HoldsJust book entries image =
       RecoversAlone image (units_after book.base (take entries book.history))
@@ -56,8 +54,8 @@ module _ {Disk : Type 0} (D : Ghosts Disk) where
   abbrev pub AreSince : BookView Disk → List (BookView Disk) → Type 0
   AreSince book since = (k : ℕ) (old : BookView Disk) → slice_get since k ≡ Some old → IsSince book old
 
-  -- `disk` is the disk as it was when the history had this many entries, each of them answered: a crash at that moment left exactly
-  -- these, and whatever a crash has left since then has these.
+  -- `disk` is the disk as it was when the history had this many entries, each of them answered: a crash at that moment left exactly these
+  -- entries, and whatever a crash has left since has them.
   pub record StoodWith (book : BookView Disk) (entries : ℕ) (disk : Disk) : Type 0 where
     pub past : D.moment disk ≤ D.moment book.library.disk
     pub just : (image : List ℕ) → D.may_leave disk image → HoldsJust book entries image

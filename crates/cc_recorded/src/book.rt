@@ -362,7 +362,8 @@ impl<N: Based, D: Disk> Book<N, D> {
         ensures reached { IsTrue D.honest → IsTied compiling Keeps D.Disk self.now.book }
 
         // The history is legal, and the map is the base with its changes. What a crash leaves now has each acknowledged command, and what a
-        // crash has left since the opening has a prefix of the calls. The units in either are right.
+        // crash has left since the opening has a prefix of the calls. In both, each unit was found at the opening or agrees with its
+        // source.
         ensures sound { IsSound D.Disk N.base N.from N.left self.now.book }
 
         // Each change that failed did so in a call of the device that failed since the opening.

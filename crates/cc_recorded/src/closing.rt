@@ -26,7 +26,7 @@ fn are_apart<C: HasReceipts>(clients: &[C]) -> bool
     true
 }
 
-// Ok if all receipts of all these clients match the history; else as `all_stand` refuses.
+// Ok if all receipts of all these clients match the history; else the refusal of `all_stand`.
 fn stand_in<C: HasReceipts>(history: &[SharedEntry], clients: &[C]) -> Result<(), BookFault>
     ensures stand { OnOk result (ReceiptsStand history.now (map C.member clients.now)) }
     ensures err { IfErr result (λ f. (made : ℕ) → IsNotClosed history.now made (map C.member clients.now) f) }
@@ -55,7 +55,7 @@ fn count_receipts<C: HasReceipts>(clients: &[C]) -> u128
 }
 
 impl<N: Based, D: Disk> RecordedLibrary<N, D> {
-    // Ok if all receipts of all these clients match the history; else as `all_stand` refuses.
+    // Ok if all receipts of all these clients match the history; else the refusal of `all_stand`.
     fn stands<C: HasReceipts>(&self, clients: &[C]) -> Result<(), BookFault>
         ensures stand { OnOk result (ReceiptsStand self.now.history (map C.member clients.now)) }
         ensures err { IfErr result (λ f. (made : ℕ) → IsNotClosed self.now.history made (map C.member clients.now) f) }
@@ -71,8 +71,7 @@ impl<N: Based, D: Disk> RecordedLibrary<N, D> {
         self.history.len() as u64
     }
 
-    // Ok if the library can be ended with these clients, if `made` clients were made: these are all of them, and their receipts
-    // match.
+    // Ok if the library can be ended with these clients: they are all of the `made` clients, and their receipts match.
     pub(crate) fn ready<C: HasReceipts>(&self, made: u64, clients: &[C]) -> Result<(), BookFault>
         ensures many { OnOk result (length clients.now ≡ made) }
         ensures apart { OnOk result (AreApart (map C.member clients.now)) }

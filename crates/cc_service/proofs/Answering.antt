@@ -77,7 +77,7 @@ module _ {D : Type 0} (failures : D → ℕ) (before : BookView D) (old : Member
 
 -- ---- what the service answers
 
--- what is known for exactly this change, for any change that the call may ask for
+-- what is known of exactly this change, stated for a change that the call may ask for
 module _ (Asks : Command → Type 0) (command : Command) (asked : Asks command) (old new : MemberView) where
   pub entered_as : (answer : Reply) (receipt : Receipt) → IsEntered (λ c. c ≡ command) old answer new receipt → IsEntered Asks old answer new receipt
   entered_as answer receipt e = record { command = command; asked = asked; answered = subst (λ (c : Command). IsAnswered old (Change c) answer new receipt) e.asked e.answered }

@@ -144,9 +144,7 @@ IsNotCompacted book.Closed = Unit {0}
 IsNotCompacted book.OutOfMemory = Unit {0}
 IsNotCompacted _ = ⊥
 
--- Why a service is not opened: what the library's opening answers; if that is Ok, 41 or 40 from the workers, and then an honest disk's
-
--- bytes recover to this map.
+-- why a service is not opened: what the library's opening answers; or 41 or 40 from the workers, if an honest disk recovers to this map
 abbrev pub IsNotOpened : (honest : Bool) (seen : List ℕ) (base : Units) (before after : ℕ) → ServiceFault → Type 0
 IsNotOpened honest seen base before after (Opening f) = OpenFaults honest seen before after f
 IsNotOpened honest seen base before after WorkersGone = (after ≡ before) × (IsTrue honest → Recovers seen base)

@@ -92,9 +92,7 @@ pub record IsUpdated (Asks : Command → Type 0) (name expected : List ℕ) (old
 abbrev pub HasLooked : (name expected : List ℕ) (old new : MemberView) → Type 0
 HasLooked name expected old new = (seen : Receipt) × HasFound name (λ source. source ≡ expected) old new seen
 
--- how the book refuses an update: 36 and 39 before the look-up; 32 with the receipt of the look-up; 34 and 35 after a look-up that found
-
--- the expected source; 40 before or after the look-up
+-- how the book refuses an update: 36, 39 before the look-up; 32 with its receipt; 34, 35 after it found the expected source; 40 at any time
 abbrev pub IsNotUpdated : (name expected : List ℕ) (old new : MemberView) → BookFault → Type 0
 IsNotUpdated name expected old new (book.Absent seen) = IsAnswered old (Fetch name) reply.Absent new seen
 IsNotUpdated name expected old new (book.Estranged number found) = IsOfAnother old number found × (new ≡ old)

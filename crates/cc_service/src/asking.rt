@@ -93,8 +93,8 @@ impl<N: Named> Client<N> {
 
     /// Replaces the unit under a name if its source is the expected one: this is `look` and then `change`, with no other call in between.
     ///
-    /// Refusals, in this order: 36, 39, 32, 60 if the name's unit has another source, 34, 35. 40 if memory ran out. From 32 on the look-up
-    /// has an entry, and its receipt is the client's last.
+    /// Refusals, in this order: 36, 39, 32, 60 if the name's unit has another source, 34, 35. 40 if memory ran out. After 32, 60, 34, 35
+    /// and a 40 of the change, the look-up has an entry, and its receipt is the client's last.
     pub fn update<D: Disk>(
         &mut self,
         alloc: Global,

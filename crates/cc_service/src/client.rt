@@ -52,8 +52,8 @@ impl<N: Named> Client<N> {
         }
     }
 
-    /// The same client, but its changes compact the library first if they would be refused with 34 now, but not after a compaction, as
-    /// `Book::commit_compacting` does.
+    /// The same client, except that its changes compact the library first if they would be refused with 34 now but not after a
+    /// compaction, as `Book::commit_compacting` does.
     pub fn compacting(self) -> Client<N>
         ensures { result ≡ self }
     {

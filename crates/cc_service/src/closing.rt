@@ -37,7 +37,7 @@ pub(crate) struct Left<N: Named> {
 }
 
 impl<N: Named> Left<N> {
-    // What no client has left yet, with room for this many clients. Err: memory ran out.
+    // What clients leave, before any has left anything, with room for this many clients. Err: memory ran out.
     fn with_room(alloc: Global, clients: usize) -> Result<Left<N>, AllocError>
         ensures receipts { IfOk result (λ left. (left.receipts.items ≡ []) × (vec_len left.receipts ≡ 0) × (clients ≤ vec_capacity left.receipts)) }
         ensures passes { IfOk result (λ left. (vec_len left.passes ≡ 0) × (clients ≤ vec_capacity left.passes)) }
@@ -68,8 +68,8 @@ fn gather<N: Named>(rest: &mut Share<N>, clients: Vec<Client<N>>, left: &mut Lef
     }
 }
 
-// Ok if a book can be ended with these clients, if `made` clients were made. The result has room for what they leave; the memory for it
-// is allocated first.
+// Ok if a book for which `made` clients were made can be ended with these clients. The result has room for what they leave; the memory
+// for it is allocated first.
 pub(crate) fn ready<N: Named, D: Disk>(
     alloc: Global,
     book: &Book<N, D>,

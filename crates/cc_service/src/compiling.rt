@@ -136,7 +136,7 @@ fn handed_in<N: Named + Send + Sync + 'static, R: Wait>(
 }
 
 impl<N: Named + Send + Sync + 'static> Prepared<N> {
-    // Waits for the pieces of its functions, and links them.
+    // Waits for the pieces of the text's functions, and links them.
     pub(crate) fn unit<R: Wait>(
         self,
         rt: &R,

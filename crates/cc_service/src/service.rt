@@ -150,8 +150,8 @@ impl<N: Named + Send + Sync + 'static, D: Disk> Service<N, D> {
         }
     }
 
-    /// The service over a library as its opening left it, which is not read again: with this many workers, 1 to 8, which call the gate
-    /// before each piece.
+    /// The service over a library as its opening left it, with this many workers, 1 to 8, which call the gate before each piece. The
+    /// library is not read again.
     ///
     /// Refusals, with the disk handed back as it was: 40 if memory ran out; 41 if a thread could not be started. No worker is left then.
     pub fn over<R, G>(
@@ -422,8 +422,8 @@ impl<N: Named + Send + Sync + 'static, D: Disk> Service<N, D> {
         answer
     }
 
-    /// Whether some client waits for a unit that it puts. No clause says this. If a client makes no other call at the time, and hands texts
-    /// in early only if this is false, no other client waits longer because of it.
+    /// Whether some client waits for a unit that it puts. No clause says anything about the answer. A client that makes no other call at
+    /// the time, and hands in texts early only if the answer is false, makes no other client wait longer.
     pub fn is_busy(&self) -> bool {
         self.putting.load(Ordering::SeqCst) != 0
     }

@@ -90,7 +90,7 @@ module _ {Disk : Type 0} (D : Ghosts Disk) (failures : ℕ) (named : Units) (fro
   kept_by book after disk sound blamed closed own =
       inl (inl refl, record { base = named; begun = begun; book = book; disk = sym disk; sound = sound; blamed = blamed; own = own; holds = closed })
 
-  -- how a service ends that was given up
+  -- a service that was given up has ended, as `IsEnded` says
   pub given_up_by : (are_all : Bool) (after : Disk) → IsGivenUp D failures named from left clients are_all after → IsEnded D failures bytes from left clients played (given_up_after are_all played) after
   given_up_by true after it =
       inl (given_up_whole played, record { base = named; begun = begun; book = it.book; disk = it.disk_is; sound = it.sound; blamed = it.blamed; own = it.own; holds = it.closed refl })
@@ -123,7 +123,7 @@ ended_on D failures bytes later from left clients played end after same (inr est
     inr (estranged.0, left_on D failures bytes later from left IsNotWhole clients after same estranged.1)
 
 module _ {Disk : Type 0} (D : Ghosts Disk) where
-  -- from a disk to itself nothing but reading was done
+  -- if a disk is the same before and after, it was at most read
   pub reads_none : (a : Disk) → OnlyReads D.seen D.may_leave D.moment D.left_since a a
   reads_none a = record { same = refl; images = λ image leaves. leaves; later = omega arith; moments = λ t image early left. left }
 
@@ -176,7 +176,7 @@ module _ {Disk : Type 0} (D : Ghosts Disk) where
       (subst (λ (e : SessionEnd). EndsSince D from begins Untouched HaveDone a b e) (sym told)
       (inl ((base, fault, refl, why), reads, untouched)))
 
-  -- what a crash may have left at the service's beginning
+  -- if the disk was only read, a crash since the beginning leaves only what it could have left then
   pub past_at : (first a b : Disk) → ((image : List ℕ) → D.left_since a (D.moment a) image → D.may_leave a image) → first ≡ a → OnlyReads D.seen D.may_leave D.moment D.left_since a b
       → IsPast D (D.moment first) (D.may_leave first) b
   past_at first a b only is reads =

@@ -62,11 +62,11 @@ read_same : (x : Option (List ℕ)) (n : ℕ) (Q : List ℕ → List ℕ → Typ
 read_same None n Q it = tt
 read_same (Some b) n Q it = record { taken = []; prefix = refl; counted = omega arith; holds = it b }
 
--- if nothing was read, a relation between each list and itself holds between what was left before and after
+-- a relation that every list has to itself holds between what is left before and after, if nothing was read
 pub between_none : (x : Ahead) (Q : List ℕ → List ℕ → Type 0) → ((b : List ℕ) → Q b b) → Between x x Q
 between_none x Q it = read_same x.rest x.left Q it
 
--- a fact about the rest before a part was read follows from one about the rest after it
+-- a fact about the rest before a part was read follows from a fact about the rest after that part
 read_by : (x y : Option (List ℕ)) (n m : ℕ) (P : List ℕ → List ℕ → Type 0) (Q S : List ℕ → Type 0) → Known x y (IsRead n m P) → IfSome y Q → ((b c : List ℕ) → P b c → Q c → S b) → IfSome x S
 read_by None y n m P Q S one two on = tt
 read_by (Some b) None n m P Q S one two on = absurd one
@@ -90,7 +90,7 @@ pub known_both : (x : Option (List ℕ)) (Q S : List ℕ → Type 0) → IfSome 
 known_both None Q S one two = tt
 known_both (Some b) Q S one two = (one, two)
 
--- if more bytes are left than there may be, that was already so before a part was read
+-- if more bytes than allowed are left after a part was read, more than allowed were left before
 more_read : (x y : Option (List ℕ)) (n m : ℕ) (P : List ℕ → List ℕ → Type 0) → Known x y (IsRead n m P) → IfSome y (λ rest. m < length rest) → IfSome x (λ all. n < length all)
 more_read None y n m P one more = tt
 more_read (Some b) None n m P one more = absurd one
@@ -102,7 +102,7 @@ more_read (Some b) (Some a) n m P one more =
 pub more_before : (x y : Ahead) (P : List ℕ → List ℕ → Type 0) → Between x y P → HasMore y → HasMore x
 more_before x y P one more = more_read x.rest y.rest x.left y.left P one more
 
--- if more bytes are left of a whole script than there may be, it is too long
+-- if nothing was read of a script, and more bytes are left than allowed, the script is too long
 pub too_long : (x : Ahead) → x.left ≡ 16777216 → HasMore x → IfSome x.rest (λ b. 16777216 < length b)
 too_long x whole more = known_map x.rest (λ b. x.left < length b) (λ b. 16777216 < length b) more (λ b few. omega (arith, whole, few))
 
@@ -296,7 +296,7 @@ sent_on x y z count source is_ended sent is read ended =
     between_then x y z (λ b a. IsSource b count (option_map (λ bytes. bytes.items) source) a) (λ b a. IsLineEnd b is_ended a) (λ b a. HasSent b count sent a) read ended
     (λ b m a one two. sent_step b m a count source is_ended sent is one two)
 
--- what is ahead in a script that has not been read at all
+-- if nothing of a script was read, all its bytes are ahead
 pub unread : (remaining : Option (List ℕ)) → ◌≡◌ {A = Ahead} (record { rest = rest_from [] false remaining; left = 16777216 }) (record { rest = remaining; left = 16777216 })
 unread None = refl
 unread (Some bytes) = refl

@@ -34,7 +34,7 @@ sent_as Does bytes sent same count b a old new has it = record {
   called = inl (has.4, subst (λ (k : List ℕ). Does k old new ⊎ Writes no_memory_text old new) (same ∙ has.5) it);
 }
 
--- if the bytes that were sent were handed to `Does`, its step was done
+-- if the bytes that were sent were handed to `Does`, the line's step was done
 pub sent_step : {T : Type 0} (answer : Result T ScriptFault) (Does : List ℕ → Talk → Talk → Type 0) (bytes : Vec ℕ Global) (sent : List ℕ) → sent ≡ bytes.items
     → (count : ℕ) (x y : Ahead) (old new : Talk) → Between x y (λ b a. HasSent b count (Source bytes) a) → DoesAndTells (DoesOr (Does sent)) old new answer
     → IsDone (λ b a o n. IsSentTo Does count b a o n) (IsShortOf count) (IsUnended count) x y old new answer
@@ -131,7 +131,8 @@ updates_as : (mode : Mode) (name expected : List ℕ) (given : Option (List ℕ)
 updates_as mode name expected (Some e) source old new is it = subst (λ (k : List ℕ). CallsAndWrites (UpdateAnswers mode name k source) (SaysChange source) old new) is it
 updates_as mode name expected None source old new is it = absurd it
 
--- the two sources of an update, given the expected source if there was room for it
+-- if both sources of an update were read, and the second was handed on with the first (if there was room for that), both
+-- were sent
 sent_twice : (mode : Mode) (name expected rest between : List ℕ) (many count : ℕ) (given : Option (List ℕ)) (b a : List ℕ) (old new : Talk) → b ≡ expected ++ rest → length expected ≡ many
     → IsLine rest [] between → IfSome given (λ e. e ≡ take 65537 expected) → IsSentTo (λ source o n. UpdatesIf mode name given source o n) count between a old new
     → IsSentTwice mode name many count b a old new

@@ -30,7 +30,7 @@ done_by mode played end script begun answer old new how is grows = (ends_by mode
 
 -- ---- scripts in turn
 
--- if a spool is unchanged, nothing was done
+-- if a spool is unchanged, `HasDone` holds, with no script
 pub done_same : (mode : Mode) → (x y : Given) (h : MemberView) → y.taken ≡ x.taken → y.ended ≡ x.ended → HasDone mode x h y h
 done_same mode x y h taken ended = record {
   scripts = [];

@@ -214,7 +214,7 @@ IsAfter count Holds rest =
 abbrev pub IsShortOfTwo : (expected count : ℕ) (rest : List ℕ) → Type 0
 IsShortOfTwo expected count rest = (length rest < expected) ⊎ IsAfter expected (λ behind. length behind < count) rest
 
--- a line that asks for this needs more bytes after it than are left there
+-- a line that asks for this needs more bytes after it than are left
 abbrev pub IsCutShort : Option ScriptRequest → (rest : List ℕ) → Type 0
 IsCutShort (Some (Add name count)) rest = length rest < count
 IsCutShort (Some (Replace name count)) rest = length rest < count

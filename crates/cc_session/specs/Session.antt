@@ -88,7 +88,7 @@ EndsSince D from left Untouched Worked before after end =
     (IsUnopened D.honest (D.seen before) (D.failures before) (D.failures after) end × (IsTrue D.honest → OnlyReads D.seen D.may_leave D.moment D.left_since before after) × Untouched)
     ⊎ HasEnded D (D.failures before) (D.seen before) from left Worked end after
 
--- How a service ends that began with this disk: `EndsSince` since the beginning, with what a crash may have left then.
+-- How a service that began with this disk ends: `EndsSince` since the beginning, with what a crash may have left then.
 abbrev pub ServiceEnds : {Disk : Type 0} (D : Ghosts Disk) (Untouched : Type 0) (Worked : (clients : List MemberView) (played : SessionEnd) → Type 0)
     (before after : Disk) → SessionEnd → Type 0
 ServiceEnds D Untouched Worked before after end =

@@ -53,7 +53,7 @@ abbrev pub done_text : {T : Type 0} → Result T ServiceFault → List ℕ
 done_text (Ok done) = line (codes "ok")
 done_text (Err fault) = refusal_text [] fault
 
--- for a question how much of its area the library takes: the figures, or the refusal
+-- for `space`, how much of its area the library takes: the figures, or the refusal
 abbrev pub room_text : Result SpaceUse ServiceFault → List ℕ
 room_text (Ok space) = space_text space
 room_text (Err fault) = refusal_text [] fault

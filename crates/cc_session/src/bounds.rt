@@ -13,9 +13,9 @@ use crate::end::SessionEnd;
 use crate::steward::{Generation, GenerationEnd};
 use std::sync::atomic::{AtomicBool, AtomicU64, Ordering};
 
-/// When a generation ends: depending on the bytes that its history is counted to hold (`held_since` of `cc_service::Client`: 256
-/// for each call; for a change also the source, code, globals and certificate of its unit; for a list also 48 for each name), or
-/// on the number of scripts that were taken.
+/// The bounds at which a generation ends: on the bytes that its history is counted to hold (`held_since` of `cc_service::Client`:
+/// 256 for each call; for a change also the source, code, globals and certificate of its unit; for a list also 48 for each name),
+/// or on the number of scripts that were taken.
 ///
 /// At least one script is done in each generation, whatever these numbers are.
 #[derive(Clone, Copy, Debug, Drop, PartialEq, Eq)]

@@ -55,7 +55,7 @@ pub(crate) struct Player<'a, N: Named, H, D: Disk, P> {
 }
 
 impl<'a, N: Named + Send + Sync + 'static, H: Wait, D: Disk, P: Patience> Player<'a, N, H, D, P> {
-    // The text of a source that is read up to here, which was handed to the workers before its turn or is handed to them now.
+    // The text of the source that was read up to here. It was handed to the workers before its turn, or is handed to them now.
     fn begun<R: Read>(
         &self,
         client: &mut Client<N>,
@@ -75,7 +75,7 @@ impl<'a, N: Named + Send + Sync + 'static, H: Wait, D: Disk, P: Patience> Player
         }
     }
 
-    // Hands the sources of the next commands to the workers, unless some client waits for them.
+    // Hands the sources of the next commands to the workers, unless some client is waiting for the workers.
     fn look_ahead<R: Read>(&self, client: &mut Client<N>, script: &Reading<R>, hints: &mut Hints<N>)
         ensures { client.new.member ≡ client.old.member }
     {
@@ -371,7 +371,7 @@ impl<'a, N: Named + Send + Sync + 'static, H: Wait, D: Disk, P: Patience> Player
         }
     }
 
-    // Runs the image of a unit that was found on input words.
+    // Runs, on input words, the image of a unit that was found.
     fn call_found<W: Write, E: Write>(
         &self,
         found: Found,
@@ -389,7 +389,7 @@ impl<'a, N: Named + Send + Sync + 'static, H: Wait, D: Disk, P: Patience> Player
         }
     }
 
-    // Runs the image of the unit under a name on input words.
+    // Runs, on input words, the image of the unit under a name.
     fn call_words<W: Write, E: Write>(
         &self,
         client: &mut Client<N>,
@@ -407,7 +407,7 @@ impl<'a, N: Named + Send + Sync + 'static, H: Wait, D: Disk, P: Patience> Player
         }
     }
 
-    // Runs the image of the unit under a name on the input words in these bytes.
+    // Runs, on the input words in these bytes, the image of the unit under a name.
     fn call_on<W: Write, E: Write>(
         &self,
         client: &mut Client<N>,
@@ -437,7 +437,7 @@ impl<'a, N: Named + Send + Sync + 'static, H: Wait, D: Disk, P: Patience> Player
         }
     }
 
-    // Runs the image of the unit under a name on the input words that come next.
+    // Runs, on the input words that come next, the image of the unit under a name.
     fn call<R: Read, W: Write, E: Write>(
         &self,
         client: &mut Client<N>,

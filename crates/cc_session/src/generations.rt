@@ -54,7 +54,7 @@ fn rest<H: Clock, S: Spool>(rt: &H, seconds: u64, spools: &mut [S]) -> bool
     are_over(spools)
 }
 
-// Whether the first generation ended in such a way that a next one may begin.
+// Whether the first generation ended in such a way that another may begin.
 fn is_well(end: SessionEnd) -> bool
     ensures well { result ≡ true → GoesOn zero end }
     ensures not { result ≡ false → end ≢ Finished }
@@ -65,7 +65,7 @@ fn is_well(end: SessionEnd) -> bool
     }
 }
 
-// Whether a later generation ended in such a way that a next one may begin: without a fault, or with one that may pass.
+// Whether a later generation ended in such a way that another may begin: without a fault, or with a fault that may pass.
 fn may_pass(end: SessionEnd) -> bool
     ensures passes { result ≡ true → GoesOn (suc zero) end }
     ensures not { result ≡ false → end ≢ Finished }

@@ -9,7 +9,7 @@ use crate::patience::Patience;
 use cc_script::ScriptFault;
 use cc_service::{Client, Named};
 
-// If a script has a bound, a further line of it begins only if the receipts for it hold at most this many bytes.
+// If a script has a bound, another line begins only if the script's receipts hold at most this many bytes.
 const MOST_HELD: u64 = 268_435_456;
 
 // The bytes of the receipts that a client got since a script was begun, and how many receipts the client had when they were last
@@ -42,7 +42,7 @@ impl Held {
         self.seen = client.receipts().len();
     }
 
-    // The fault that ends a script after this many lines if more of it is left; none if a further line may be done.
+    // The fault that ends a script after this many lines if more of the script is left; none if another line may be done.
     #[tactic(auto, using(crate::proofs::Weighing::much, crate::proofs::Weighing::light))]
     pub(crate) fn limit<P: Patience>(
         &self,

@@ -2,8 +2,8 @@
 //
 // They are found in what the script's reader has already given. Nothing is read to find them, so a script that somebody types
 // line by line is answered line by line. A source that was handed in is a hint: at the command's turn, its source is compared
-// with the hint. A hint that was refused, or whose memory or worker is gone, is ignored. So the answers and their order are the
-// same as if the sources were compiled one by one.
+// with the hint. A hint is ignored if it was refused, if memory ran out for it, or if its worker is gone. So the answers and
+// their order are the same as if the sources were compiled one by one.
 
 ghost use Rattle.std.specs.Prelude.{◌≡◌, IfSome};
 

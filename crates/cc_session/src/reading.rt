@@ -113,8 +113,8 @@ impl<R: Read> Reading<R> {
         Ok(behind_line(source, is_ended))
     }
 
-    // Writes 50, which says that the line, which was not read to its end, is not a command; then skips the
-    // line.
+    // Writes 50, which says that the line is not a command, before the line is read to its end; then skips
+    // the line.
     pub(crate) fn refuse_and_skip<W: Write, E: Write>(
         &mut self,
         answers: &mut W,

@@ -102,8 +102,8 @@ fn ended(played: Result<(), ScriptFault>) -> SessionEnd
     }
 }
 
-// Runs a script with one client of a service. The clause holds regardless of how the session ends after that, if nothing is
-// written in between.
+// Runs a script with one client of a service. The clause holds however the session ends afterwards, if nothing is written in
+// between.
 fn play_alone<N, H, R, W, E, D>(
     rt: &H,
     alloc: Global,

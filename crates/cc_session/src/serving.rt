@@ -454,8 +454,8 @@ where
 ///
 /// The line for a fault of the opening (35, 37, 38, 40, 41; 30 if there are too many spools) or of the end (39, 40) goes to
 /// `writer`, and its explanation for a person to `explanations`. `end` is the first of these faults, or 39, and its line is
-/// written. A fault that ends a script is reported only in the script's answer. The disk and the spools are handed back after
-/// each fault.
+/// written. A fault that ends a script is reported only in the script's answer. The disk and the spools are handed back after any
+/// fault.
 pub fn serve_in<H, S, W, E, D, G, T>(
     rt: &H,
     alloc: Global,

@@ -42,7 +42,7 @@ place_behind (Number number) byte = if byte == 10 then Fault 0 else (if is_ascii
 place_behind (Source count) byte = if byte == 10 then Fault 0 else in_source count byte
 place_behind Line byte = if byte == 10 then Fault 0 else Line
 
--- the fault that was reported last: if the line being read reports a fault, that one
+-- the fault that was reported last: that of the line being read, if it reports one
 abbrev pub told_at : Place → (last : Option ℕ) → Option ℕ
 told_at (Number number) last = Some number
 told_at place last = last

@@ -44,7 +44,7 @@ impl AnswerFile {
         self.writer.get_ref().sync_all()
     }
 
-    /// How the lines of its script were answered, in turn.
+    /// How the lines of its script were answered, in order.
     pub(crate) fn words(&self) -> &[Word] {
         self.words.words()
     }

@@ -1,11 +1,11 @@
-// How each line of a script was answered. As the answers are written, this is read from the last line of each.
+// How each line of a script was answered. As the answers are written, the last line of each shows this.
 
 use std::alloc::Global;
 
 /// At most this many bytes of a line matter.
 const LINE_BYTES: usize = 64;
 
-/// The last record of an image.
+/// The last record of an image, in Intel HEX.
 const LAST_RECORD: &[u8] = b":00000001FF";
 
 /// How a line was answered.
@@ -68,7 +68,7 @@ fn word_of(line: &[u8]) -> Option<Word> {
     }
 }
 
-// How many bytes come after a line as its source, including the newline at their end.
+// How many bytes the source after a line has, including the newline at its end.
 fn source_after(line: &[u8]) -> u64 {
     let mut words = line.split(|byte| *byte == b' ');
     if words.next().unwrap_or(b"") != b"source".as_slice() {
@@ -91,7 +91,7 @@ impl AnswerWords {
         }
     }
 
-    /// How the lines were answered, in turn.
+    /// How the lines were answered, in order.
     pub(crate) fn words(&self) -> &[Word] {
         self.words.as_slice()
     }

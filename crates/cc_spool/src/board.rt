@@ -4,8 +4,8 @@
 // cost of a look grows with the number of entries of `new`, and anybody may put entries there that can't be claimed. So no look
 // is made while `new` is unchanged, and a name that could not be claimed is passed over for a time that doubles with each
 // failure. Then it is tried again without a look, after the names that were never tried; at most a fixed number of names a second
-// is tried again. So the processor time that is used does not grow with the number of names that can't be claimed, and a script
-// waits while only a few of them are tried. If there are more names than are kept, and none of those kept could be claimed, the
+// is tried again. So the processor time that is used does not grow with the number of names that can't be claimed, and while a
+// script waits, only a few of them are tried. If there are more names than are kept, and none of those kept could be claimed, the
 // next look is for the names after them. So names that can't be claimed never hide a script.
 
 use crate::claims::may_be_claimed;
@@ -45,14 +45,14 @@ const MOST_LOOKED: usize = 64;
 /// within the clock's grain have the same time.
 const GRAIN: u64 = 1;
 
-/// While `new` is unchanged, a look that possibly missed something is repeated only after this many times the time that it took.
+/// While `new` is unchanged, a look that may have missed something is repeated only after this many times the time that it took.
 const REST: u32 = 16;
 
 /// A name that may be a script's.
 #[derive(Drop)]
 pub(crate) struct Candidate {
     pub(crate) name: String,
-    // How long it was passed over the last time, in seconds: 0 if it was not.
+    // How long it was passed over the last time, in seconds: 0 if it never was.
     passed: u64,
 }
 
@@ -193,7 +193,8 @@ impl Board {
             };
             match may_be_claimed(layout, candidate.name.as_str()) {
                 Some(true) => {
-                    // There is room, since the candidate was taken from this list.
+                    // There is room, unless the candidate was taken from `again`. If there is then no memory for it, a later look
+                    // finds it.
                     let _ = self.waiting.push(candidate);
                     return Ok(true);
                 }
@@ -228,7 +229,7 @@ impl Board {
         });
     }
 
-    // Whether it is time to try names again that were passed over.
+    // Whether it is time to retry names that were passed over.
     fn is_time_again(&self, now: Instant) -> bool {
         let has_rested = match self.tried {
             Some(tried) => AGAIN <= now.duration_since(tried).as_secs(),

@@ -21,13 +21,13 @@ pub(crate) fn settle(file: &File) -> Result<(), Refusal> {
     Ok(())
 }
 
-/// Writes these bytes to a file, from this offset on.
+/// Writes these bytes to a file, at this offset.
 pub(crate) fn write_at(file: &File, bytes: &[u8], at: u64) -> Result<(), Refusal> {
     file.write_all_at(bytes, at)?;
     Ok(())
 }
 
-/// Reads bytes of a file from this offset on, as many as there is room for.
+/// Fills the room with the bytes of a file at this offset.
 pub(crate) fn read_at(file: &File, room: &mut [u8], at: u64) -> Result<(), Refusal> {
     file.read_exact_at(room, at)?;
     Ok(())

@@ -55,7 +55,7 @@ pub(crate) enum Ending {
     Whole,
     /// As nothing but the line for a fault.
     Line(Told),
-    /// As a start finds it: it is not known whether its script was claimed, or an earlier server had begun the script.
+    /// As a start finds it: either it is not known whether its script was claimed, or an earlier server had begun the script.
     Left,
 }
 
@@ -136,8 +136,8 @@ fn open_claimed(layout: &FolderLayout, name: &str) -> Result<File, Told> {
     }
 }
 
-// Writes the line for a fault over the beginning of an answer, and cuts the rest. This needs no more room, and a kill leaves an
-// answer that begins with that line.
+// Writes the line for a fault over the beginning of an answer, and cuts off the rest. This needs no more room, and a kill leaves
+// an answer that begins with that line.
 fn write_line(file: &File, told: Told) -> Result<(), Refusal> {
     let line = told.line();
     write_at(file, line, 0)?;

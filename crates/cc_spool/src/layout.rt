@@ -58,7 +58,7 @@ pub struct FolderLayout {
     pub(crate) common: Arc<Common>,
 }
 
-/// What all clients of one server know about its folder. They take the board, and the log, without waiting for either.
+/// What all clients of one server know about its folder. A client that finds the board or the log taken does not wait for it.
 #[derive(Drop)]
 pub(crate) struct Common {
     pub(crate) board: Mutex<Board>,
@@ -69,7 +69,7 @@ pub(crate) struct Common {
     // How many scripts were begun, and how many clients are running one.
     begun: AtomicU64,
     busy: AtomicU64,
-    // How many clients have a number, and the number of the client that is to end its script for one that waits, or 0.
+    // How many clients have a number, and the number of the client that is to end its script for a waiting script, or 0.
     numbered: AtomicU64,
     leaving: AtomicU64,
     // How many clients there are, and how many seconds one may run a script while others wait.
@@ -219,7 +219,7 @@ impl FolderLayout {
         self.common.taken.load(Ordering::SeqCst)
     }
 
-    /// Notes that an answer was handed over that takes this many bytes.
+    /// Notes that an answer that takes this many bytes was handed over.
     pub(crate) fn note_taken(&self, bytes: u64) {
         self.common.taken.fetch_add(bytes, Ordering::SeqCst);
     }
@@ -264,18 +264,18 @@ impl FolderLayout {
         before.saturating_add(1)
     }
 
-    /// Whether a client is to end its script for one that waits.
+    /// Whether this client is to end its script for a waiting script.
     pub(crate) fn is_leaving(&self, client: u64) -> bool {
         self.common.leaving.load(Ordering::SeqCst) == client
     }
 
-    /// Whether no client is to end its script for one that waits.
+    /// Whether no client is to end its script for a waiting script.
     pub(crate) fn is_none_leaving(&self) -> bool {
         self.common.leaving.load(Ordering::SeqCst) == 0
     }
 
-    /// Notes that a client is to end its script for one that waits. The caller has the board, so this is done for one client at a
-    /// time.
+    /// Notes that a client is to end its script for a waiting script. The caller has the board, so only one client at a time is
+    /// noted.
     pub(crate) fn leave(&self, client: u64) {
         self.common.leaving.store(client, Ordering::SeqCst);
     }
@@ -321,7 +321,7 @@ impl FolderLayout {
         }
     }
 
-    /// Syncs the names of a part.
+    /// Syncs the names in a part.
     pub(crate) fn sync_part(&self, part: &str) -> Result<(), Refusal> {
         let part = self.open_part(part)?;
         settle(&part)

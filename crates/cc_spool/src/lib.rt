@@ -7,8 +7,8 @@
 //! many answers are kept. `claims` says how a script is claimed and answered, `answer` has the file that its answer is written
 //! to, `recovery` what becomes of the files that a killed server left. `submission` says how a client leaves a script and waits
 //! for its answer, `lines` which fault the answer reports, `framing` how a source is written in it, `fault` why a folder or a
-//! script is refused. `log` has who did what: `script_file` has the lines of a script as it is read, `answer_words` how each was
-//! answered.
+//! script is refused. `log` records who did what: `script_file` keeps the lines of a script as it is read, `answer_words` how
+//! each was answered.
 //!
 //! The crate knows nothing about libraries. It uses only the history of `cc_disk`, which only contracts read. The only handles
 //! that it needs are those for files and the clock. It exports `Spool`, `MemorySpool` and `Answered`; `FolderSpool`,

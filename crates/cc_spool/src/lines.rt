@@ -32,13 +32,13 @@ enum Place {
     Line,
     // In a source; this many of its bytes are left.
     Within(u32),
-    // After a source: a newline comes.
+    // After a source: a newline comes next.
     Behind,
     // After a source that was followed by a byte other than a newline: nothing that follows is reported.
     Broken,
 }
 
-// A number with one more digit appended, at most the largest value.
+// A number with one more digit appended, or the largest value if that is exceeded.
 fn with_digit(number: u32, byte: u8) -> u32
     requires { (48 ≤ byte) × (byte ≤ 57) }
     ensures { result ≡ with_digit number byte }

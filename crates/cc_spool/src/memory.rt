@@ -11,7 +11,7 @@ use std::collections::VecDeque;
 use std::io::{Read, Write};
 
 /// An answer that was handed over, and the number of the fault that ended its script, 51 to 54 or 61, if one did. With 54 the answer may be
-/// cut anywhere, and has no line for that fault.
+/// cut off anywhere, and has no line for that fault.
 #[derive(Drop)]
 pub struct Answered<W: Drop> {
     pub answer: W,
@@ -70,7 +70,7 @@ impl<R: Read + Drop + Send, W: Write + Drop + Send> MemorySpool<R, W> {
         self.is_awaited = is_awaited;
     }
 
-    /// The answers so far, in turn.
+    /// The answers so far, in order.
     pub fn answered(&self) -> &[Answered<W>]
         ensures { result.now ≡ self.now.answered.items }
     {

@@ -90,8 +90,8 @@ fn ends_with(file: &File, end: u64, line: &[u8]) -> Result<bool, Refusal> {
 }
 
 // Completes the answer to a script that was begun: what was written up to the last whole line is kept, and a line after it says,
-// once, that the script was interrupted. An answer that begins with the line for 54 is cut to that line: a server was killed while
-// it wrote the line over the answer.
+// once, that the script was interrupted. An answer that begins with the line for 54 is cut off after that line: a server was killed
+// while it wrote the line over the answer.
 //
 // An answer that ends within a source is cut off before the line that says how long the source is. Otherwise the line for 55 could
 // be taken for the rest of the source, and nobody could tell the two apart.
@@ -163,7 +163,7 @@ fn complete_left(layout: &FolderLayout, name: &str) -> Result<(), Refusal> {
 }
 
 /// Completes an answer that was left, so that it can be handed over. The result is whether its script was begun. An answer whose
-/// script was not begun is removed. An `Err` leaves both for the next start.
+/// script was not begun is removed. An `Err` leaves the answer and its script for the next start.
 pub(crate) fn complete_answer(layout: &FolderLayout, name: &str) -> Result<bool, Refusal> {
     match left_answer(layout, name)? {
         LeftAnswer::Gone => Ok(false),
@@ -199,8 +199,8 @@ pub struct Recovered {
     pub begun: u64,
     /// The names of scripts that could not be answered yet, for the spool that tries them again (`FolderSpool::keep`).
     pub kept: Vec<String>,
-    /// How many claims of scripts that were answered could not be removed: directories that somebody put in a script's place, and
-    /// that are not empty.
+    /// How many claims of scripts that were answered could not be removed: in the script's place there is a directory that somebody
+    /// put there, and it is not empty.
     pub stuck: u64,
 }
 

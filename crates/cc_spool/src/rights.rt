@@ -253,7 +253,8 @@ fn note_wide(
     Ok(())
 }
 
-/// The parts whose rights are wider than they should be: other users could act as the server, or take scripts and answers away.
+/// The parts whose rights are wider than they should be: with these rights, other users could act as the server, or take scripts and
+/// answers away.
 pub fn wide_parts(layout: &FolderLayout) -> io::Result<Vec<WidePart>> {
     let mut wide = Vec::new(layout.alloc);
     for (part, most) in [

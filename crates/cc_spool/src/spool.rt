@@ -17,11 +17,11 @@ pub trait Spool {
     /// What its answer is written to.
     type Answer: Write + Drop + Send;
 
-    /// The scripts that were taken so far, in turn: for each its bytes, and the contents of the writer of its answer at that time, if
+    /// The scripts that were taken so far, in order: for each its bytes, and the contents of the writer of its answer at that time, if
     /// these are known.
     ghost taken: { Self → List Taken };
 
-    /// The answers that were handed over so far, in turn: for each the contents of its writer, if these are known, and the number of the
+    /// The answers that were handed over so far, in order: for each the contents of its writer, if these are known, and the number of the
     /// fault that ended its script, 51 to 54 or 61, if one did.
     ghost ended: { Self → List Delivered };
 
@@ -38,7 +38,7 @@ pub trait Spool {
         ensures taken { taken self.new ≡ taken self.old }
         ensures ended { ended self.new ≡ ended self.old };
 
-    /// The next script, and what its answer is to be written to; none if none came within 64 ms, or one is in hand.
+    /// The next script, and what its answer is to be written to; none if no script came within 64 ms, or one is in hand.
     fn next(&mut self) -> Option<(Self::Script, Self::Answer)>
         ensures taken { IfSome result (λ job. taken self.new ≡ taken self.old ++ taken_as (Self.Script.remaining job.0) (Self.Answer.contents job.1) ∷ []) }
         ensures none { IfNone result (taken self.new ≡ taken self.old) }
@@ -55,8 +55,8 @@ pub trait Spool {
     /// be taken.
     fn is_awaited(&self) -> bool;
 
-    /// Hands over the answer of the script. `fault` is the number of the fault that ended the script, 51 to 54 or 61, if one did.
-    /// With 54 the answer may be cut anywhere, and has no line for that fault.
+    /// Hands over the answer of the script. `fault` is the number of the fault that ended the script, 51 to 54 or 61, if one did. With 54
+    /// the answer may be cut off anywhere, and has no line for that fault.
     fn deliver(&mut self, script: Self::Script, answer: Self::Answer, fault: Option<u32>)
         ensures taken { taken self.new ≡ taken self.old }
         ensures ended { ended self.new ≡ ended self.old ++ delivered_as (Self.Answer.contents answer) fault ∷ [] };

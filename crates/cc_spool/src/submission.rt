@@ -103,7 +103,7 @@ fn flush<W: Write>(writer: &mut W) -> Result<(), Refusal>
     Ok(())
 }
 
-// Copies the next bytes, and reads their lines. The result is how many bytes these are: 0 at the reader's end.
+// Copies the next bytes, and reads their lines. The result is how many bytes were copied: 0 at the reader's end.
 fn pass_on<S: Read, W: Write>(
     reader: &mut S,
     writer: &mut W,
@@ -363,7 +363,7 @@ impl Waiting {
     }
 }
 
-// How long a script has waited, and whether a person knows that it waits.
+// How long a script has waited, and whether a note for a person has said so.
 #[derive(Clone, Copy, Drop)]
 struct Patience {
     // The moment up to which the milliseconds are counted.

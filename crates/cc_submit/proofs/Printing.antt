@@ -44,7 +44,7 @@ pub handed : (fetches : Bool) (came : Option Submission) (old new : Option (List
     → Prints fetches ended.came old new ended.is_written ended.status
 handed fetches came old new ended is prints = subst (λ (c : Option Submission). Prints fetches c old new ended.is_written ended.status) (sym is) prints
 
--- how a command ends if its answer was kept because it is to be a source
+-- if the answer was kept because it is to be a source, what is printed is what `Prints` says
 pub fetched : {E : Type 0} (done : Result Submission E) (answer : List ℕ) (old new : Option (List ℕ)) (ended : Ended) → HasWrittenIfOk (Some []) (Some answer) done
     → FinishesSource answer (came_of done) old new ended → Prints true ended.came old new ended.is_written ended.status
 fetched (Ok (Answered None)) answer old new ended was is =
@@ -58,7 +58,7 @@ fetched (Ok (CutShort name why)) answer old new ended was is = handed true (Some
 fetched (Ok (Lost name why)) answer old new ended was is = handed true (Some (Lost name why)) old new ended is.came_is (is.status_is, is.ends)
 fetched (Err why) answer old new ended was is = handed true None old new ended is.came_is (is.status_is, is.ends)
 
--- how a command ends if its answer was written as it came
+-- if the writer is unchanged so far, `Finishes` also holds from its earlier contents
 pub ended_from : (came : Option Submission) (old between new : Option (List ℕ)) (ended : Ended) → between ≡ old → Finishes came between new ended → Finishes came old new ended
 ended_from came old between new ended same is = subst (λ (o : Option (List ℕ)). Finishes came o new ended) same is
 
@@ -80,7 +80,7 @@ printed (Ok (Lost name why)) old between new ended was is =
 printed (Err why) old between new ended was is =
     let from = ended_from None old between new ended was is in handed false None old new ended from.came_is (from.status_is, from.ends)
 
--- how a command ends if its source could not be read
+-- if the source could not be read, and the line for 53 is written, the command ends as `Submits` says
 pub unread : (line : Option (List ℕ)) (old new : Option (List ℕ)) (is_written : Bool) → is_command line ≡ true → Says is_written old new (codes "fault 53 ReadFault\n")
     → Submits line old new (record { came = Some Unread; status = 1; is_written = is_written })
 unread line old new is_written is says =

@@ -73,7 +73,7 @@ fetches (Some line) = asks_source (asked_of Served line)
 abbrev pub Says : (is_written : Bool) (old new : Option (List ℕ)) (text : List ℕ) → Type 0
 Says is_written old new text = IsTrue is_written → Appends old new text
 
--- these bytes are printed, and then the line for the fault that reports that the system refused a call: 40 OutOfMemory, or 56 FolderFault
+-- these bytes are printed, and then the line for a system call that was refused: 40 OutOfMemory, or 56 FolderFault
 abbrev pub SaysRefused : (is_written : Bool) (old new : Option (List ℕ)) (begun : List ℕ) → Type 0
 SaysRefused is_written old new begun = IsTrue is_written → Appends old new (begun ++ codes "fault 40 OutOfMemory\n") ⊎ Appends old new (begun ++ codes "fault 56 FolderFault\n")
 

@@ -37,7 +37,7 @@ pub struct Ended {
     pub came: Option<Submission>,
     /// The status.
     pub status: u8,
-    /// Whether everything was printed that was to be.
+    /// Whether everything that was to be printed was printed.
     pub is_written: bool,
 }
 
@@ -283,7 +283,7 @@ fn put<W: Write>(text: &[u8], writer: &mut W) -> bool
     }
 }
 
-// Explains to a person the fault that an answer reported last; if the fault has a place in the source, this is what `check`
+// Explains to a person the fault that an answer reported last; if the fault has a place in the source, the explanation is what `check`
 // reports about the source.
 fn explain<R: AllocGlobal, E: Write>(
     rt: &R,
@@ -327,8 +327,8 @@ fn explain_source<R: AllocGlobal, E: Write>(
     };
 }
 
-// Writes the line for the fault that reports that the system refused a call in the folder: 40 if memory ran out, else 56. The result
-// is whether the line was written.
+// Writes the line for a system call in the folder that was refused: 40 if memory ran out, else 56. The result is whether the line was
+// written.
 fn refused<W: Write>(why: &io::Error, writer: &mut W) -> bool
     ensures { SaysRefused result (W.contents writer.old) (W.contents writer.new) [] }
 {

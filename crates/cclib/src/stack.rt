@@ -6,8 +6,8 @@
 // allocated once like any other memory, and freed, which shows that it is available. Then that much of the stack is used, which
 // the process keeps from then on. If the memory is not available, the call reports that memory ran out, and no signal comes.
 //
-// Work that reads no text does not need this: the command line and a client of a server use 64 KiB (measured), and a process
-// begins with 128.
+// Work that reads no text does not need this: the command line and a client of a server use 64 KiB of stack (measured), and a
+// process begins with 128 KiB.
 
 use std::alloc::{AllocError, Global};
 

@@ -8,7 +8,7 @@ use std::alloc::Global;
 use std::test::Fail;
 use tests_texts::verdict::passes;
 
-// How many bytes are read ahead, from the beginning of an area on, when a journal is opened.
+// How many bytes are read ahead, from the beginning of an area, when a journal is opened.
 const AHEAD: usize = 65_536;
 
 // This many bytes, whose values depend on their places.
@@ -39,7 +39,8 @@ fn are_found(alloc: Global, lengths: &[usize]) -> Result<bool, Fail> {
 
 #[test]
 fn a_record_behind_what_was_read_ahead(rt: HostRuntime) -> Result<(), Fail> {
-    // The second record begins `before` bytes before the end of what is read ahead, and then `9 - before` bytes after it.
+    // The second record begins `before` bytes before the end of what is read ahead in the first case, and `9 - before` bytes
+    // after it in the second.
     for before in 0..9usize {
         let first = AHEAD - 5 - before;
         passes(are_found(rt.alloc(), &[first, 300, 0, 7]))?;

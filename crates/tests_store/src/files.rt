@@ -13,7 +13,7 @@ fn is_held(rt: &HostRuntime, path: &str) -> bool {
     FileDisk::open(rt, path).is_err() && FileDisk::create(rt, path, 9).is_err()
 }
 
-// Makes a journal with one record in a new file. The result is whether nobody else has the file while the journal does.
+// Makes a journal with one record in a new file. The result is whether nobody else can use the file while the journal is open.
 fn is_written(rt: &HostRuntime, alloc: Global, path: &str) -> Result<bool, Fail> {
     let mut disk = FileDisk::create(rt, path, 144)?;
     let has_size = disk.size() == 144;
@@ -41,8 +41,8 @@ fn a_journal_in_a_file(rt: HostRuntime) -> Result<(), Fail> {
     passes(Ok(right && fs::remove_file(&rt, path).is_ok()))
 }
 
-// Whether reading twenty bytes from this offset on succeeds or fails as `wanted` says, on a disk of 100 bytes, and exactly one
-// read has failed so far.
+// Whether reading twenty bytes at this offset succeeds or fails as `wanted` says, on a disk of 100 bytes, and exactly one read
+// has failed so far.
 fn is_read(disk: &mut FileDisk, offset: usize, wanted: bool) -> bool {
     let mut buffer = [0u8; 20];
     offset <= 80
@@ -51,8 +51,8 @@ fn is_read(disk: &mut FileDisk, offset: usize, wanted: bool) -> bool {
         && disk.failures() == 1
 }
 
-// Whether a disk of zeros reads no further than its file goes, once somebody has cut the file: a read past the file's end returns
-// fewer bytes.
+// Whether a disk of zeros reads no further than its file goes, once somebody has truncated the file: a read past the file's end
+// returns fewer bytes.
 fn is_cut(rt: &HostRuntime, alloc: Global, path: &str) -> Result<bool, Fail> {
     let mut disk = FileDisk::create(rt, path, 100)?;
     let are_zeros = has_bytes(alloc, &mut disk, &[0; 100])?;

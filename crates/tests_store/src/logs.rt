@@ -91,7 +91,7 @@ fn appends_bytes<D: Disk>(
     Ok(appends(alloc, log, body, bytes, number))
 }
 
-// A disk whose log has records with these bodies, after these steps, which must be answered as they should be. No step closes
+// A disk whose log has records with these bodies, after these steps. Each step must get the right answer, and no step closes
 // the log.
 fn played(
     alloc: Global,
@@ -194,7 +194,7 @@ fn closed_after(alloc: Global, passes: u64) -> Result<Log<FuseDisk<MemoryDisk>>,
     }
 }
 
-// Whether a log that such a call has closed answers 36, and its disk has the same bytes after this answer.
+// Whether a log that the failure of a call has closed answers 36, and its disk has the same bytes after this answer.
 fn stays_closed(alloc: Global, passes: &u64) -> Result<bool, Fail> {
     let before = bytes_of(alloc, &mut closed_after(alloc, *passes)?.into_disk())?;
     let mut log = closed_after(alloc, *passes)?;

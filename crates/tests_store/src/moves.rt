@@ -67,7 +67,7 @@ fn survives(alloc: Global, moved: bool, calls: u64, mode: FuseMode) -> Result<bo
     Ok(quiet && done == (calls == 4) && is_right(alloc, &disk, done)?)
 }
 
-// Whether this is so for a rewrite from either area.
+// Whether a rewrite from either area leaves the right records.
 fn survives_in_each(alloc: Global, row: &(u64, FuseMode)) -> Result<bool, Fail> {
     Ok(survives(alloc, false, row.0, row.1)? && survives(alloc, true, row.0, row.1)?)
 }

@@ -36,7 +36,7 @@ fn is_done(alloc: Global, journal: &mut Journal<MemoryDisk>, step: Step) -> Resu
     }
 }
 
-// A new journal after these steps, which must be answered as they should be.
+// A new journal after these steps. Each step must get the right answer.
 fn played(alloc: Global, steps: &[Step]) -> Result<Journal<MemoryDisk>, Fail> {
     let mut journal = opened(alloc, formatted(alloc)?)?;
     let mut right = true;

@@ -1,4 +1,4 @@
--- How a script from a spool ended, and how a service ends that was given up.
+-- How a script from a spool ended, and how a service that was given up ends.
 use Rattle.std.specs.Prelude.{◌≡◌, ℕ, Bool, true, false, Option, Some, None, Result, Ok, Err}
 use Rattle.cc_script.specs.Fault.{fault_number}
 use Rattle.cc_script.specs.declared.fault.ScriptFault.{ScriptFault}

@@ -56,7 +56,7 @@ pub record CountsSince (first now : List Receipt) (held : Held) : Type 0 where
   pub seen : held.seen ≡ length now
   pub bytes : held.bytes ≡ at_most_told (receipts_bytes more)
 
--- `count` bytes are taken from what is left, then the end of a line; or then one byte that does not end a line
+-- `count` bytes are taken from what is left, and then the end of a line, or one byte that does not end a line
 abbrev pub HasSent : (before : List ℕ) (count : ℕ) → Sent → (after : List ℕ) → Type 0
 HasSent before count (Source bytes) after =
     (source : List ℕ) × (rest : List ℕ) × (before ≡ source ++ rest) × (length source ≡ count) × IsLine rest [] after × (bytes.items ≡ take 65537 source)

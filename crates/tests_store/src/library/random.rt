@@ -78,7 +78,7 @@ fn random_records(alloc: Global, state: &mut u64) -> Result<(Vec<u8>, Option<Hel
     Ok((bytes, held))
 }
 
-// Whether the next such disk holds what its records fold to, or is refused if a command is.
+// Whether the next disk of random records holds the map that its commands lead to, or is refused if a command is refused.
 fn is_fold(alloc: Global, state: &mut u64) -> Result<bool, Fail> {
     let (bytes, held) = random_records(alloc, state)?;
     let disk = disk_of(alloc, &bytes)?;
@@ -97,8 +97,8 @@ fn random_records_stand_for_their_fold(rt: HostRuntime) -> Result<(), Fail> {
     Ok(())
 }
 
-// Whether such a disk with up to four random bytes is refused with 37 or 38, or is opened and has the same names after it is
-// compacted and opened again.
+// Whether a disk of random records, with up to four of its bytes made random, is refused with 37 or 38, or is opened and has
+// the same names after it is compacted and opened again.
 fn is_opened_or_refused(alloc: Global, state: &mut u64) -> Result<bool, Fail> {
     let (mut bytes, _) = random_records(alloc, state)?;
     for _ in 0..1 + next_byte(state) % 4 {
