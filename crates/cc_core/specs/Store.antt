@@ -85,7 +85,6 @@ due_after SyncGate = Acknowledge
 due_after Acknowledge = Acknowledge
 
 -- what the step that was due leaves if it fails: a write leaves arbitrary bytes in its range, unsettled; a sync changes nothing; a reply is
-
 -- not a device step
 abbrev pub FailsTo : Due → LibraryCommand → StoreState → StoreState → Type 0
 FailsTo WriteBody command old new = FirstFails (append_of old command) old new
