@@ -214,7 +214,7 @@ fn build_unit<B: Build>(
     Ok(SharedUnit::new(unit))
 }
 
-// The command of a job, or the number that refuses it before the library is asked.
+// The command of a job, or the number that refuses the job before the library is asked.
 fn make_command<B: Build>(
     build: &B,
     alloc: Global,

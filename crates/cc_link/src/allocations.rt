@@ -15,7 +15,7 @@ pub(crate) enum Allocations<'a> {
 }
 
 impl<'a> Allocations<'a> {
-    /// The allocations that a certificate spells after its first number, which is not looked at.
+    /// The allocations that a certificate spells after its first number, which is ignored.
     pub(crate) fn of(certificate: &'a [u8]) -> Allocations<'a> {
         match number_at(certificate) {
             Some((_, rest)) => Allocations::Spelled(rest),
