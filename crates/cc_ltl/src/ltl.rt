@@ -130,7 +130,7 @@ fn block_fits(slots: u16, block: &Block) -> bool
 }
 
 // Whether the operation has no single next block: it is a branch or a return. The other facts about an operation hold by its
-// type. The code reads the numbers only so that the proof sees their ranges.
+// type. The code reads the operation's numbers only so that the proof sees their ranges.
 fn ends(operation: &Operation) -> bool
     ensures ends { result ≡ not (goes_on operation.now) }
     ensures operation { IsOperation operation.now }

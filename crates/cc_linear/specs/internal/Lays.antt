@@ -84,7 +84,7 @@ Stands code end l block (Branch from taken other) = Branches code end l block fr
 Stands code end l block Return = Leaves code l block
 Stands code end l block _ = Straight code end l block
 
--- n has the same end as l, and is nearer to it
+-- n has the same end as l, and is nearer to that end
 abbrev pub Nearer : (end far : ℕ → ℕ) → ℕ → ℕ → Type 0
 Nearer end far l n = (end n ≡ end l) × (far n < far l)
 
