@@ -125,7 +125,7 @@ pub pointer_is : (sets_pointer : Bool) (before now : ℕ) → sets_pointer ≡ t
 pointer_is true before now e b = b
 pointer_is false before now e b = absurd (let q : false ≡ true = e in cc)
 
--- an address within reach
+-- an address within the reach of x3: in the first 4 KiB of the globals
 abbrev pub IsInReach : (address : ℕ) → Type 0
 IsInReach a = (globals_from ≤ a) × (a < globals_from + 4096)
 

@@ -9,9 +9,9 @@ use crate::location::MOST_SLOTS;
 use crate::operation::{Move, Operation};
 use std::marker::Model;
 
-/// A function: its number of slots, the label of its first block, and its blocks in ascending order of their labels. The values
-/// of this type are exactly the functions that bytes can spell: at most 495 slots, each slot below the function's number of
-/// slots, and no moves after a branch or a return. Contracts see these parts.
+/// A function: its number of slots, the label of the block at which it begins, and its blocks in ascending order of their
+/// labels. The values of this type are exactly the functions that bytes can spell: at most 495 slots, each slot below the
+/// function's number of slots, and no moves after a branch or a return. Contracts see these parts.
 pub struct Ltl {
     slots: u16,
     entry: u32,
@@ -68,7 +68,7 @@ impl Ltl {
         self.slots
     }
 
-    /// The label of the function's first block.
+    /// The label of the block at which the function begins.
     pub fn entry(&self) -> u32
         ensures { result ≡ self.now.entry }
     {
