@@ -120,7 +120,7 @@ pub record LeavesCompacted (old new : Core) : Type 0 where
   pub bytes : IsCommitted (rewrite_of old.store old.library) (bytes_of old.store.cells) (bytes_of new.store.cells)
   pub holds : HoldsRecords (bytes_of new.store.cells) new.store.area (compacted old.library)
 
--- a command put into the order has a spelling: its name and its unit are possible ones, as their types keep
+-- a command put into the order has a spelling: its name and its unit are possible ones, as their types guarantee
 abbrev pub PutsCommand : Core → Core → Type 0
 PutsCommand old new = (numbered : Numbered) → new.order ≡ old.order ++ numbered ∷ [] → IsCommand numbered.command
 
@@ -131,7 +131,7 @@ pub record IsOrderOf (bodies : List (List ℕ)) (order : List Numbered) (upcomin
   pub next : upcoming.value ≡ length order
 
 module _ {P : Type 0} where
-  -- a piece that a worker hands in keeps what its type keeps
+  -- a piece that a worker hands in has what its type keeps
   abbrev pub HandsIn : (P → Type 0) → Event P → Type 0
   HandsIn keeps event = (worker : WorkerId) (piece : P) → event ≡ events.Done worker piece → keeps piece
 
@@ -164,7 +164,7 @@ module _ {P : Type 0} where
     pub stand : StandFor bodies new.core.library
     pub used : new.core.store.used ≡ length (records bodies)
 
-  -- a fresh disk or an opened one
+  -- a run begins here: on a fresh disk, or on an opened one
   abbrev pub IsBeginning : Contents P → Type 0
   IsBeginning new = ((area : ℕ) × IsStart area new) ⊎ IsOpened new
 

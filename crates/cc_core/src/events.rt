@@ -328,7 +328,7 @@ fn put_in_order(
     Ok(())
 }
 
-// Whether a Begin may take its step. After a failed device step it may, and its command is refused.
+// Whether a Begin may take its step. After a failed device step it may, but its command is then refused.
 fn is_free(phase: &Phase) -> bool
     ensures { IsTrue result ↔ IsFree phase.now }
 {

@@ -1,4 +1,4 @@
-// The sources of the allocations of a unit's functions, in the order of definitions.
+// Where the allocations of a unit's functions come from, in the order of definitions.
 
 use crate::certificate::{first_ltl, number_at};
 use crate::watching::Allocation;

@@ -18,7 +18,7 @@ pub struct Ltl {
     blocks: Vec<Block>,
 }
 
-// Written by hand, so that crates above can call it and need not prove again how each part is dropped.
+// Written by hand, so that crates above can call this `drop` and need not prove again how each part is dropped.
 impl Drop for Ltl {
     fn drop(self) {
         let Ltl {
