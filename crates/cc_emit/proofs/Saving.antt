@@ -30,7 +30,7 @@ store_step code s o a b r i at e f to ok =
     step_at code s a (Store o b r i) e f ∙ ap (λ n. if is_accessible_above code.floor (store_bytes o) n then Continues (record s { pc = s.pc + 4; memory = stored o s.memory n (s.registers r) }) else Traps) to
     ∙ ap (λ t. if t then Continues (record s { pc = s.pc + 4; memory = stored o s.memory at (s.registers r) }) else Traps) ok
 
--- the memory after saving
+-- the memory after the registers of a list are saved
 abbrev pub with_saved : List ℕ → (a : ℕ) → (registers memory : ℕ → ℕ) → ℕ → ℕ
 with_saved [] a f m = m
 with_saved (r ∷ rs) a f m = with_saved rs (a + 4) f (with_word m a (f r))

@@ -42,7 +42,7 @@ test_head at (One (IfNonzero r n) ∷ steps) t e = refl
 test_head at (One (IfZero r n) ∷ steps) t e = refl
 test_head at (s ∷ steps) t e = none_some t e
 
--- a test is not a label
+-- a test is not a label, so no label's place changes without it
 test_place : (at : ℕ → Registers) (steps : List Step) (t : Test) (l : ℕ) → test_of steps ≡ Some t → place (behind (fused at steps)) l ≡ place (fused at steps) l
 test_place at [] t l e = refl
 test_place at (One (IfNonzero r n) ∷ steps) t l e = refl
