@@ -162,7 +162,7 @@ behind_step base sets_pointer (StoreNear width object index word from) k =
 behind_step base sets_pointer (Branch operator nonzero left right to) k = k
 behind_step base sets_pointer (BranchImmediate operator nonzero from word to) k = behind_word_branch (against_zero (word_recipe operator word) from) k
 
--- ---- the steps, each with how much of its address is known
+-- ---- the steps, each with how much is known of the address that it accesses
 
 abbrev pub with_known : (base : ℕ → ℕ) → (sets_pointer : Bool) → Scratch → Step → Addressed
 with_known base sets_pointer k step = record { step = step; known = remembered base sets_pointer k step }
