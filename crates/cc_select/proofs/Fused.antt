@@ -60,7 +60,7 @@ test_live at (One (IfZero a n) ∷ steps) t e =
     subst (λ (u : Test). (r : ℕ) → In (either (at u.to) (live at steps)) r → In (live at (One (IfZero a n) ∷ steps)) r) er (λ r i. in_more a r (either (at n) (live at steps)) i)
 test_live at (s ∷ steps) t e = none_some t e
 
--- the test leads where its register's word says
+-- the test leads to its label or to the next step, as its register's word says
 test_does : (arity : ℕ → ℕ) (code steps : List Step) (t : Test) (l : Locations) (h : World) (ws : List ℕ) → test_of steps ≡ Some t
     → does arity code steps l h ws ≡ Goes (at_steps (led t.nonzero (l (Register t.register)) (behind steps) (place code t.to)) l h ws)
 test_does arity code [] t l h ws e = none_some t e
