@@ -48,7 +48,7 @@ size_words s = words_of s.width s.elements
 abbrev pub words_in : (objects : List Size) → (number : ℕ) → ℕ
 words_in objects g = size_words (size_in objects g)
 
--- where each object lies, by its number: at a multiple of 4, and no word belongs to two objects
+-- where each object lies, by its number: among the globals, at a multiple of 4, and no word belongs to two objects
 pub record ObjectLayout (objects : List Size) : Type 0 where
   pub base : ℕ → ℕ
   pub from : (g : ℕ) → globals_from ≤ base g

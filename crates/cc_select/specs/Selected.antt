@@ -37,7 +37,7 @@ IsStep slots functions labels (Branch operator nonzero left right to) = (is_comp
 IsStep slots functions labels (BranchImmediate operator nonzero from word to) =
     (is_comparison (operator_of operator) ≡ true) × IsAllocatable from × IsWord word × (has_word operator word ≡ true) × Contains labels to
 
--- no label occurs twice
+-- there are few enough slots, no label occurs twice, and each step is a step of a function with these slots
 pub record IsSelected (slots functions : ℕ) (steps : List Step) : Type 0 where
   pub few : slots ≤ most_slots
   pub distinct : AllPairs (λ (a b : ℕ). a ≢ b) (labels steps)

@@ -99,7 +99,7 @@ pub record IsPassed (end far : ℕ → ℕ) (l : ℕ) (block : Block) : Type 0 w
   pub after : block.after ≡ []
   pub passes : Passes end far l block.operation
 
--- `end` is the label at which each label's chain of empty blocks ends, and `far` is how far away that end is
+-- `code` lays out the blocks; `end` is the label at which each label's chain of empty blocks ends, and `far` is how far away it is
 pub record Lays (ltl : Ltl) (code : List LinearItem) (end far : ℕ → ℕ) (most : ℕ) : Type 0 where
   pub low : (l : ℕ) → far l ≤ most
   pub entry : GoesOnAt code code (end ltl.entry)
