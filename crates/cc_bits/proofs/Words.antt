@@ -86,7 +86,7 @@ module _ (w from to k word : ℕ) (old mid new : List ℕ) (h : k < w) (is : wor
     | inl lt ↦ made r c lt ∙ settled r c lt (k == c / 64) refl
   ]
 
--- a word without bits need not be moved
+-- a word without set bits need not be moved
 pub word_stays : (w from to k : ℕ) (words : List ℕ) → k < w → 0 ≡ get_or words (w * from + k) 0
     → (r c : ℕ) → (nat_lt c (64 * w) && holds words (key w r c)) ≡ (if k == c / 64 then row_moved from to (λ i j. nat_lt j (64 * w) && holds words (key w i j)) r c else (nat_lt c (64 * w) && holds words (key w r c)))
 word_stays w from to k words h none = word_moved w from to k 0 words words words h none takes puts

@@ -44,7 +44,7 @@ impl BitRows {
         }
     }
 
-    /// The number of rows for which there may be words: from this row on, no bit is set.
+    /// The number of rows for which there may be words: no bit is set in the row with this number, nor in any later row.
     pub fn rows(&self) -> usize
         ensures few { result ≤ most_rows }
         ensures past { (r c : ℕ) → result ≤ r → has self.now r c ≡ false }

@@ -204,7 +204,7 @@ IsWhole (Rewriting commit due) = Unit {0}
 IsWhole (Failed failed) = ⊥
 IsWhole Crashed = ⊥
 
--- in such a phase each image recovers to a right library, if the order's library is right
+-- in a phase in which the disk holds the whole order, each image recovers to a right library, if the order's library is right
 pub each_right : (is_right : StoredUnit → Type 0) (phase : Phase) (store : StoreState) (order acknowledged : List Numbered) → IsWhole phase → IsKept phase store order acknowledged
     → EachUnit is_right (library_of (commands order)) → (image : List ℕ) (library : Units) → IsImage store.cells image → Recovers image library → EachUnit is_right library
 each_right is_right Idle store order acknowledged w k each image library now =

@@ -1,6 +1,6 @@
--- What holds for the contents after any events. One record states it, and each step keeps it, so a whole run does. Besides the
--- order and the jobs, this record says, by phase, what the disk's images hold. A device step leads from one point of the commit
--- to the next, a crash leaves one of the images, and a recovery reads that image.
+-- What holds for the contents after any events. One record states it; each step keeps this record true, so a whole run keeps it
+-- true. Besides the order and the jobs, this record says, by phase, what the disk's images hold. A device step leads from one
+-- point of the commit to the next, a crash leaves one of the images, and a recovery reads that image.
 use Rattle.std.proofs.Common.{◌≡◌, ◌⊎◌, inl, inr, ℕ, zero, suc, ◌+◌, ◌*◌, ◌<◌, ◌≤◌, ◌^◌, List, [], ◌∷◌, ◌++◌, length, take, drop, Option, Some, None, Result, Ok, Err, refl, sym, ap, subst, ◌∙◌, arith, All, Contains}
 use Rattle.std.specs.Prelude.{IsOk, slice_get, replicate}
 use Rattle.std.specs.Ordering.{nat_cmp}

@@ -118,7 +118,7 @@ module _ {P : Type 0} (rules : Rules P) (keeps : P → Type 0) where
       made_at q ps rest zero p is = let same : q ≡ p = cc in ap (λ x. Some (Made x)) same
       made_at q ps rest (suc k) p is = rest k p is
 
-  -- so `has` holds for the source of a job and the unit that is built from its pieces
+  -- if all pieces of a job have been answered, `has` holds for the job's source and the unit that is built from the pieces
   built_has : (has : List ℕ → StoredUnit → Type 0) → Gives has → (job : Job P) (source : List ℕ) (unit : StoredUnit)
       → IsNamed job → source_in job.request ≡ Some source → IsTrue (all_there job.pieces) → built rules job source ≡ Ok unit → has source unit
   built_has has law job source unit named from there is =

@@ -7,7 +7,7 @@ use Rattle.cc_core.specs.declared.fault.BuildRefusal.TheVariants as build
 use Rattle.cc_core.specs.declared.fault.Refusal.{Refusal}
 use Rattle.cc_core.specs.declared.fault.Refusal.TheVariants as refusal
 
--- the number of the fault with which an event takes no step
+-- the number of the fault that says why an event takes no step
 abbrev pub fault_number : CoreFault → ℕ
 fault_number core_fault.NotNow = 29
 fault_number core_fault.OutOfMemory = 40

@@ -27,7 +27,7 @@ source_in (command.Add name source) = Some source
 source_in (command.Replace name source) = Some source
 source_in (command.Withdraw name) = None
 
--- a refusal, if there is one; else what comes next
+-- the refusal, if there is one; else the next result
 abbrev pub unless : {A E : Type 0} → Option E → Result A E → Result A E
 unless None next = next
 unless (Some refusal) next = Err refusal

@@ -6,7 +6,8 @@ use Rattle.cc_library.specs.declared.command.Change.TheVariants as command
 
 -- the rules of a build whose pieces have the type P
 pub record Rules (P : Type 0) : Type 1 where
-  -- a source has this many pieces, or is refused with this number; each source has such an answer
+  -- a source has this many pieces, or is refused with this number; `Build` requires that each source has such a
+  -- plan
   pub plan : List ℕ → Result ℕ ℕ → Type 0
   -- the source that a piece names
   pub source_of : P → List ℕ

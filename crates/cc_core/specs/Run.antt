@@ -57,8 +57,8 @@ live (Failed None) order = library_of (commands order)
 live Crashed order = empty
 
 -- The image recovers to the library of a prefix of the order, and to no other. The prefix has every acknowledged command, and lacks at
--- most the last command of the order. The sequence numbers of both lists ascend, so a command that was acknowledged twice occurs twice in
--- the prefix.
+-- most the last command of the order. The sequence numbers of the order and of the acknowledged commands ascend, so equal commands that
+-- were both acknowledged are both in the prefix.
 pub record Survives (image : List ℕ) (order acknowledged : List Numbered) : Type 0 where
   pub rising : AreRising order
   pub rising_acked : AreRising acknowledged
@@ -120,7 +120,7 @@ pub record LeavesCompacted (old new : Core) : Type 0 where
   pub bytes : IsCommitted (rewrite_of old.store old.library) (bytes_of old.store.cells) (bytes_of new.store.cells)
   pub holds : HoldsRecords (bytes_of new.store.cells) new.store.area (compacted old.library)
 
--- a command put into the order has a spelling: its name and its unit are possible ones, as their types keep
+-- a command put into the order has a spelling: its name and its unit are possible ones, as their types guarantee
 abbrev pub PutsCommand : Core → Core → Type 0
 PutsCommand old new = (numbered : Numbered) → new.order ≡ old.order ++ numbered ∷ [] → IsCommand numbered.command
 
@@ -131,7 +131,7 @@ pub record IsOrderOf (bodies : List (List ℕ)) (order : List Numbered) (upcomin
   pub next : upcoming.value ≡ length order
 
 module _ {P : Type 0} where
-  -- a piece that a worker hands in keeps what its type keeps
+  -- a piece that a worker hands in has what its type keeps
   abbrev pub HandsIn : (P → Type 0) → Event P → Type 0
   HandsIn keeps event = (worker : WorkerId) (piece : P) → event ≡ events.Done worker piece → keeps piece
 
@@ -146,8 +146,8 @@ module _ {P : Type 0} where
   Run rules keeps old (event ∷ later) new = (mid : Contents P) × (Turn rules keeps old event mid × Run rules keeps mid later new)
 
   -- A disk of any size was opened, with either area in use. Everything is settled, and the records of the area in use represent the live
-  -- map. The order is some earlier commands that lead to this map, all of them acknowledged. Nothing is required of the units that were
-  -- found.
+  -- map. The order consists of some earlier commands that lead to this map, all of them acknowledged. Nothing is required of the units
+  -- that were found.
   pub record IsOpened (new : Contents P) : Type 0 where
     pub phase : new.core.phase ≡ Idle
     pub library : new.core.library ≡ library_of (commands new.core.order)
@@ -164,11 +164,11 @@ module _ {P : Type 0} where
     pub stand : StandFor bodies new.core.library
     pub used : new.core.store.used ≡ length (records bodies)
 
-  -- a fresh disk or an opened one
+  -- a run begins here: on a fresh disk, or on an opened one
   abbrev pub IsBeginning : Contents P → Type 0
   IsBeginning new = ((area : ℕ) × IsStart area new) ⊎ IsOpened new
 
-  -- any piece at all; with this as what pieces keep, workers may hand in whatever they like
+  -- this holds for any piece; if it is all that pieces keep, workers may hand in whatever they like
   abbrev pub IsAnyPiece : P → Type 0
   IsAnyPiece piece = Unit {0}
 

@@ -67,11 +67,11 @@ pub record IsLongest (library : Units) (order kept : List Numbered) : Type 0 whe
 
 -- ---- the commit, in the core only
 
--- one more Begin took a step
+-- the core once one more Begin has taken its step
 abbrev pub ticked : Core → Core
 ticked old = record old { upcoming = record { value = old.upcoming.value + 1 } }
 
--- a command is named by the sequence number of its Begin
+-- the command with the sequence number of the Begin that takes its step now
 abbrev pub numbered_now : Core → LibraryCommand → Numbered
 numbered_now old command = record { number = old.upcoming; command = command }
 
@@ -232,7 +232,7 @@ module _ {P : Type 0} where
       workers = remove old.workers worker.number;
     }
 
-  -- the jobs after a Begin: if the job was refused, it ends
+  -- the jobs after a Begin: a refused job has ended
   abbrev pub jobs_begun : FinMap nat_cmp (Job P) → ClientId → Result LibraryCommand Refusal → FinMap nat_cmp (Job P)
   jobs_begun jobs client (Ok command) = jobs
   jobs_begun jobs client (Err refused) = remove jobs client.number

@@ -41,15 +41,15 @@ with_cells store cells = record store { cells = cells }
 
 -- ---- the steps of a journal's commit
 
--- the first write of a commit: its bytes, from its offset on
+-- the disk after the first write of a commit: its bytes, written at its offset
 abbrev pub first_written : Commit → StoreState → StoreState
 first_written commit store = with_cells store (written store.cells commit.offset commit.bytes)
 
--- the second write of a commit: the byte that decides
+-- the disk after the second write of a commit: that of the deciding byte
 abbrev pub decided : Commit → StoreState → StoreState
 decided commit store = with_cells store (written store.cells commit.deciding_offset (commit.deciding_byte ∷ []))
 
--- a sync settles every byte
+-- the disk after a sync, which settles every byte
 abbrev pub settled_all : StoreState → StoreState
 settled_all store = with_cells store (synced store.cells)
 

@@ -26,7 +26,7 @@ pub enum Due {
     Acknowledge,
 }
 
-/// What comes next in a rewrite after its first write: one of the three other device steps.
+/// What comes next in a rewrite after its first write: one of the other three device steps.
 #[derive(Drop)]
 pub enum RewriteDue {
     /// The sync that settles the new area.

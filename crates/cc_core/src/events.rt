@@ -214,7 +214,7 @@ fn build_unit<B: Build>(
     Ok(SharedUnit::new(unit))
 }
 
-// The command of a job, or the number that refuses it before the library is asked.
+// The command of a job, or the number that refuses the job before the library is asked.
 fn make_command<B: Build>(
     build: &B,
     alloc: Global,
@@ -328,7 +328,7 @@ fn put_in_order(
     Ok(())
 }
 
-// Whether a Begin may take its step. After a failed device step it may, and its command is refused.
+// Whether a Begin may take its step. After a failed device step it may, but its command is then refused.
 fn is_free(phase: &Phase) -> bool
     ensures { IsTrue result ↔ IsFree phase.now }
 {

@@ -89,8 +89,8 @@ fn again(alloc: Global, order: &[Numbered]) -> Result<Sequence<Numbered>, AllocE
     Ok(copy)
 }
 
-// The commands that these records spell, numbered from 0 on; a copy of them, as the acknowledged ones; and the number after their last. If
-// each record spells a command, the only refusal is out of memory.
+// The commands that these records spell, numbered from 0 on; a copy of them, as the acknowledged ones; and the number after that of the
+// last. If each record spells a command, the only refusal is out of memory.
 fn read_order(
     alloc: Global,
     bodies: &[Body],

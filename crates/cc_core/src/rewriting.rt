@@ -13,7 +13,7 @@ use crate::events::Answer;
 use crate::fault::CoreFault;
 use std::alloc::Global;
 
-// Makes the first write: one Add per name, and a closed gate after them, to the area that is not in use. These records always
+// Makes the first write, to the area that is not in use: one Add per name, and a closed gate after them. These records always
 // fit, since they never take more room than those that represent the map now.
 pub(crate) fn rewrite_all(alloc: Global, core: &mut Core) -> Answer
     requires { IsReady core.old }

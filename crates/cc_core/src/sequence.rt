@@ -1,4 +1,4 @@
-// A list that contracts see as a list.
+// A list of values in a `Vec`; contracts see only the values.
 
 ghost use Rattle.std.specs.Prelude.{◌≡◌, ◌<◌, ◌++◌, ◌∷◌, [], List, length, slice_set, slice_get, take, ◌-◌, OnOk, OnErr};
 ghost use Rattle.std.specs.Option.{option_copied};
@@ -6,7 +6,8 @@ ghost use Rattle.std.specs.Option.{option_copied};
 use std::alloc::AllocError;
 use std::marker::Model;
 
-/// A list of values, which contracts see as a list. It is made from a `Vec`, and can be turned back into one.
+/// A list of values. Contracts see the values in order. It is made from a `Vec`, and can be turned back into
+/// one.
 #[derive(Drop)]
 pub struct Sequence<T> {
     items: Vec<T>,

@@ -40,7 +40,7 @@ pub struct State<B: Build> {
     contents: Contents<B::Piece>,
 }
 
-// Written by hand, so that crates that use this one can call it and need not prove again how each part is dropped.
+// Written by hand, so that crates that use this one can call this `drop` and need not prove again how each part is dropped.
 impl<B: Build> Drop for State<B> {
     fn drop(self) {
         let State { build, contents } = self;

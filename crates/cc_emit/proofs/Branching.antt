@@ -26,7 +26,7 @@ use Rattle.cc_emit.specs.Emission.{first_instr}
 use Rattle.cc_emit.proofs.Basics.{eqb_says}
 use Rattle.cc_emit.proofs.Recipes.{IsRightWord, next_s, not_zero}
 
--- a condition holds for the registers' words exactly if a word is not 0
+-- a condition holds for the words of its registers exactly if the word `v` is not 0
 abbrev pub Tells : Condition → (registers : ℕ → ℕ) → (v : ℕ) → Type 0
 Tells c g v = is_taken c.operation (g c.left) (g c.right) ≡ not (v == 0)
 

@@ -1,6 +1,6 @@
 -- The machine's memory element by element. The machine keeps a word at each multiple of 4, and a byte is a part of one. So each fact
--- follows from the fact about words. For bytes it also needs a fact about the parts of a word, for each of the four places of a byte in a
--- word.
+-- follows from the fact about words. For bytes each fact also needs one about the parts of a word, for each of the four places of a byte
+-- in a word.
 use Rattle.std.proofs.Common.{◌≡◌, ℕ, zero, suc, ◌+◌, ◌-◌, ◌*◌, ◌/◌, ◌%◌, ◌^◌, ◌<◌, ◌≤◌, ◌⊎◌, true, refl, sym, ap, ◌∙◌, inl, inr, arith}
 use Rattle.std.proofs.lemmas.Bool.Decides.{eqb_tells, nat_tests}
 use Rattle.cc_words.specs.declared.operators.Width.{Width}

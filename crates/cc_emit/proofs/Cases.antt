@@ -1,4 +1,4 @@
--- What the items of an item of Linear do.
+-- What the emitted items of an item of Linear do.
 use Rattle.std.proofs.Common.{◌≡◌, ℕ, suc, ◌+◌, ◌-◌, ◌*◌, ◌%◌, ◌^◌, ◌<◌, ◌≤◌, ◌⊎◌, List, [], ◌∷◌, ◌++◌, Option, Some, None, true, false, Bool, refl, sym, ap, ap₂, ◌∙◌, subst, inl, inr, arith}
 use Rattle.std.specs.Prelude.{◌==◌, if◌then◌else◌, not, option_map}
 use Rattle.cc_words.specs.Words.{add, lt_u}
@@ -375,7 +375,7 @@ before ElementByPointer w = 0
 before known Byte = upper_before known + 1
 before known Word = upper_before known + 2
 
--- ---- what is known after those instructions
+-- ---- what is known after the instructions that compute an element's address
 
 uppered_same : (known : Remembered) (s : State) (b r : ℕ) → (r ≡ 6 → ⊥) → (uppered known s b).registers r ≡ s.registers r
 uppered_same Nothing s b r n = set_other s.registers 6 (high b * 2 ^ 12) r n
@@ -384,7 +384,7 @@ uppered_same Element s b r n = refl
 uppered_same ByPointer s b r n = refl
 uppered_same ElementByPointer s b r n = refl
 
--- the register from which an address is reached then holds the address's base
+-- once x6 is set as needed, the register from which an address is reached holds the address's base
 pub base_held : (known : Remembered) (s : State) (b : ℕ) → IsKnownAt known b s.registers → (uppered known s b).registers (base_register known) ≡ sum_base known b
 base_held Nothing s b known = set_same s.registers 6 (high b * 2 ^ 12) (omega arith)
 base_held Upper s b known = known
@@ -402,7 +402,7 @@ within_upper x Element l h s b known w = absurd known
 within_upper x ByPointer l h s b known w = within_as x _ l h s (record { upper = w.holds.upper; address = w.holds.address }) w
 within_upper x ElementByPointer l h s b known w = absurd known
 
--- then x5 becomes the sum of a base and a distance in bytes
+-- once x5 has become the sum of a base and a distance in bytes, that sum is known
 within_added : (x : Site) {held : Scratch} (l : Locations) (h : World) (s : State) (width : Width) (q r i o : ℕ) → add (s.registers r) (s.registers q) ≡ (bytes width * s.registers i + o) % 2 ^ 32 → IsAllocatable i → Within x held l h s
     → Within x (record { upper = held.upper; address = Some (address_of width i o) }) l h (added s q r)
 within_added x {held} l h s width q r i o sum ui w =

@@ -8,7 +8,7 @@ use Rattle.std.proofs.lemmas.List.{at_drop_more, drop_more, drop_all, get_or-set
 use Rattle.cc_select.specs.declared.step.Step.{Step}
 use Rattle.cc_emit.specs.Frames.{writes, is_written, written, saved_by, kept_registers}
 
--- what is saved so far, and which of the remaining registers will be saved
+-- the registers saved so far, followed by those of the rest that the steps write, are all that are saved
 abbrev pub Chosen : List Step → (index : ℕ) → List ℕ → Type 0
 Chosen code i saved = (saved ++ written code (drop i kept_registers) ≡ saved_by code) × (length saved ≤ i + 1) × AllByRecursion (λ r. r < 32) saved
 

@@ -81,7 +81,7 @@ size_found objects h e g = ap (λ (o : List Size). size_in o g) (sym e) ∙ foun
     found_at (o ∷ os) zero = refl
     found_at (o ∷ os) (suc g) = found_at os g
 
--- steps with what is known about their addresses, if the scratch registers hold `held` before them
+-- steps, each with what is known about the address that it accesses, if the scratch registers hold `held` before them
 abbrev pub addressed_at : Site → Scratch → List Step → List Addressed
 addressed_at x held ops = addressed x.layout.base x.frame.sets_pointer held ops
 
@@ -204,7 +204,7 @@ step_at code s a i e f = ap (λ b. executed_above code.floor (code.at b) s) e �
 pub arrives : (p q : ℕ) → IsPlace p → IsPlace q → (p + (q + (2 ^ 32 - p)) % 2 ^ 32) % 2 ^ 32 ≡ q
 arrives p q from to = let x = from.to in let y = to.to in omega arith
 
--- a jump from one place to another
+-- a jump takes the machine from one place to another
 pub jump_step : (code : Code) (s : State) (p q : ℕ) → s.pc ≡ p → IsPlace p → IsPlace q → code.at p ≡ Some (Jal 0 ((q + (2 ^ 32 - p)) % 2 ^ 32)) → machine_step code s ≡ Continues (record s { pc = q })
 jump_step code s p q e from to f =
     let i = (q + (2 ^ 32 - p)) % 2 ^ 32 in

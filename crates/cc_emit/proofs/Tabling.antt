@@ -149,7 +149,7 @@ rest_more code at item le (pos, is) =
 pub is_label_at : (code : List Addressed) (at : ℕ) (item : Addressed) (n : ℕ) (k : Remembered) → item ≡ get_or code at item → item ≡ labelled k n → labelled k n ≡ get_or code at (labelled k n)
 is_label_at code at item n k is e = subst (λ x. x ≡ get_or code at x) e is
 
--- the table covers one item more
+-- the table covers one more item
 filled_more : (f : Frame) (first : List ℕ) (code : List Addressed) (count at here all here' all' : ℕ) (item : Addressed) (table table' : List ℕ) → Filled f first code count at here all table → At code at item
     → here' ≡ here + long_size f item → all' ≡ all + size f (near_behind first here') item → long_size f item ≤ 15 → size f (near_behind first here') item ≤ 15
     → (here' ≡ long_behind f (item ∷ drop at code) → all' ≡ behind f first (item ∷ drop at code) → IsTable f first (item ∷ drop at code) count table') → Filled f first code count (at - 1) here' all' table'

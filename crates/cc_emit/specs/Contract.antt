@@ -48,7 +48,7 @@ size_words s = words_of s.width s.elements
 abbrev pub words_in : (objects : List Size) → (number : ℕ) → ℕ
 words_in objects g = size_words (size_in objects g)
 
--- where each object lies, by its number: at a multiple of 4, and no word belongs to two objects
+-- where each object lies, by its number: among the globals, at a multiple of 4, and no word belongs to two objects
 pub record ObjectLayout (objects : List Size) : Type 0 where
   pub base : ℕ → ℕ
   pub from : (g : ℕ) → globals_from ≤ base g
@@ -116,7 +116,7 @@ abbrev pub most_open : ℕ
 most_open = 1024
 
 -- A call of the function f has enough bytes: those of its frame, and for each call that its items make, those of its frame and of the
--- called function. So `need` may be exact or more; for example `largest_frame` for each call that the limit still allows.
+-- called function. So `need` may be exact or larger; for example `largest_frame` for each call that the limit still allows.
 pub record IsEnough (need : (function opened : ℕ) → ℕ) (f frame : ℕ) (items : List PieceItem) : Type 0 where
   pub own : (opened : ℕ) → opened < most_open → frame ≤ need f opened
   pub calls : (opened : ℕ) → opened < most_open → EachCalled (λ g. frame + need g (suc opened) ≤ need f opened) items
@@ -165,7 +165,7 @@ abbrev pub CallsMeet : (meaning : Meaning) → ObjectLayout meaning.objects → 
 CallsMeet meaning layout code places c opened =
     (g : ℕ) (ws : List ℕ) (h : World) (s : State) (n : ℕ) → g < meaning.functions → Enters meaning layout code g opened (places g) ws h s → Meets layout code c c n s (meaning.call n opened g ws h)
 
--- an address at which code can be: a multiple of a word, within the bytes that the memory map has for code
+-- an address at which code can be: a multiple of 4, within the bytes that the memory map has for code
 pub record IsPlace (a : ℕ) : Type 0 where
   pub aligned : a % 4 ≡ 0
   pub from : 0x10000 ≤ a

@@ -185,8 +185,8 @@ branch_items near c place to =
     if near then Plain (instr.Branch c.operation c.left c.right (distance place to)) ∷ []
     else Plain (instr.Branch (opposite c.operation) c.left c.right 8) ∷ Go to ∷ []
 
--- the items of one item of Linear at a place; `known` is how much of its address the registers hold, `base` has the objects' addresses,
--- `labels` the labels' places, and `near` says whether a branch from here to a label is near
+-- the items of one item of Linear at a place; `known` is how much the registers hold of the address that it accesses, `base` has the
+-- objects' addresses, `labels` the labels' places, and `near` says whether a branch from here to a label is near
 abbrev pub items_of_one : (base : ℕ → ℕ) → Frame → (near : ℕ → Bool) → (labels : ℕ → ℕ) → (place : ℕ) → Remembered → LinearItem → List PieceItem
 items_of_one base f near labels place known (Label label) = []
 items_of_one base f near labels place known (Jump to) = Go (labels to) ∷ []
@@ -232,7 +232,7 @@ word_recipe immediates.GtU w = OnZero operation.Sltu
 word_recipe immediates.GeS w = ZeroOfImmediate Slti (low w)
 word_recipe immediates.GeU w = ZeroOfImmediate Sltiu (low w)
 
--- the first instruction of a recipe, with its result in a register
+-- the first instruction of a recipe, with its result in register `to`
 abbrev pub first_instr : WordRecipe → (to from : ℕ) → Instr
 first_instr (WithImmediate o n) to a = instr.OpImm o to a n
 first_instr (ShiftBy o n) to a = instr.Shift o to a n
@@ -261,8 +261,8 @@ load_at known width to address = upper_items known address ++ load_element width
 abbrev pub store_at : Remembered → Width → (from address : ℕ) → List PieceItem
 store_at known width from address = upper_items known address ++ store_element width (base_register known) from (part_of known address) ∷ []
 
--- the items of a step at a place; `known` is how much of its address the registers hold; a nearby element is treated as an element of an
--- object that begins `word` elements further on
+-- the items of a step at a place; `known` is how much the registers hold of the address that it accesses; a nearby element is treated as
+-- an element of an object that begins `word` elements further on
 abbrev pub items_of_step : (base : ℕ → ℕ) → Frame → (near : ℕ → Bool) → (labels : ℕ → ℕ) → (place : ℕ) → Remembered → Step → List PieceItem
 items_of_step base f near labels place known (One item) = items_of_one base f near labels place known item
 items_of_step base f near labels place known (Immediate operator to from word) = word_recipe_items (word_recipe operator word) to from

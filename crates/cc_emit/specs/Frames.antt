@@ -42,7 +42,7 @@ abbrev pub is_written : List Step → (register : ℕ) → Bool
 is_written [] r = false
 is_written (step ∷ steps) r = writes r step || is_written steps r
 
--- the registers of a list that the steps write
+-- those registers of a list that the steps write
 abbrev pub written : List Step → List ℕ → List ℕ
 written steps [] = []
 written steps (r ∷ rs) = if is_written steps r then r ∷ written steps rs else written steps rs

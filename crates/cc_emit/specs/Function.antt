@@ -1,4 +1,5 @@
--- The code of a whole function: its steps in their frame, each with how much of its address is known.
+-- The code of a whole function: its steps in their frame, each with how much is known of the address that it
+-- accesses.
 use Rattle.std.specs.Prelude.{ℕ, ◌+◌, Bool, false, Option, Some, None, List, ◌++◌, length, map}
 use Rattle.cc_c_semantics.specs.Numbered.{objects_in}
 use Rattle.cc_select.specs.Pair as above

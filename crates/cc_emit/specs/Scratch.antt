@@ -118,7 +118,7 @@ upper_behind Nothing upper a = Some (high a)
 upper_behind Upper upper a = Some (high a)
 upper_behind known upper a = upper
 
--- what x5 holds minus the element's distance in bytes from the first element
+-- what x5 holds after an access, minus the element's distance in bytes from the first element
 abbrev pub sum_base : Remembered → (base : ℕ) → ℕ
 sum_base ByPointer base = global_pointer
 sum_base ElementByPointer base = global_pointer
@@ -162,7 +162,7 @@ behind_step base sets_pointer (StoreNear width object index word from) k =
 behind_step base sets_pointer (Branch operator nonzero left right to) k = k
 behind_step base sets_pointer (BranchImmediate operator nonzero from word to) k = behind_word_branch (against_zero (word_recipe operator word) from) k
 
--- ---- the steps, each with how much of its address is known
+-- ---- the steps, each with how much is known of the address that it accesses
 
 abbrev pub with_known : (base : ℕ → ℕ) → (sets_pointer : Bool) → Scratch → Step → Addressed
 with_known base sets_pointer k step = record { step = step; known = remembered base sets_pointer k step }
@@ -214,7 +214,7 @@ loop_weight = 8
 abbrev pub weight : (labels : List ℕ) → List Step → ℕ
 weight labels steps = if lead_back labels steps then loop_weight else 1
 
--- the labels up to and including a step
+-- the labels so far, and the step's own label if it is one
 abbrev pub labels_past : Option ℕ → List ℕ → List ℕ
 labels_past None labels = labels
 labels_past (Some label) labels = label ∷ labels

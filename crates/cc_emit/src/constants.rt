@@ -1,4 +1,5 @@
-// Constants: one instruction if the word has at most twelve bits or ends in twelve zeros, else two.
+// Constants: one instruction if the word fits in twelve bits, sign-extended, or ends in twelve zero bits,
+// else two.
 
 ghost use Rattle.std.specs.Prelude.{◌≡◌, ◌≤◌, ◌<◌, ◌++◌, OnOk};
 ghost use Rattle.cc_emit.specs.Emission.{const_items, const_size};

@@ -69,7 +69,7 @@ fn is_light(step: &Step) -> bool
     }
 }
 
-// The step reversed, and the label to which it leads, if it is a test.
+// If the step is a test: the reversed test, and the label to which the step leads.
 fn fork_of(step: &Step) -> Option<Fork>
     ensures { result ≡ fork_of step.now }
 {
@@ -181,7 +181,7 @@ fn ending(code: &[Step], label: u32) -> Option<Option<Step>>
     }
 }
 
-// The number of light steps at the beginning.
+// The number of light steps with which the code begins.
 fn light_count(code: &[Step]) -> usize
     ensures within { result ≤ length code.now }
     ensures light { (all : List Shown) → early_from all code.now ≡ option_map (with_before (take result code.now)) (early_test all (drop result code.now)) }

@@ -218,7 +218,7 @@ fn put_service(items: &mut Vec<PieceItem>, number: u32) -> Result<(), AllocError
     put(items, serve())
 }
 
-// Emits the items of one item of Linear. `known` is how much of the address that the item accesses the registers hold, `here` the number of
+// Emits the items of one item of Linear. `known` is how much the registers hold of the address that the item accesses, `here` the number of
 // items from this one to the end, with each branch in its long form; `bases` has the objects' addresses.
 fn put_items_of_one(
     items: &mut Vec<PieceItem>,
@@ -289,7 +289,7 @@ fn put_items_of_one(
     }
 }
 
-// Emits the items of a step. `known` is how much of the address that the step accesses the registers hold, `here` the number of items from
+// Emits the items of a step. `known` is how much the registers hold of the address that the step accesses, `here` the number of items from
 // the step to the end, with each branch in its long form; `bases` has the objects' addresses.
 fn put_items_of(
     items: &mut Vec<PieceItem>,

@@ -14,9 +14,9 @@ use std::sync::Arc;
 /// At most this many steps are emitted. No memory holds more.
 const MOST_STEPS: usize = 1 << 55;
 
-/// Makes the items of the code of a unit's function: those that `specs/Function.antt` defines, at most 15 for each step. The answer's
-/// type keeps the fact that these items make the machine do what the function does. The answer also has the LTL, and the size of the
-/// frame in bytes.
+/// Makes the items of the code of a unit's function: those that `specs/Function.antt` defines, at most 15 for each step, and at most
+/// 16 in the prologue. The answer's type keeps the fact that these items make the machine do what the function does. The answer also
+/// has the LTL, and the size of the frame in bytes.
 ///
 /// This fails only if memory runs out (40); the pair is then lost.
 pub fn emit(alloc: Global, pair: SelectedPair) -> Result<Piece, AllocError>

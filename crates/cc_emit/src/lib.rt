@@ -6,8 +6,9 @@
 //!
 //! `emitting` is the pass. It uses `bases` for the objects' addresses, `frame` for the saved registers and their places, `loops` for the
 //! steps that are in loops, `scratch` for whether `x3` is set and for what the scratch registers hold before each step (`addressed` has
-//! such steps), `early` for what comes before the frame, and `tables` for the places of labels and for which branches are near. `emission`
-//! emits the items of each step, with the help of `constants`, `recipe`, `operators`, `condition`, `branches` and `instructions`.
+//! the type of a step with this knowledge), `early` for what comes before the frame, and `tables` for the places of labels and for which
+//! branches are near. `emission` emits the items of each step, with the help of `constants`, `recipe`, `operators`, `condition`,
+//! `branches` and `instructions`.
 #![tactic(auto)]
 
 mod addressed;

@@ -64,8 +64,8 @@ fn later(a: usize, b: usize) -> usize
     if a < b { b } else { a }
 }
 
-/// The number of steps up to the last one that leads back to one of the labels so far, `step` included; `reach` is this number for the
-/// labels before `step`.
+/// The number of steps up to the last one that leads back to one of the labels up to and including `step`; `reach` is this number for
+/// the labels before `step`.
 pub(crate) fn reach_past(last: &[usize], reach: usize, step: &Step) -> usize
     ensures { result ≡ reach_past last.now (label_of_step step.now) reach }
 {

@@ -27,7 +27,7 @@ pub struct Piece {
     items: Vec<PieceItem>,
 }
 
-// This is written by hand, so that crates above call it instead of proving again how each part is dropped.
+// Written by hand, so that crates above call this `drop` instead of proving again how each part is dropped.
 impl Drop for Piece {
     fn drop(self) {
         let Piece {

@@ -132,7 +132,7 @@ impl WordRecipe {
         }
     }
 
-    /// The recipe's first instruction, with its result in a register.
+    /// The recipe's first instruction, with its result in register `to`.
     pub(crate) fn first(self, to: u8, from: u8) -> Instr
         requires room { HasRoom self }
         requires to { to < 32 }

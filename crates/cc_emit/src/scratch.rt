@@ -425,16 +425,17 @@ fn weight(in_loop: bool) -> usize
     if in_loop { LOOP_WEIGHT } else { 1 }
 }
 
-// The steps of a function, each with how much of its address the registers hold, and the number of instructions that their accesses need
-// together, each multiplied by its weight.
+// The steps of a function, each with how much the registers hold of the address that it accesses, and the number of instructions that their
+// accesses need together, each multiplied by its weight.
 #[derive(Drop)]
 struct Walked {
     steps: Vec<Addressed>,
     accesses: usize,
 }
 
-// The steps of a function, each with how much of its address the registers hold; `bases` has the objects' addresses, `sets_pointer` says
-// whether `x3` is the global pointer, `last` says which steps are in loops. Their accesses need at most 2^61 instructions.
+// The steps of a function, each with how much the registers hold of the address that it accesses; `bases` has the objects' addresses,
+// `sets_pointer` says whether `x3` is the global pointer, `last` says which steps are in loops. Their accesses need at most 2^61
+// instructions.
 fn walk(
     alloc: Global,
     bases: &Bases,
@@ -465,9 +466,9 @@ fn walk(
     Ok(Walked { steps, accesses })
 }
 
-/// The steps of a function, each with how much of its address the registers hold, and whether the function sets `x3` to the global pointer.
-/// The function sets `x3` if its accesses then need fewer instructions, including the two that set `x3`; accesses in loops count eight
-/// times. `bases` has the objects' addresses; the labels are below `count`.
+/// The steps of a function, each with how much the registers hold of the address that it accesses, and whether the function sets `x3` to
+/// the global pointer. The function sets `x3` if its accesses then need fewer instructions, including the two that set `x3`; accesses in
+/// loops count eight times. `bases` has the objects' addresses; the labels are below `count`.
 pub(crate) fn addressed(
     alloc: Global,
     bases: &Bases,

@@ -12,14 +12,14 @@ module _ {F : Type 0} (below : F → F → Type 0) (bottom : F) (lub : F → F �
   pub same_again : (x : F) → Equivalent below x x
   same_again x = (laws.reflexive x, laws.reflexive x)
 
-  -- the join with one more node
+  -- a join to which the facts of one more node are joined is the join with that node
   pub lub_more : (r x y s : F) → Equivalent below r (lub x s) → Equivalent below x y → Equivalent below r (lub s y)
   lub_more r x y s h e = (
     laws.transitive _ _ _ h.0 (laws.within x s (lub s y) (laws.transitive _ _ _ e.0 (laws.second s y)) (laws.first s y)),
     laws.within s y r (laws.transitive _ _ _ (laws.second x s) h.1) (laws.transitive _ _ _ e.1 (laws.transitive _ _ _ (laws.first x s) h.1)),
   )
 
-  -- the join of a single node
+  -- the join of a single node's facts is equivalent to these facts
   pub lub_alone : (x : F) → Equivalent below x (lub x bottom)
   lub_alone x = (laws.first x bottom, laws.within x bottom x (laws.reflexive x) (laws.least x))
 

@@ -34,7 +34,7 @@ pub trait Facts: Drop {
     // The order has a least value and least upper bounds.
     ghost laws: { IsLattice below bottom lub };
 
-    // No value rises more often than `height`.
+    // From the least value, no value rises more than `height` times.
     ghost bounded: { room bottom ≤ height };
 }
 

@@ -17,8 +17,8 @@ use std::sync::Arc;
 /// The build that compiles: a piece is the code of one function, and pieces are linked.
 ///
 /// A source is refused with the number of its fault, 1 to 7 or 11 to 21, as `typed_unit` answers. Pieces are refused as linking refuses
-/// them in the mode of the first piece: 28 if a piece is of another source or mode, 27 if a piece comes twice, 26 if a piece is missing,
-/// 25 if the image would be too large.
+/// them in the mode of the first piece: Stranger (28) if a piece is of another source or mode, Doubled (27) if a piece comes twice,
+/// Missing (26) if a piece is missing, ImageTooLarge (25) if the image would be too large.
 #[derive(Drop)]
 pub struct CcBuild {}
 

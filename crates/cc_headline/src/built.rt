@@ -8,7 +8,7 @@ use cc_syntax::trees_are_determined;
 use cc_tokens::tokens_are_determined;
 
 /// The pieces of a compiled unit, in the order of definitions, are all the pieces of its source, and they make up the unit. So a job
-/// with these pieces begins the commit of this unit.
+/// with these pieces can begin the commit of this unit.
 pub fn made_units_are_built()
     ensures { MadeUnitsAreBuilt }
 {

@@ -17,9 +17,9 @@ use cc_emit::Piece;
 use cc_link::linked_units_follow;
 use std::alloc::Global;
 
-/// Holds for every interleaving of clients, workers and committer, with crashes and failures of the disk at any point, starting from a
-/// fresh disk or from one that was opened with a library on it. Each command put into the order has a spelling, which the types of names
-/// and units guarantee.
+/// The clauses hold for every interleaving of clients, workers and committer, with crashes and failures of the disk at any point,
+/// starting from a fresh disk or from one that was opened with a library on it. Each command put into the order has a spelling, which
+/// the types of names and units guarantee.
 pub fn headline<B: Build>()
     // Whatever a crash leaves of the disk recovers to the library of a prefix of the commands, in the order of their commits. The prefix
     // has every acknowledged command and lacks at most the last one. This clause holds for any build, so also for the one that compiles,

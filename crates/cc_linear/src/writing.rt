@@ -1,4 +1,4 @@
-// The items of a block's parts. One call writes moves and the item after them, so that each caller names the moves too.
+// The items of a block's parts. One call writes moves and the item after them, so that no caller leaves the moves out.
 
 ghost use Rattle.std.specs.Prelude.{◌≡◌, ◌++◌, [], ◌∷◌, cond, OnOk};
 ghost use Rattle.cc_linear_language.specs.declared.item.LinearItem.TheVariants.{Jump};

@@ -51,7 +51,7 @@ pub place_added : (a i : ℕ) (bodies : List Lent) (d : Lent) (ps all : List ℕ
 place_added a i bodies d ps all lt h =
     append_assoc ps (a ∷ []) _ ∙ ap (λ l. ps ++ l) (sym (at_drop_more (λ (bs : List Lent). places_from a (lent bs)) bodies i d lt)) ∙ h
 
--- if all functions from number i on can be there, so can function i, and all those after it
+-- if all functions from number i on can be at their places, so can function i, and so can those after it
 pub stand_next : (functions a i : ℕ) (bodies : List Lent) (d : Lent) → i < length bodies → d ≡ get_or bodies i d → CanAllStand functions a (lent (drop i bodies)) → CanStand functions a d.now × CanAllStand functions (a + 4 * length d.now) (lent (drop (i + 1) bodies))
 stand_next functions a i bodies d lt is h =
     subst (λ (b : Lent). CanStand functions a b.now × CanAllStand functions (a + 4 * length b.now) (lent (drop (i + 1) bodies))) (sym is)

@@ -114,7 +114,7 @@ laid_out objects few = record {
 pub laid_in_order : (objects : List Size) (few : total objects ≤ 65536) → IsInOrder (laid_out objects few)
 laid_in_order objects few = λ g. refl
 
--- ---- what is there
+-- ---- the places of words and elements
 
 in_front : (xs ys : List ℕ) (i : ℕ) → i < length xs → get_or (xs ++ ys) i 0 ≡ get_or xs i 0
 in_front [] ys i lt = absurd (omega arith)

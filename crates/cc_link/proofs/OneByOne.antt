@@ -14,7 +14,7 @@ missing_here ps f n lt e =
     let more : n - f ≡ suc (n - (f + 1)) = omega (arith, lt) in
     ap (λ k. missing ps f k) more ∙ ap (λ (o : Option Piece). if is_some o then missing ps (suc f) (n - (f + 1)) else Some (Missing f)) e
 
--- if function f has a piece, the first function without a piece is looked for from the next one on
+-- if function f has a piece, the search for the first function without a piece goes on at the next function
 pub missing_next : (ps : List Piece) (f n : ℕ) (p : Piece) → f < n → piece_of ps f ≡ Some p → missing ps f (n - f) ≡ missing ps (f + 1) (n - (f + 1))
 missing_next ps f n p lt e =
     let more : n - f ≡ suc (n - (f + 1)) = omega (arith, lt) in

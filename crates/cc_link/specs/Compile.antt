@@ -62,7 +62,7 @@ pub record IsBlamedIn (mode : Mode) (text : List ℕ) (function : ℕ) (fault : 
   pub defined : function < length (functions tree)
   pub refused : IsPieceRefusalIn mode tree function fault
 
--- this function of the text has a piece in the mode, which has what its type and its unit's type keep
+-- this function of the text has a piece in the mode, with what the piece's type and its unit's type keep
 pub record HasPieceIn (mode : Mode) (text : List ℕ) (function : ℕ) : Type 0 where
   pub piece : emit.Piece
   pub compiled : IsCompiled piece

@@ -1,4 +1,4 @@
-// The sources of the allocations of a unit's functions, in the order of definitions.
+// Where the allocations of a unit's functions come from, in the order of definitions.
 
 use crate::certificate::{first_ltl, number_at};
 use crate::watching::Allocation;
@@ -15,7 +15,7 @@ pub(crate) enum Allocations<'a> {
 }
 
 impl<'a> Allocations<'a> {
-    /// The allocations that a certificate spells after its first number, which is not looked at.
+    /// The allocations that a certificate spells after its first number, which is ignored.
     pub(crate) fn of(certificate: &'a [u8]) -> Allocations<'a> {
         match number_at(certificate) {
             Some((_, rest)) => Allocations::Spelled(rest),

@@ -5,7 +5,7 @@ use crate::text::TextFault;
 /// What an audit says.
 #[derive(Clone, Copy)]
 pub enum Audit {
-    /// The image agrees with the text, and the certificate has the allocation of each function by which this was shown.
+    /// The image agrees with the text, and the certificate has, for each function, the allocation by which this was shown.
     Confirmed,
     /// There is no certificate.
     NoCertificate,
@@ -18,8 +18,8 @@ pub enum Audit {
 pub enum FailedPart {
     /// The text, which is not a program.
     Text(TextFault),
-    /// A function's part of the certificate, which is missing or damaged, or does not show that the function has such code. The function's
-    /// name begins in the text at the offset `at` and has `length` bytes.
+    /// A function's part of the certificate, which is missing or damaged, or does not show that code made with it does what the function
+    /// does. The function's name begins in the text at the offset `at` and has `length` bytes.
     Function { at: usize, length: usize },
     /// The certificate as a whole, which has another number of functions, or bytes that are left over.
     Certificate,

@@ -18,7 +18,7 @@ pub struct CompiledUnit {
     stored: Arc<StoredUnit>,
 }
 
-// Written by hand, so that crates that use this one can call it and need not prove again how each part is dropped.
+// Written by hand, so that crates that use this one can call this `drop` and need not prove again how each part is dropped.
 impl Drop for CompiledUnit {
     fn drop(self) {
         let CompiledUnit { stored } = self;

@@ -127,8 +127,9 @@ pub fn compile_whole_in(alloc: Global, mode: Mode, text: &[u8]) -> Result<Compil
 /// Compiles a text in a mode: its source is the text, its image agrees with it, and on every input the run of the image follows
 /// what the program shows in the mode.
 ///
-/// Refusals: 1 to 7 and 11 to 21 exactly as `typed_unit` has them; otherwise 22 or 24 with the name of the first function that
-/// has no piece; 25 if `link_in` refuses the pieces with 25; 40 if memory ran out.
+/// Refusals: 1 to 7 and 11 to 21 exactly as `typed_unit` has them; otherwise FunctionTooLarge (22) or Unvalidated (24) with the
+/// name of the first function that has no piece; ImageTooLarge (25) if `link_in` refuses the pieces with it; OutOfMemory (40) if
+/// memory ran out.
 pub fn compile_in(alloc: Global, mode: Mode, text: &[u8]) -> Result<CompiledUnit, BuildFault>
     ensures source { IfOk result (λ unit. unit.source ≡ text.now) }
     ensures agrees { IfOk result (λ unit. Agree text.now unit.image) }

@@ -33,9 +33,9 @@ fn name_of(unit: &TypedUnit, function: usize) -> (usize, usize)
 /// definitions. The piece's type keeps that the code does what the function does in the mode, whatever the allocation and whoever
 /// watches.
 ///
-/// Refusals, the first two with the place of the function's name: 22 if the function would have more than 4,096 nodes of RTL or
-/// its guards would set more than 2,048 variables, which takes more than 256 tokens (177 for a checked piece); 24 if the
-/// validator refuses the allocation; 40 if memory ran out, or `watch` refused.
+/// Refusals, the first two with the place of the function's name: FunctionTooLarge (22) if the function would have more than
+/// 4,096 nodes of RTL or its guards would set more than 2,048 variables, which takes more than 256 tokens (177 for a checked
+/// piece); Unvalidated (24) if the validator refuses the allocation; OutOfMemory (40) if memory ran out, or `watch` refused.
 pub fn compile_watched_in<W: Watch>(
     alloc: Global,
     mode: Mode,

@@ -90,7 +90,7 @@ fn stored(
     Ok(Arc::new(alloc, unit)?)
 }
 
-// The unit that these pieces make, which are pieces of a unit's functions in a mode, lent in any order.
+// The unit that these pieces of a unit's functions make in a mode. They are lent in any order.
 fn made_in(
     alloc: Global,
     mode: Mode,
@@ -138,7 +138,7 @@ fn made_in(
 /// and on every input the run of its image follows what the program shows in the mode, so that the image agrees with the text. The image
 /// does so on each board that backs at least as many bytes of stack as the pieces' frames and calls take.
 ///
-/// Refusals: those of `link_lent`, with 28 also for a piece in another mode.
+/// Refusals: those of `link_lent`, with Stranger (28) also for a piece in another mode.
 pub fn link_in(
     alloc: Global,
     mode: Mode,
@@ -161,8 +161,9 @@ pub fn link_in(
 /// Links plain pieces of a unit, lent in any order: its source is the unit's text, its image agrees with it, and its certificate has the LTL
 /// of each function.
 ///
-/// Refusals, in this order: 28 for the first piece whose unit has another text; 27 for the first piece whose function came before; 26
-/// for the least function without a piece; 25 if the image would have more than 131,072 words of code. 40 if memory ran out.
+/// Refusals, in this order: Stranger (28) for the first piece whose unit has another text; Doubled (27) for the first piece whose
+/// function came before; Missing (26) for the lowest-numbered function without a piece; ImageTooLarge (25) if the image would have more
+/// than 131,072 words of code. OutOfMemory (40) if memory ran out.
 pub fn link_lent(
     alloc: Global,
     unit: &Arc<TypedUnit>,

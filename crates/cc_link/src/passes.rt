@@ -26,7 +26,7 @@ use cc_validate::{LtlPair, Refused, ValidateFault, validate};
 use std::alloc::{AllocError, Global};
 use std::sync::Arc;
 
-/// The RTL of a function once the nodes that nobody needs are removed, with its live sets. No proof depends on these
+/// The RTL of a function once the nodes that nothing needs are nops, with its live sets. No proof depends on these
 /// sets.
 #[derive(Drop)]
 pub(crate) struct Colourable {
@@ -94,7 +94,7 @@ fn generated<W: Watch>(alloc: Global, pair: CminorPair, watch: &mut W) -> Result
     }
 }
 
-// RTL in which the nodes that nobody needs are nops. It fails only if memory runs out.
+// RTL in which the nodes that nothing needs are nops. It fails only if memory runs out.
 fn pruned<W: Watch>(alloc: Global, pair: RtlPair, watch: &mut W) -> Result<Colourable, RtlFault>
     ensures mode { IfOk result (λ made. made.rtl.mode ≡ pair.mode) }
     ensures unit { IfOk result (λ made. made.rtl.unit ≡ pair.unit) }
@@ -112,7 +112,7 @@ fn pruned<W: Watch>(alloc: Global, pair: RtlPair, watch: &mut W) -> Result<Colou
     }
 }
 
-/// The RTL of a function in a mode once the nodes that nobody needs are removed, with its live sets.
+/// The RTL of a function in a mode once the nodes that nothing needs are nops, with its live sets.
 pub(crate) fn prepared<W: Watch>(
     alloc: Global,
     mode: Mode,

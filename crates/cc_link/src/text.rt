@@ -1,5 +1,5 @@
-// From a text to its program. Every text comes in this way, whether it is checked, run, compiled, audited or shown. A text leads
-// to one program or one fault.
+// From a text to its program. Every text passes through here, whether it is checked, run, compiled, audited or shown. A text
+// leads to one program or one fault.
 
 ghost use Rattle.std.specs.Prelude.{◌≡◌, ◌≤◌, length, IfOk, IfErr};
 ghost use Rattle.std.specs.Arc.{arc_value};

@@ -1,4 +1,4 @@
-// The sources of a function's allocation, and the watcher of a function on its way through the passes.
+// Where a function's allocation comes from, and who watches a function on its way through the passes.
 
 use cc_cminor::CminorPair;
 use cc_linear_language::LinearPair;
@@ -25,7 +25,7 @@ pub enum Allocator {
     Colour,
     /// An allocator with a slot for each value.
     Spill,
-    /// The LTL was given.
+    /// No allocator of the compiler: the LTL was given.
     Given,
 }
 
@@ -38,7 +38,7 @@ pub enum Seen<'a> {
     Guarded(&'a CminorPair),
     /// RTL as it is generated.
     Rtl(&'a Rtl),
-    /// RTL in which the nodes that nobody needs are nops.
+    /// RTL in which the nodes that nothing needs are nops.
     Pruned(&'a Rtl),
     /// LTL that the validator has not judged yet.
     Allocated(Allocator, &'a Ltl),

@@ -49,7 +49,7 @@ fn places(alloc: Global, bodies: &[&[PieceItem]]) -> Result<Vec<u32>, AllocError
     Ok(places)
 }
 
-// How far a jump at one address goes to another.
+// The distance that a jump goes from one address to another.
 fn distance(at: u32, to: u32) -> JumpOffset
     requires at { IsPlace at }
     requires to { IsPlace to }

@@ -44,7 +44,7 @@ pub fn drop_faint(alloc: Global, pair: &mut RtlPair) -> Result<Liveness, AllocEr
     Ok(Liveness::new(live))
 }
 
-/// Turns the nodes that are dead by strongly live sets into nops; any live sets will do, since they are strongly live.
+/// Turns the nodes that are dead by strongly live sets into nops; any live sets will do, since live sets are strongly live too.
 fn drop_by(alloc: Global, pair: &mut RtlPair, live: &[RegisterSet]) -> Result<(), AllocError>
     requires { AreStronglyLive pair.old.rtl.nodes (rows_at pair.old.rtl.nodes live.now) }
     ensures dropped { IfOk result (λ _. pair.new ≡ record pair.old { rtl = without_dead (rows_at pair.old.rtl.nodes live.now) pair.old.rtl }) }

@@ -42,7 +42,7 @@ chosen_takes spell (kind ∷ kinds) all number bytes y rest are e =
       | inr p ↦ chosen_takes spell kinds all.1 number bytes y rest are p.1
     ]
 
--- a number, followed by what the reader that belongs to it reads
+-- reading a number, and then with the reader that belongs to it, takes what the value spells
 numbered_takes : {B : Type 0} (spell : B → List ℕ) (kinds : List (ℕ × Reader B)) → AllByRecursion (IsKind spell) kinds → (bytes : List ℕ) (y : B) (rest : List ℕ) → AreBytes bytes
     → (byte_in bytes >>= λ k. chosen kinds k.0 k.1) ≡ Some (y, rest) → Takes bytes (spell y) rest
 numbered_takes spell kinds all [] y rest are e = absurd (none-some (y, rest) e)

@@ -14,7 +14,7 @@ use Rattle.cc_ltl.specs.declared.operation.Operation.{Operation}
 use Rattle.cc_ltl.specs.declared.operation.Operation.TheVariants.{Nop, Const, Unary, Binary, Load, Store, Call, Read, Write, Branch, Return}
 use Rattle.cc_ltl.specs.declared.block.Block.{Block}
 
--- a function: its number of slots, the label of its first block, and its blocks
+-- a function: its number of slots, the label of the block at which it begins, and its blocks
 pub record Ltl : Type 0 where
   pub slots : ℕ
   pub entry : ℕ

@@ -13,7 +13,7 @@ pub struct Moves {
     moves: Vec<Move>,
 }
 
-// Written by hand, so that crates above can call it and need not prove again how each part is dropped.
+// Written by hand, so that crates above can call this `drop` and need not prove again how each part is dropped.
 impl Drop for Moves {
     fn drop(self) {
         let Moves { moves } = self;

@@ -1,4 +1,4 @@
-// The queue's two ends, and a pass of it. Only these functions call the channel.
+// The queue's two ends, and its passes. Only the functions here call the channel.
 //
 // Whoever holds one end holds the other. A worker that waits on the queue keeps it open itself, so its receive ends with an item,
 // never because all senders are gone.

@@ -12,8 +12,8 @@ pub enum PoolFault {
     /// 22, 24: a worker refused the function with this number.
     #[error("{fault}")]
     Piece { function: usize, fault: PieceFault },
-    /// 41: a thread could not be started, the queue is closed, there are no more job numbers, a job's answers ended early, or a pool's
-    /// passes did not all come back.
+    /// 41: a thread could not be started, the queue is closed, there are no more job numbers, a job's answers ended early, or not all
+    /// of a pool's passes came back.
     #[error("WorkersGone")]
     WorkersGone,
     /// 40: memory ran out.

@@ -2,7 +2,7 @@
 //!
 //! The functions of a unit go to the workers as items of one queue with 64 places. Each worker's answer comes back on the job's
 //! own channel, which has a place for each function. It is proved that the queue keeps a rule: the items that all passes have
-//! sent are those that they have taken together with those that the queue holds, each as many times.
+//! sent are those that they have taken together with those that the queue holds, each the same number of times.
 //!
 //! `rule` has the rule and its six kinds of step, `ends` has the queue's two ends, `seats` has the holders of passes, `item` has
 //! what goes to a worker, `answer` has what comes back, `worker` has the worker's loop, `gate` has the call before each piece,

@@ -42,7 +42,7 @@ test_head at (One (IfNonzero r n) ∷ steps) t e = refl
 test_head at (One (IfZero r n) ∷ steps) t e = refl
 test_head at (s ∷ steps) t e = none_some t e
 
--- a test is not a label
+-- a test is not a label, so no label's place changes without it
 test_place : (at : ℕ → Registers) (steps : List Step) (t : Test) (l : ℕ) → test_of steps ≡ Some t → place (behind (fused at steps)) l ≡ place (fused at steps) l
 test_place at [] t l e = refl
 test_place at (One (IfNonzero r n) ∷ steps) t l e = refl
@@ -60,7 +60,7 @@ test_live at (One (IfZero a n) ∷ steps) t e =
     subst (λ (u : Test). (r : ℕ) → In (either (at u.to) (live at steps)) r → In (live at (One (IfZero a n) ∷ steps)) r) er (λ r i. in_more a r (either (at n) (live at steps)) i)
 test_live at (s ∷ steps) t e = none_some t e
 
--- what the test does
+-- the test leads to its label or to the next step, as its register's word says
 test_does : (arity : ℕ → ℕ) (code steps : List Step) (t : Test) (l : Locations) (h : World) (ws : List ℕ) → test_of steps ≡ Some t
     → does arity code steps l h ws ≡ Goes (at_steps (led t.nonzero (l (Register t.register)) (behind steps) (place code t.to)) l h ws)
 test_does arity code [] t l h ws e = none_some t e

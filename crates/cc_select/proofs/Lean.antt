@@ -24,7 +24,7 @@ use Rattle.cc_select.proofs.Making.{labelled, Plain, Owes, owes_kept, owes_label
 
 -- ---- the list
 
--- what is live stays live
+-- without the constants that no step reads, the same registers are live before the steps
 pub lean_live : (at : ℕ → Registers) (steps : List Step) (r : ℕ) → live at (lean at steps) r ≡ live at steps r
 lean_live at [] r = refl
 lean_live at (One (Const to w) ∷ steps) r = by (live at steps to) refl (lean_live at steps r)
@@ -68,7 +68,7 @@ lean_place at (Immediate o to a w ∷ steps) l =
     either_way (λ (xs : List Step). place xs l ≡ lean at (place steps l)) (live at steps to || not (live at steps a)) (Immediate o to a w ∷ lean at steps) (lean at steps) (lean_place at steps l) (lean_place at steps l)
 lean_place at (s ∷ steps) l = lean_place at steps l
 
--- a settled table stays settled
+-- a table that is settled for the code is settled for the code without these constants too
 pub lean_settled : (at : ℕ → Registers) (code : List Step) → IsSettled at code → IsSettled at (lean at code)
 lean_settled at code settled label r i =
     settled label r (sym (lean_live at (place code label) r) ∙ ap (λ (xs : List Step). live at xs r) (sym (lean_place at code label)) ∙ i)

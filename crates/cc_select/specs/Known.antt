@@ -73,7 +73,7 @@ is_taken true (Some w) = not (w == 0)
 is_taken false (Some w) = w == 0
 
 -- The step of an item; a word on the right has priority over one on the left. A branch that is certain not to be taken stays, since each
--- item is one step, and no step does nothing.
+-- item becomes one step, and there is no step that does nothing.
 abbrev pub choose : Known → LinearItem → Step
 choose k (IfNonzero from to) = if is_taken true (k from) then One (Jump to) else One (IfNonzero from to)
 choose k (IfZero from to) = if is_taken false (k from) then One (Jump to) else One (IfZero from to)

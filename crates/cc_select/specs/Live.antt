@@ -31,7 +31,7 @@ live_move (Between to from) s = with from (without to s)
 live_move (Reload to slot) s = without to s
 live_move (Spill slot from) s = with from s
 
--- the registers in which arguments may be: x10 to x17
+-- the registers in which arguments may be passed: x10 to x17
 abbrev pub is_argument : (register : ℕ) → Bool
 is_argument r = nat_le 10 r && nat_le r 17
 

@@ -1,6 +1,6 @@
--- Nearby elements. If the element number of an access was computed by adding a word to a register, and both the register and that of the
--- sum still hold what they held then, the access is to the element whose number is the register's word plus the added word, so the sum
--- need not be computed. Only the last such sum is known, within straight-line code.
+-- Nearby elements. If the element number of an access was computed by adding a word to a register, and neither that register nor the
+-- sum's has changed since, the access is to the element whose number is the register's word plus the added word, so the sum need not be
+-- computed. Only the last such sum is known, within straight-line code.
 use Rattle.std.specs.Prelude.{ℕ, ◌||◌, ◌==◌, if◌then◌else◌, Option, Some, None, List, [], ◌∷◌}
 use Rattle.cc_words.specs.Words.{neg}
 use Rattle.cc_ltl.specs.declared.operation.Move.TheVariants.{Between, Reload, Spill}

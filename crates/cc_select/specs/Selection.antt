@@ -20,7 +20,8 @@ use Rattle.cc_select.specs.Table.{table}
 abbrev pub lean : (at_label : ℕ → Registers) → List Step → List Step
 lean at [] = []
 lean at (One (Const to word) ∷ steps) = if live at steps to then One (Const to word) ∷ lean at steps else lean at steps
--- an operator with a word also stays if the register that it reads is not live after it, so what is live before it stays
+-- an operator with a word also stays if the register that it reads is not live after it, so that the same registers stay live
+-- before it
 lean at (Immediate operator to from word ∷ steps) = if live at steps to || not (live at steps from) then Immediate operator to from word ∷ lean at steps else lean at steps
 lean at (step ∷ steps) = step ∷ lean at steps
 

@@ -42,7 +42,7 @@ fn test_in(step: &Step) -> Option<Test>
     }
 }
 
-// The branch that replaces a step that asks whether a register is 0, and a test of the answer.
+// The branch that replaces a step that tests whether a register is 0, together with the test of that step's result.
 fn branch_on_zero(from: Register, test: Test) -> Step
     ensures { result ≡ branch_on_zero from (shown test) }
 {

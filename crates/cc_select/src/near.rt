@@ -1,6 +1,6 @@
-// Nearby elements. If the element number of an access was computed by adding a word to a register, and both the register and that of the
-// sum still hold what they held then, the access is to the element whose number is the register's word plus the added word. So the sum
-// need not be computed, and accesses to nearby elements share one register. Only the last such sum is known.
+// Nearby elements. If the element number of an access was computed by adding a word to a register, and neither that register nor the
+// sum's has changed since, the access is to the element whose number is the register's word plus the added word. So the sum need not be
+// computed, and accesses to nearby elements share one register. Only the last such sum is known.
 
 ghost use Rattle.std.specs.Prelude.{◌≡◌, IfOk, None};
 ghost use Rattle.cc_select.specs.Near.{unless, summed, sum_item, sum_behind, sum_in, with_sum, near, nearer};

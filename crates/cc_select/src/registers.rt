@@ -13,7 +13,7 @@ pub(crate) const DESTROYED: u8 = 17;
 // The registers that a call keeps: x8, x9 and x18 to x27.
 const SURVIVORS: u32 = 0x0FFC_0300;
 
-// The registers in which arguments may be: x10 to x17.
+// The registers in which arguments may be passed: x10 to x17.
 const ARGUMENTS: u32 = 0x0003_FC00;
 
 /// A set of registers: one bit for each.

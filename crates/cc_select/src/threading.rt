@@ -156,7 +156,7 @@ fn push_label(steps: &mut Vec<Step>, tests: &Tests, known: &Known, label: u32)
     steps.push_reserved(Step::One(LinearItem::Label { label }));
 }
 
-// Pushes the step of an item, and a jump to a label after it unless `alone` is true.
+// Pushes the step of an item and then, unless `alone` is true, a jump to a label.
 fn push_step(steps: &mut Vec<Step>, known: &Known, item: LinearItem, label: u32, alone: bool)
     requires { vec_len steps.old + 2 ≤ vec_capacity steps.old }
     ensures { steps.new.items ≡ steps.old.items ++ chosen (known_in known.now) (item ∷ (if alone then [] else Jump label ∷ [])) }

@@ -131,7 +131,7 @@ fn add_crash(lines: &mut Vec<Line>, steps: usize, fails: bool, byte: u8) -> Resu
     Ok(())
 }
 
-// Whether the map is recovered after such a crash, and a commit after the recovery is kept through another crash.
+// Whether the map is recovered after the crash that `add_crash` adds, and a commit after the recovery is kept through another crash.
 fn survives(alloc: Global, steps: usize, fails: bool, byte: u8) -> Result<bool, Fail> {
     let mut lines = Vec::new(alloc);
     add_crash(&mut lines, steps, fails, byte)?;

@@ -40,7 +40,7 @@ static WRONG: [(&str, &[u32], &[i32]); 10] = [
         &[32],
         &[-2147483648],
     ),
-    // a value that nobody uses
+    // a value that is not used
     (
         "int a[2];int main(void){write_word(1);a[2];write_word(2);}",
         &[],

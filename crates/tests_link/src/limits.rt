@@ -157,7 +157,7 @@ fn runs_padded(
     Ok(matches!(words_of(alloc, linked, run)?, Some((_, true))))
 }
 
-// Whether the image runs right with each number of moves around the one from which on branches over the block do not reach far
+// Whether the image runs right with each number of moves close to the one at which branches over the block no longer reach far
 // enough: a branch reaches 1,023 words forward and 1,024 back.
 fn runs_near_and_far(alloc: Global, unit: &Arc<TypedUnit>, block: usize) -> Result<bool, Fail> {
     for moves in 980..1_028 {
@@ -168,7 +168,7 @@ fn runs_near_and_far(alloc: Global, unit: &Arc<TypedUnit>, block: usize) -> Resu
     Ok(true)
 }
 
-// Whether this is so for three blocks, within the inner part and around it.
+// Whether `runs_near_and_far` is true of three blocks, within the inner part and around it.
 fn all_run(alloc: Global, unit: &Arc<TypedUnit>) -> Result<bool, Fail> {
     let count = blocks(alloc, unit, 0)?;
     Ok(

@@ -161,7 +161,7 @@ impl Labels {
         Ok(())
     }
 
-    // Whether some line begins with each label that the code leads to.
+    // Whether each label that the code leads to begins some line.
     fn all_stand(&self) -> bool {
         self.named.iter().all(|label| self.standing.contains(label))
     }

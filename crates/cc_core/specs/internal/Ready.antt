@@ -54,7 +54,8 @@ pub record IsWithin (commit : Commit) (store : StoreState) : Type 0 where
   pub first : commit.offset + length commit.bytes ≤ length store.cells
   pub second : commit.deciding_offset + 1 ≤ length store.cells
 
--- both writes of a rewrite lie within the disk, the first one has at least a closed gate, and everything fits in an area
+-- both writes of a rewrite lie within the disk, the first one contains at least a closed gate, and everything fits in an
+-- area
 pub record IsRewrite (commit : Commit) (store : StoreState) : Type 0 where
   pub within : IsWithin commit store
   pub some : 1 ≤ length commit.bytes

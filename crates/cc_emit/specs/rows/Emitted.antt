@@ -95,8 +95,8 @@ leaf = refl
 
 -- ---- what comes before a frame
 
--- a test and the return to which it leads: slti x5, x10, 2; beq x5, x0, 8; jalr x0, 0(x1); then the frame, in which a label's return is as
--- before
+-- a test and the return to which it leads: slti x5, x10, 2; beq x5, x0, 8; jalr x0, 0(x1); then the frame, which still has the label and
+-- its return
 returns_early : function_items (λ g. 0) 0 (BranchImmediate immediate.LtS true 10 2 7 ∷ One (Call 3) ∷ One (Label 7) ∷ One Return ∷ [])
     ≡ Plain (OpImm Slti 5 10 2) ∷ Plain (instr.Branch Beq 5 0 8) ∷ Plain (Jalr 0 1 0) ∷ addi 2 2 0xfffffffc ∷ store_word 2 1 0 ∷ item.Call 3 ∷ load_word 1 2 0 ∷ addi 2 2 4 ∷ Plain (Jalr 0 1 0) ∷ []
 returns_early = refl
@@ -213,7 +213,8 @@ call_between = refl
 branch_between : function_items near_by 0 (One (Load Word 0 10 7) ∷ One (IfZero 10 1) ∷ One (Load Word 0 11 7) ∷ One (Label 1) ∷ []) ≡ whole (load_word 10 5 0) (Plain (instr.Branch Beq 10 0 8) ∷ load_word 11 5 0 ∷ [])
 branch_between = refl
 
--- object 256 lies at 0x201000: its upper part replaces the other one in x6, also after the element whose address is in x5
+-- object 256 lies at 0x201000: its upper part replaces the other one in x6, and is still there after an access to the element whose address
+-- is in x5
 far_between : function_items near_by 0 (One (Load Word 0 10 7) ∷ LoadAt Word 256 11 0 ∷ One (Load Word 0 12 7) ∷ LoadAt Word 256 13 1 ∷ One (Load Word 256 14 7) ∷ [])
     ≡ whole (load_word 10 5 0) (Plain (Lui 6 0x201) ∷ load_word 11 6 0 ∷ load_word 12 5 0 ∷ load_word 13 6 4 ∷ with_upper (load_word 14 5 0) [])
 far_between = refl
@@ -284,7 +285,7 @@ farthest : items_with near_by true 0 (LoadAt Word 255 10 3 ∷ LoadAt Word 256 1
     ≡ with_pointer (load_word 10 3 2044 ∷ Plain (Lui 6 0x201) ∷ load_word 11 6 0 ∷ load_word 12 3 2032 ∷ load_word 13 6 4 ∷ [])
 farthest = refl
 
--- x3 is set before the frame, and still there after a call
+-- x3 is set before the frame is made, and still has its word after a call
 behind_call : items_with near_by true 0 (One (Call 3) ∷ LoadAt Word 0 10 0 ∷ One Return ∷ [])
     ≡ with_pointer (addi 2 2 0xfffffffc ∷ store_word 2 1 0 ∷ item.Call 3 ∷ load_word 10 3 0xfffff800 ∷ load_word 1 2 0 ∷ addi 2 2 4 ∷ Plain (Jalr 0 1 0) ∷ [])
 behind_call = refl

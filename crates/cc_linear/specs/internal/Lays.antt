@@ -84,7 +84,7 @@ Stands code end l block (Branch from taken other) = Branches code end l block fr
 Stands code end l block Return = Leaves code l block
 Stands code end l block _ = Straight code end l block
 
--- n has the same end as l, and is nearer to it
+-- n has the same end as l, and is nearer to that end
 abbrev pub Nearer : (end far : ℕ → ℕ) → ℕ → ℕ → Type 0
 Nearer end far l n = (end n ≡ end l) × (far n < far l)
 
@@ -99,7 +99,7 @@ pub record IsPassed (end far : ℕ → ℕ) (l : ℕ) (block : Block) : Type 0 w
   pub after : block.after ≡ []
   pub passes : Passes end far l block.operation
 
--- `end` is the label at which each label's chain of empty blocks ends, and `far` is how far away that end is
+-- `code` lays out the blocks; `end` is the label at which each label's chain of empty blocks ends, and `far` is how far away it is
 pub record Lays (ltl : Ltl) (code : List LinearItem) (end far : ℕ → ℕ) (most : ℕ) : Type 0 where
   pub low : (l : ℕ) → far l ≤ most
   pub entry : GoesOnAt code code (end ltl.entry)

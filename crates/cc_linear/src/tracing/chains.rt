@@ -6,7 +6,7 @@
 //    comes after the loop's body, and a turn needs no jump;
 // 2. the blocks that have one successor, unless it is the head of a loop;
 // 3. the branches: each is joined to its successor for a word that is 0, which leads out of a loop or past an `if`, or to its other
-//    successor if the former already follows another block;
+//    successor if the first one already follows another block;
 // 4. the blocks that lead into a loop.
 
 ghost use Rattle.std.specs.Prelude.{◌≡◌, ◌<◌, length, vec_len, IfOk, All};

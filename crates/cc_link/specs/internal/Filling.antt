@@ -33,7 +33,7 @@ Leads places place (Plain i) = Unit {0}
 Leads places place (Call f) = (f < length places) × IsPlace (slice_index places f)
 Leads places place (Go n) = IsPlace (place + 4 * n)
 
--- the items can be at this place: it and the place after the last item are valid, and each item stays in its function
+-- the items can be at this place: this place and the one after the last item are valid, and each item stays in its function
 pub record CanStand (functions place : ℕ) (items : List PieceItem) : Type 0 where
   pub from : IsPlace place
   pub to : IsPlace (place + 4 * length items)

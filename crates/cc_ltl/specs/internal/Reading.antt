@@ -50,7 +50,7 @@ unfoldable pub times : {A : Type 0} → Reader A → ℕ → Reader (List A)
 times f zero bytes = Some ([], bytes)
 times f (suc n) bytes = f bytes >>= λ first. times f n first.1 >>= λ others. Some (first.0 ∷ others.0, others.1)
 
--- reads nothing; one byte; a number of two bytes; a number of four bytes
+-- the readers of nothing, of one byte, of a number of two bytes, and of a number of four bytes
 abbrev pub nothing_in : Reader (Unit {0})
 nothing_in bytes = Some (tt, bytes)
 
@@ -64,7 +64,7 @@ half_in bytes = if nat_lt (length bytes) 2 then None else Some (from_le_bytes w1
 abbrev pub word_in : Reader ℕ
 word_in bytes = if nat_lt (length bytes) 4 then None else Some (from_le_bytes w32 (take 4 bytes), drop 4 bytes)
 
--- reads a register; a slot
+-- the readers of a register and of a slot
 unfoldable pub register_in : Reader ℕ
 register_in bytes = byte_in bytes >>= λ b. if nat_le 7 b.0 && nat_lt b.0 32 then Some b else None
 

@@ -40,7 +40,7 @@ test_in step = None
 abbrev pub shown : code.Test → Test
 shown t = record { register = t.register; nonzero = t.nonzero; to = t.to }
 
--- the branch that replaces a step that asks whether a register is 0, and a test of the answer
+-- the branch that replaces a step that tests whether a register is 0, together with the test of that step's result
 abbrev pub branch_on_zero : (from : ℕ) → Test → Step
 branch_on_zero a v = One (if v.nonzero then IfZero a v.to else IfNonzero a v.to)
 

@@ -91,7 +91,7 @@ read_once_more : selected (Const 7 1 ∷ Binary operators.Add 7 10 7 ∷ Load Wo
 unfolding table count_trailing_zeros
 read_once_more = refl
 
--- if the register to which a word was added is written since, or is the sum's own, the number is the word of the sum's register
+-- if the register to which a word was added has been written since, or is the sum's own, the number is the word of the sum's register
 written_since : selected (Const 7 1 ∷ Binary operators.Add 7 10 7 ∷ Copy (Between 10 11) ∷ Load Word 0 10 7 ∷ Return ∷ []) ≡ Immediate immediate.Add 7 10 1 ∷ One (Copy (Between 10 11)) ∷ One (Load Word 0 10 7) ∷ One Return ∷ []
 unfolding table count_trailing_zeros
 written_since = refl

@@ -56,7 +56,7 @@ zero_there = refl
 zero_on : threaded (Const 7 5 ∷ Jump 2 ∷ Label 2 ∷ IfZero 7 3 ∷ Return ∷ Label 3 ∷ Return ∷ []) ≡ Const 7 5 ∷ Jump 2 ∷ IfZero 7 3 ∷ Label 2 ∷ Return ∷ Label 3 ∷ Return ∷ []
 zero_on = refl
 
--- the word of another register says nothing
+-- the word of another register says nothing about the tested one
 another_register : threaded (Const 8 0 ∷ Jump 2 ∷ meeting) ≡ Const 8 0 ∷ IfNonzero 7 3 ∷ Jump 2 ∷ IfNonzero 7 3 ∷ Label 2 ∷ Return ∷ Label 3 ∷ Write ∷ Return ∷ []
 another_register = refl
 

@@ -1,4 +1,4 @@
--- If memory runs out, this device step is due, so the event has a step.
+-- Even if memory runs out, this device step is due, so the event has a step.
 use Rattle.std.proofs.Common.{refl}
 use Rattle.cc_core.specs.declared.contents.Due.TheVariants as due
 use Rattle.cc_core.specs.Step.{Advances}

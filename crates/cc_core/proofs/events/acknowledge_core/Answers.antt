@@ -1,4 +1,4 @@
--- If memory runs out, the client's command is in commit and its reply is due, so the event has a step.
+-- Even if memory runs out, the client's command is in commit and its reply is due, so the event has a step.
 use Rattle.std.proofs.Common.{◌≡◌, refl, ap, ◌∙◌, ◌-◌, arith, length, take}
 use Rattle.cc_core.specs.declared.contents.Due.TheVariants as due
 use Rattle.cc_core.specs.Step.{Acknowledges}

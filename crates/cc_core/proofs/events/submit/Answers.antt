@@ -1,4 +1,4 @@
--- If memory runs out, the disk has not crashed and the client has no job, so the event has a step.
+-- Even if memory runs out, the disk has not crashed and the client has no job, so the event has a step.
 use Rattle.std.proofs.Common.{◌≡◌, None, refl, ap, arith}
 use Rattle.std.specs.Prelude.{IsTrue}
 use Rattle.std.proofs.lemmas.Grind.{common_steps}

@@ -1,4 +1,4 @@
--- This is what the pair's type keeps, and what follows from that.
+-- The clauses say what the pair's type keeps, or follow from that.
 use Rattle.std.proofs.Common.{subst}
 use Rattle.cc_linear_language.specs.Pair.{Pair, tree_of, KeepsUp}
 use Rattle.cc_linear_language.proofs.Layer.{follows_of}
