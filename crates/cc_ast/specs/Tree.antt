@@ -84,8 +84,8 @@ pub record Signature : Type 0 where
   pub name : Name
   pub parameters : List Parameter
 
--- one name in a declaration of objects at file scope: a single object and its initialiser, or an array with its length if given
--- and the values of its initialiser list, none if there is no list (C99 6.7, 6.9.2); or such an array of `unsigned char`
+-- one name in a declaration of objects at file scope: a single object and its initialiser, or an array with its length, if given, and the
+-- values of its initialiser list (none without a list) (C99 6.7, 6.9.2); or such an array of `unsigned char`
 pub data Object : Type 0 where
   Single : Name → Option ConstantExpr → Object
   Array : Name → Option ConstantExpr → List ConstantExpr → Object

@@ -275,7 +275,7 @@ fn are_words(words: &[&str]) -> bool {
     true
 }
 
-// The line that these words make, with a space between two.
+// These words as one line, separated by single spaces.
 fn line_of(alloc: Global, words: &[&str]) -> Result<String, AllocError> {
     let mut line = String::new(alloc);
     for word in words {

@@ -45,7 +45,7 @@ gives (One (Binary operator to left right)) l = apply_binary operator (l (Regist
 gives (Immediate operator to from word) l = apply_immediate operator (l (Register from)) word
 gives step l = None
 
--- the word that a test examines, and whether it leads on if that word is not 0
+-- the word that a test examines, and whether the test jumps if that word is not 0
 abbrev asks : Step → Locations → Option ℕ
 asks (One (IfNonzero from to)) l = Some (l (Register from))
 asks (One (IfZero from to)) l = Some (l (Register from))

@@ -85,10 +85,10 @@ impl<D: Disk> Journal<D> {
 
     /// Adds a record with this body. After Ok the record is kept: every crash from then on leaves it.
     ///
-    /// Refusals, in this order: 36 if the journal is closed; 34 if the record, which takes its body and 5 bytes, does not fit
-    /// after the records, with the closed gate after it; 40 if memory ran out. These three make no device call and change
-    /// nothing. Last, 35 if the device failed during the call: the journal is then closed, and its disk has the old records, or
-    /// those and the new one.
+    /// Refusals, in this order: 36 if the journal is closed; 34 if the record (5 bytes more than its body) and the closed gate
+    /// after it do not fit after the records; 40 if memory ran out. These three make no device call and change nothing. Last, 35
+    /// if the device failed during the call: the journal is then closed, and its disk has the old records, or those and the new
+    /// one.
     pub fn append(&mut self, alloc: Global, body: &[u8]) -> Result<(), JournalFault>
         ensures answers { AppendAnswers self.old.closed self.old.area self.old.bodies body.now (D.failures self.old.disk) (D.failures self.new.disk) result }
         ensures size { D.size self.new.disk ≡ D.size self.old.disk }

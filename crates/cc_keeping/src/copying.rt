@@ -90,7 +90,8 @@ fn tell_taken<E: Write>(path: &str, told: &mut E) -> LibraryFault {
     LibraryFault::DiskFault
 }
 
-// Makes the new library of these units under a name that it has until it is complete. Nothing may have that name yet.
+// Makes the new library of these units under a temporary name, which it keeps until it is complete. Nothing may have that name
+// yet.
 fn write_beside<E: Write>(
     alloc: Global,
     files: &HostRuntime,

@@ -44,7 +44,7 @@ Agree text image = ∥ Agreement text image ∥₁
 
 -- ---- in a mode
 
--- what a program shows in a mode on an input, within this many steps: plain: what its source does; checked: `checked_behavior`
+-- what a program shows in a mode on an input within this many steps: what its source does, or `checked_behavior` in checked mode
 abbrev pub behavior_in : Mode → Source → (input : List ℕ) → ℕ → Outcome ℕ
 behavior_in mode source input n = without_cause (behavior mode source input n)
 

@@ -20,7 +20,7 @@ LinkedUnitsAgree = (s : Source) (pieces : List Piece) (u : StoredUnit) → ∥ S
     → (u.source ≡ s.text) × Agree s.text u.image
 
 -- In each mode: the unit that pieces make for a checked unit in the mode has the checked unit's text, and on each input the run
--- of its image follows what the program shows in the mode. For checked pieces this is `checked_behavior`.
+-- of its image follows what the program shows in the mode. For checked pieces, the program shows `checked_behavior`.
 abbrev pub LinkedUnitsFollow : Type 0
 LinkedUnitsFollow = (mode : Mode) (s : Source) (pieces : List Piece) (u : StoredUnit) → ∥ SpellsText s.text s.externals ∥₁ → IsChecked s → All IsPieceOfUnit pieces → linked_in mode s pieces ≡ Ok u
     → (u.source ≡ s.text) × AgreeIn mode s.text u.image

@@ -72,8 +72,8 @@ pub fn compile_watched_in<W: Watch>(
 }
 
 /// The piece of the function with this number in a mode, with the first of these allocations; nobody watches. It answers as
-/// `compile_watched_in` does, or 24 at label 0 if there is no allocation, since nothing then shows that the code does what the
-/// function does.
+/// `compile_watched_in` does, or with 24 at label 0 if there is no allocation, since nothing then shows that the code does what
+/// the function does.
 pub(crate) fn compile_first_in(
     alloc: Global,
     mode: Mode,

@@ -23,7 +23,7 @@ use Rattle.cc_ltl.proofs.Fields.{AreBytes, bind_some, which, when_some, Takes, I
 
 -- ---- a number before the fields
 
--- what the reader of a kind reads is spelled after the kind's number
+-- if a kind's reader reads a value from some bytes, the kind's number followed by what it read spells that value
 abbrev IsKind : {B : Type 0} → (B → List ℕ) → ℕ × Reader B → Type 0
 IsKind {B} spell kind = (bytes : List ℕ) (y : B) (rest : List ℕ) → AreBytes bytes → kind.1 bytes ≡ Some (y, rest) → Takes (kind.0 ∷ bytes) (spell y) rest
 

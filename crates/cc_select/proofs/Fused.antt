@@ -74,8 +74,8 @@ test_does arity code (s ∷ steps) t l h ws e = none_some t e
 
 -- ---- the words that steps make
 
--- a step whose word is only tested for 0, and the branch that replaces both: the word depends only on what is live before the step, and the
--- branch leads where the word says
+-- a step whose word is used only by a test for 0, and the branch that replaces the step and the test: the word depends only on what is live
+-- before the step, and the branch leads where the word says
 pub record IsTruth (s : Step) (v : Truth) : Type 0 where
   pub value : Locations → Option ℕ
   pub makes : (arity : ℕ → ℕ) (code steps : List Step) (l : Locations) (h : World) (ws : List ℕ) → does arity code (s ∷ steps) l h ws ≡ tried (value l) (λ w. Goes (at_steps steps (put (Register v.register) w l) h ws))

@@ -134,7 +134,8 @@ fn take(layout: &mut FolderLayout, process: u32) -> Result<Option<Held>, Refusal
     }
 }
 
-/// Takes the folder for this server, until the returned lock is released; none if another server held it for a whole second.
+/// Takes the folder for this server until the returned lock is released. The result is `None` if another server held the lock for a
+/// whole second.
 ///
 /// What is missing is made: the folder with 0755; `cur` with 0700, `new` and `tmp` with 3777, `done` with 0755. If the folder has the
 /// set-group-id bit, `cur` gets 2700 and the others 2770. What is there keeps its rights. Then everything that a server does in the

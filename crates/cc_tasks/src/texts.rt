@@ -103,8 +103,8 @@ pub fn perform_texts<H: AllocGlobal, W: Write>(
     done.status
 }
 
-/// Does a task as `carry_out_texts` does, and writes to `explanations` what `perform_and_explain` does, with each place as the
-/// name of its text, and the line and column in it.
+/// Does a task as `carry_out_texts` does, and writes to `explanations` what `perform_and_explain` writes there, but gives each
+/// place as the name of its text with the line and column in that text.
 pub fn perform_texts_and_explain<H: AllocGlobal, W: Write, E: Write>(
     rt: &H,
     task: Task,

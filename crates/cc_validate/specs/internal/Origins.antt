@@ -1,4 +1,4 @@
--- Where words come from through many moves, as a table of the numbers of locations, and what becomes of the bits of a table.
+-- Where the word of each location was before a list of moves, as a table of location numbers; and where the moves send bits.
 use Rattle.std.specs.Prelude.{◌≡◌, ℕ, List, length, get_or, IsTrue}
 use Rattle.cc_ltl.specs.declared.operation.Move.{Move}
 use Rattle.cc_bits.specs.Rows.{Table, has}

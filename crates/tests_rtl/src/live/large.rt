@@ -1,4 +1,5 @@
-// Functions of some 4,000 nodes over 200 variables that are live around a loop, within a test's time.
+// Functions of some 4,000 nodes over 200 variables that are live around a loop. They have to be finished within the time that a
+// test may take.
 
 use super::helpers::{Left, left_of};
 use std::alloc::{AllocError, Global};
