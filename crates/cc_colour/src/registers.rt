@@ -26,13 +26,13 @@ pub type Registers = u32;
 /// All registers to which code may be allocated: x7 to x31.
 pub const ALL: Registers = 0xffff_ff80;
 
-/// What a call destroys: x7, x10 to x17, x28 to x31.
+/// The registers that a call destroys: x7, x10 to x17, x28 to x31.
 pub const DESTROYED: Registers = 0xf003_fc80;
 
 /// Calls and reads put their result in this register, and a word to write or to return is taken from it.
 pub const RESULT: u8 = 10;
 
-/// What a read and a write destroy.
+/// The register that a read or a write destroys.
 pub const SERVICE: u8 = 17;
 
 /// The register that an operation gets if it needs none, or if none is free.

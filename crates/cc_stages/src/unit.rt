@@ -140,7 +140,7 @@ fn write_all<W: Write>(
     Ok(())
 }
 
-// The listing of the image of a unit's pieces, if all functions have one.
+// The listing of the image of a unit's pieces, if each function has a piece.
 fn listing(
     alloc: Global,
     mode: Mode,
