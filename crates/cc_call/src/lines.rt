@@ -18,7 +18,7 @@ use std::io::{self, BufRead, ErrorKind, Write};
 pub enum LineEnd {
     /// With the run on its words.
     Answered,
-    /// 50: it is not a list of words.
+    /// 50: the line is not a list of words.
     BadLine,
     /// 40: memory was refused.
     OutOfMemory,

@@ -132,7 +132,7 @@ fn number_of(why: &NoInputs) -> u32 {
     }
 }
 
-// Writes the fault line, and explains it.
+// Writes the fault's line, and explains the fault.
 fn refuse_inputs<W: Write, E: Write>(name: &str, why: &NoInputs, writer: &mut W, told: &mut E) {
     let written = write_fault_line(number_of(why), Stands::Nowhere, b"", writer);
     if written.is_ok() && writer.flush().is_ok() {

@@ -62,7 +62,7 @@ successors (Return from) = []
 abbrev pub most_nodes : ℕ
 most_nodes = 4096
 
--- the labels ascend
+-- the labels ascend: each is below the first one after it
 abbrev pub IsBelowFirst : (label : ℕ) → List Labelled → Type 0
 IsBelowFirst label [] = Unit {0}
 IsBelowFirst label (n ∷ ns) = label < n.label
