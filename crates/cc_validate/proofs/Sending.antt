@@ -111,7 +111,7 @@ sent_more from origins old new r c h more = record { there = there; only = only 
 abbrev Columns : (old : Table) (r c : ℕ) → (i j : ℕ) → Type 0
 Columns old r c i j = ((i < r) ⊎ ((i ≡ r) × (j < c))) × IsTrue (has old i j)
 
--- one more column: its bit is set, or its bit is clear
+-- `AreSent` holds with one more column, if its bit is set; then, if its bit is clear
 pub column_sent : (old : Table) (origins : List ℕ) (r c : ℕ) (mid new : Table) → has old r c ≡ true → ((i j : ℕ) → has new i j ≡ ((r == i && get_or origins c 0 == j) || has mid i j))
     → AreSent (Columns old r c) origins mid → AreSent (Columns old r (c + 1)) origins new
 column_sent old origins r c mid new set more h = sent_as (λ i k. Columns old r c i k ⊎ ((i ≡ r) × (k ≡ c))) (Columns old r (c + 1)) origins new to from (sent_more (Columns old r c) origins mid new r c h more)
