@@ -137,7 +137,7 @@ pub(crate) static COPY: Row = Row {
     help: COPY_HELP,
 };
 
-/// A unit to be run, of the library in a file.
+/// What `call` is to run: a unit of the library in a file.
 #[derive(Drop)]
 pub struct Calling {
     /// The path of the file.

@@ -1,6 +1,7 @@
 //! The command line of the program: which words ask for what.
 //!
-//! The crate needs only `clap` and `cc_task` and knows nothing about the language, so it is proved in parallel with the crates that do.
+//! The crate needs only `clap` and `cc_task` and knows nothing about the language, so it is proved in parallel with the crates that know
+//! about it.
 //!
 //! - `row`: a command as a row of a table, from which its parser is made; `commands`: the table.
 //! - `program`, `watch`, `unit`, `keeping`, `library`, `spool`: the rows, each with what its words ask for. `given` has the words that several

@@ -143,7 +143,7 @@ enum NotCounted {
     OutOfMemory,
 }
 
-// Counts a run that has this outcome in the interpreter's answer.
+// Counts a run whose outcome is this one by the interpreter's answer.
 fn count_outcome(
     alloc: Global,
     unit: &Unit,

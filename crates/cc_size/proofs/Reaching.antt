@@ -116,7 +116,7 @@ reach_next bodies t calls table more count same made f =
     ap (λ (l : List Bool). get_or l f false) made ∙ nearer_at (λ g. get_or table g false) table bodies count f
     ∙ ap₂ (λ (b : Bool) (is : ℕ → Bool). b || items_call is (get_or bodies f [])) (same f) (λ i. λ g. same g i) ∙ ap (λ (k : ℕ). reaches bodies t k f) one
 
--- one more function is added to the table
+-- once the entry of one more function is added, the entries so far and the rest still make up the table
 pub nearer_next : (is : ℕ → Bool) (table : List Bool) (ps : List (Bor Piece)) (at : ℕ) (d : Bor Piece) (before new all : List Bool) (b : Bool) → at < length table → length table ≡ length ps → d ≡ get_or ps at d → b ≡ (get_or table at false || items_call is d.now.items) → new ≡ before ++ b ∷ []
     → before ++ nearer is (drop at table) (all_items (lent_pieces (drop at ps))) ≡ all → new ++ nearer is (drop (at + 1) table) (all_items (lent_pieces (drop (at + 1) ps))) ≡ all
 nearer_next is table ps at d before new all b lt count is_d whose pushed h =

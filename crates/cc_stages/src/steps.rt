@@ -75,7 +75,7 @@ fn write_step<W: Write>(step: &Step, writer: &mut W) -> io::Result<()> {
     }
 }
 
-// Writes a step if it is an access whose number is a register's word plus a word.
+// Writes a step if it is an access to an element whose number is a register's word plus a word.
 fn write_near<W: Write>(step: &Step, writer: &mut W) -> io::Result<()> {
     match step {
         Step::LoadNear {

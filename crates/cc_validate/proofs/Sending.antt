@@ -48,7 +48,7 @@ module _ (moves : List Move) (origins : List ℕ) (m : Move) (to : IsPlace (targ
   abbrev next : List ℕ
   next = set origins (number (target m)) (get_or origins (number (source m)) 0)
 
-  -- the table's entry for a location is now its old entry for the location with which the move replaces it
+  -- the new entry of a location is the old entry of the location that an equation on it has before the move
   said : (e : Equation) → IsPlace e.location → IsPlace (before_move m e).location × (get_or next (number e.location) 0 ≡ get_or origins (number (before_move m e).location) 0)
   said e h = go (same_location (target m) e.location) refl
     where
