@@ -117,7 +117,7 @@ fn tell_line<W: Write>(
     Ok(end)
 }
 
-// Says why the next line could not be read.
+// Writes why the next line could not be read.
 fn tell_unread<W: Write>(error: io::Error, writer: &mut W) -> LinesEnd
     ensures { IsToldUnread (W.contents writer.old) (W.contents writer.new) result }
 {

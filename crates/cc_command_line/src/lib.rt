@@ -8,8 +8,8 @@
 //!   commands share, `files` the files of a program, `json` the option for JSON, `numbers` the numbers.
 //! - `command_line` reads a command line, `refused` has the errors for words that break a rule, `telling` prints them.
 //!
-//! The crate exports `read_invocation`, `line`, `read_or_tell`, `Work` with what each kind of work needs (`Task` of `cc_task`, `Wanted`,
-//! `Session`, `Server`, `Submitter`), and the definitions that their contracts name (`specs/`).
+//! The crate exports `read_invocation`, `line`, `read_or_tell`, `refused_bytes`, `tell_bytes`, their types (above all `Work`, with what
+//! each kind of work needs), and the definitions that their contracts name (`specs/`).
 #![tactic(auto)]
 
 mod command_line;

@@ -142,7 +142,7 @@ found_first bodies found e = record {
     nowhere it (inl lt) = omega arith
     nowhere it (inr p) = (let lt = p.1 in omega arith)
 
--- one more call is looked at, which is part of a cycle or is not
+-- `FoundUpTo` holds with one more call that was looked at, if it is part of a cycle; then, if it is not
 found_yes : (bodies : List (List PieceItem)) (f m : ℕ) (old : List Recursion) → items_call (λ g. g == m) (get_or bodies f []) ≡ true → reaches bodies f (length bodies) m ≡ true → FoundUpTo bodies f m old → FoundUpTo bodies f (m + 1) (old ++ record { caller = f; called = m } ∷ [])
 found_yes bodies f m old calls back o = record {
   each = λ other c. by_case other (Contains-push_cases old it other c);
@@ -206,7 +206,7 @@ pub found_next : (bodies : List (List PieceItem)) (f m : ℕ) (old new : List Re
 found_next bodies f m old new is put e o =
     subst (FoundUpTo bodies f (m + 1)) (sym put) (found_next_by bodies f m old (items_call (λ g. g == m) (get_or bodies f [])) (reaches bodies f (length bodies) m) is refl refl e o)
 
--- all calls of one function were looked at
+-- once all calls of one function were looked at, `FoundUpTo` holds up to the next function
 pub found_row : (bodies : List (List PieceItem)) (f m : ℕ) (found : List Recursion) → f < length bodies → length bodies ≤ m → FoundUpTo bodies f m found → FoundUpTo bodies (f + 1) 0 found
 found_row bodies f m found lt le o = record {
   each = o.each;
