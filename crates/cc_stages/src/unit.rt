@@ -45,7 +45,7 @@ struct Shown {
 #[derive(Drop)]
 struct Run {
     shown: Vec<Shown>,
-    // Their pieces, in order, up to the first function that is refused.
+    // Their pieces, in order; those of the whole unit if no function is refused.
     pieces: Vec<Piece>,
     // Why there is no image: the first refusal, or the refusal of the last function shown.
     refused: Option<PieceFault>,
