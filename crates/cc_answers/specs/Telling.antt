@@ -15,11 +15,11 @@ use Rattle.cc_answers.specs.Text.{line, fault_line}
 abbrev pub Tells : {T : Type 0} → (old new : Option (List ℕ)) (text : List ℕ) → Result T ScriptFault → Type 0
 Tells old new text result = IfErr result (λ fault. fault ≡ WriteFault) × OnOk result (Appends old new text)
 
--- the number of a receipt
+-- the line of a receipt: `ok` and its number
 abbrev pub number_text : ℕ → List ℕ
 number_text number = line (codes "ok " ++ decimal number)
 
--- the name of a unit
+-- the line of a unit: `unit` and its name
 abbrev pub unit_text : List ℕ → List ℕ
 unit_text name = line (codes "unit " ++ name)
 

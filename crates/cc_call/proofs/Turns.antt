@@ -171,7 +171,7 @@ module _ (image : Image) (counted : Bool) (steps : ℕ) where
     pub ends : (after : Option (List ℕ)) (bytes : List ℕ) → IsNextLine before after bytes false → CallsLines image counted steps input old mid end
     ends after bytes next = ended_by end refl (subst (λ (b : Option (List ℕ)). IsNextLine b after bytes false) called.remains next) called.so_far
 
-    -- how the lines end if the next one could not be read
+    -- if the next line could not be read, the lines end with the result of reporting that
     pub ends_unread : (new : Option (List ℕ)) (told : LinesEnd) → IsToldUnread mid new told → CallsLines image counted steps input old new told
     ends_unread new Refused why = (called.turns, called.left, mid, called.answers, inr (inr (inl why)))
     ends_unread new Unwritten why = tt

@@ -52,8 +52,8 @@ IsRefused turns left old new =
     ⊎ ((Appends old new (refusal_text 53) ⊎ Appends old new (refusal_text 40))
     ⊎ ((new ≡ old) × (length turns ≡ 2 ^ 64 - 1))))
 
--- What became of the lines of an input: each of them was a list of words, and its run was answered; or why that is not so; or an answer could not
--- be written.
+-- What became of the lines of an input: each of them was a list of words, and its run was answered; or what `IsRefused` says; or
+-- an answer could not be written.
 abbrev pub CallsLines : Image → (counted : Bool) (steps : ℕ) (input : List ℕ) (old new : Option (List ℕ)) → LinesEnd → Type 0
 CallsLines image counted steps input old new Answered =
     (turns : List LineTurn) × AnswersLines image counted steps input old turns [] new × (list_any is_bad turns ≡ false) × (list_any is_lack turns ≡ false)

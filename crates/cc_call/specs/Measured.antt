@@ -22,6 +22,6 @@ IsSizeOf mode unit (Left audit.Confirmed) = ⊥
 abbrev pub IsSizeOn : Mode → (seen name : List ℕ) → StoredSize → Type 0
 IsSizeOn mode seen name size = (unit : StoredUnit) × IsUnitOn seen name unit × IsSizeOf mode unit size
 
--- why nothing is measured: there is no such unit on the disk, or memory ran out
+-- why nothing is measured: the library is not opened, it has no such unit, or memory ran out
 abbrev pub IsUnmeasured : (honest : Bool) (seen : List ℕ) (before after : ℕ) (name : List ℕ) → PartFault → Type 0
 IsUnmeasured honest seen before after name fault = IsNoPartOn honest seen before after name fault

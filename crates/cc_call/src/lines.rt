@@ -18,7 +18,7 @@ use std::io::{self, BufRead, ErrorKind, Write};
 pub enum LineEnd {
     /// With the run on its words.
     Answered,
-    /// 50: it is not a list of words.
+    /// 50: the line is not a list of words.
     BadLine,
     /// 40: memory was refused.
     OutOfMemory,
@@ -117,7 +117,7 @@ fn tell_line<W: Write>(
     Ok(end)
 }
 
-// Says why the next line could not be read.
+// Writes why the next line could not be read.
 fn tell_unread<W: Write>(error: io::Error, writer: &mut W) -> LinesEnd
     ensures { IsToldUnread (W.contents writer.old) (W.contents writer.new) result }
 {

@@ -20,12 +20,12 @@ use cc_ltl::{Block, Ltl};
 use cc_rtl_language::Rtl;
 use std::alloc::{AllocError, Global};
 
-/// Webs are cut again at most this many times.
+/// Registers are chosen for cut webs at most this many times. After the last, no more webs are cut.
 const ROUNDS: u32 = 3;
 
-/// LTL for the function. Pseudo-registers share registers, and get slots only if the registers do not suffice. `live` should be
-/// the live sets; whatever it is, there is an answer. If something is too large for this allocator, the answer is that of
-/// `spill_all`. `Err` if memory runs out.
+/// LTL for the function. Pseudo-registers share registers, and get slots if the registers do not suffice or if a slot is
+/// cheaper. `live` should be the live sets; whatever it is, there is an answer. If something is too large for this allocator,
+/// the answer is that of `spill_all`. `Err` if memory runs out.
 pub fn colour(alloc: Global, rtl: &Rtl, live: &Liveness) -> Result<Ltl, AllocError> {
     let next = next_places(alloc, rtl)?;
     let weights = weights(alloc, next.as_slice())?;
@@ -95,7 +95,7 @@ fn is_cheap_to_cut(graph: &Graph, web: &Web) -> bool {
 }
 
 // Like `coloured_whole`, but with some webs cut; if none is cut, the pieces are the whole webs. If more webs should be cut, they
-// are marked, and the answer is None. If there are too many pieces, the answer is None and nothing is marked.
+// are marked, and the answer is None. If there are too many pieces, the answer is None, and no web is marked any more.
 fn coloured_cut(
     alloc: Global,
     whole: Known<'_>,

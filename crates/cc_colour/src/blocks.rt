@@ -424,7 +424,7 @@ impl Draft<'_> {
         operation_of(node, used)
     }
 
-    // The registers of an operation that may have any registers.
+    // The registers for an operation that can use any registers.
     fn used(&mut self, node: &Node) -> Used {
         let mut used = nothing_used();
         let [first, second] = operands(node);

@@ -158,7 +158,7 @@ impl Graph {
         Ok(())
     }
 
-    // Parameters are set all at once, before the entry.
+    // Adds what happens before the entry: all parameters are set at once.
     fn add_entry(&mut self, code: Code<'_>, at: usize) -> Result<(), AllocError> {
         for parameter in 0..code.shape.rtl.parameters().min(ARGUMENT_REGISTERS) {
             if let Some(web) = code.at(at, parameter) {

@@ -168,7 +168,7 @@ pub fn weights(alloc: Global, next: &[Next]) -> Result<Vec<u32>, AllocError> {
     Ok(weights)
 }
 
-// Whether some node leads back.
+// Whether some node leads to itself or to an earlier node.
 fn has_loop(next: &[Next]) -> bool {
     for (at, heads) in next.iter().enumerate() {
         for head in *heads {

@@ -67,7 +67,7 @@ impl<'a> Left<'a> {
         Ok(left)
     }
 
-    // Takes a web out. Answers whether it was still in.
+    // Takes a web out. Answers whether it had not been taken out before.
     fn take_out(&mut self, web: u32) -> Result<bool, AllocError> {
         match self.taken_out.get_mut(web as usize) {
             Some(out) if !*out => *out = true,

@@ -1,5 +1,5 @@
-// The commands that look into libraries in files, put back a unit of one, and copy one: `call`, `diff`, `log`, `restore` and `copy`; and what
-// they and `size` ask for.
+// The commands that look into libraries in files, put back a unit of a library, or copy a library: `call`,
+// `diff`, `log`, `restore` and `copy`; and what they and `size` ask for.
 
 ghost use Rattle.std.specs.Prelude.{◌≤◌, IfOk};
 ghost use Rattle.cc_command_line.specs.Work.{IsAllowed};
@@ -137,7 +137,7 @@ pub(crate) static COPY: Row = Row {
     help: COPY_HELP,
 };
 
-/// A unit that is to be run. It is in the library in a file.
+/// What `call` is to run: a unit of the library in a file.
 #[derive(Drop)]
 pub struct Calling {
     /// The path of the file.
@@ -208,7 +208,7 @@ pub enum Keeping {
     Copy(Copying),
 }
 
-// The input of the one run of `call`. With `--lines` there must be none.
+// The input of the one run of `call`. With `--lines` no word may be given.
 fn call_input_of(
     alloc: Global,
     given: &ArgMatches<'_>,

@@ -14,7 +14,7 @@ use cc_task::{Kind, Part, Task};
 use clap::ArgMatches;
 use std::alloc::Global;
 
-/// The most commands whose records a library can have.
+/// The largest number of commands whose records a library can have.
 pub(crate) const MOST_COMMANDS: u64 = 1_073_741_824;
 
 pub(crate) const AT_RULE: &str = "K is the number of a line of `cclib log DISK`, from 1 on";
@@ -109,7 +109,7 @@ pub struct Wanted {
     pub name: String,
     /// Which part is wanted.
     pub part: Part,
-    /// The number of the command that stored it, if that is asked for in place of what the library has now.
+    /// The number of the command that stored the wanted unit; `None` for the unit that the library has now.
     pub at: Option<u64>,
 }
 

@@ -17,7 +17,7 @@ use std::io::{self, Write};
 /// How often a line was reached; `None` if the line has nothing to execute.
 type Reached = Option<u64>;
 
-// Keeps the higher count of a line.
+// Raises a line's count to this one, if this one is higher.
 fn reach(counts: &mut Vec<Reached>, line: usize, count: u64) {
     if let Some(place) = counts.get_mut(line) {
         *place = Some(match *place {
@@ -143,7 +143,7 @@ enum NotCounted {
     OutOfMemory,
 }
 
-// Counts a run that has this outcome in the interpreter's answer.
+// Counts a run whose outcome is this one by the interpreter's answer.
 fn count_outcome(
     alloc: Global,
     unit: &Unit,

@@ -132,7 +132,7 @@ fn number_of(why: &NoInputs) -> u32 {
     }
 }
 
-// Writes the fault line, and explains it.
+// Writes the fault's line, and explains the fault.
 fn refuse_inputs<W: Write, E: Write>(name: &str, why: &NoInputs, writer: &mut W, told: &mut E) {
     let written = write_fault_line(number_of(why), Stands::Nowhere, b"", writer);
     if written.is_ok() && writer.flush().is_ok() {
@@ -238,8 +238,8 @@ pub fn cover_files<R: AllocGlobal + Input, F: Files, W: Write, E: Write + Drop>(
 }
 
 /// Runs the program as `cover_files` does, once for the words of each line of a file; `seen` gets a newline for each run. The
-/// fault is 50 if a line of the file is not a list of words, 53 if the file can't be read, and 52 if it has more than
-/// 16,777,216 bytes.
+/// fault is 50 if a line of the file is not a list of words, 53 if the file can't be read or is the standard input that has
+/// the program, and 52 if it has more than 16,777,216 bytes.
 pub fn cover_lines<R: AllocGlobal + Input, F: Files, S: Write, W: Write, E: Write + Drop>(
     rt: &R,
     files: &F,

@@ -28,7 +28,7 @@ struct Found {
 
 /// A search for errors: the text with its tree, its declarations at file scope, and its copy; the names that the text declares
 /// twice; the number and the offset of the fault that was mended last, and the offset of the last one that was reported;
-/// whether 19 or 20 was found, which come after all others; and the reports.
+/// whether NoMain (19) or Undefined (20) was found, which come after all other faults; and the reports.
 #[derive(Drop)]
 struct Search<'a> {
     unit: &'a Unit,
@@ -42,7 +42,7 @@ struct Search<'a> {
     told: Vec<Diagnostic>,
 }
 
-// Whether a name is used here, and not declared.
+// Whether a name is used here rather than declared.
 fn is_use(done: Use) -> bool {
     match done {
         Use::Read | Use::Indexed | Use::Written | Use::Called(_) => true,

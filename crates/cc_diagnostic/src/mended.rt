@@ -93,13 +93,13 @@ impl Mended {
         }
     }
 
-    // Whether a token is this word with another first letter.
+    // Whether a token is this word with `letter` in place of its first letter.
     fn is(&self, token: Token, letter: u8, word: &[u8]) -> bool {
         let bytes = self.text.get(token.from..token.to).unwrap_or(b"");
         bytes.first() == Some(&letter) && tail(bytes) == tail(word)
     }
 
-    // Whether this word occurs in the text with another first letter.
+    // Whether this word, with `letter` in place of its first letter, occurs in the text.
     fn has(&self, tokens: &[Token], letter: u8, word: &[u8]) -> bool {
         for token in tokens {
             if self.is(*token, letter, word) {

@@ -233,8 +233,8 @@ fn written<'a>(
     }
 }
 
-/// Returns the instructions into which a unit's tree is translated for a second run. `None` for a text without tokens, which no
-/// unit has.
+/// Returns the instructions into which a unit's tree is translated for a second run. `None` for a text that cannot be split
+/// into tokens, which no unit has.
 ///
 /// Fails with `AllocError` if memory runs out.
 pub fn code_of(alloc: Global, unit: &Unit) -> Result<Option<Bytecode<'_>>, AllocError> {

@@ -218,7 +218,7 @@ write_same : (x : List ℕ) (i w : ℕ) (gs : List Global) → AreOfWords gs →
 write_same x i w [] h = refl
 write_same x i w (g ∷ rest) h = written_same x i w g rest (same_name g.name x) h.0 (write_same x i w rest h.1)
 
--- if one of two objects of the same sizes is of words, so is the other
+-- these parts of a list of sizes show that objects of the same sizes as objects of words are of words too
 abbrev first_width : List NamedSize → Width
 first_width [] = Word
 first_width (z ∷ zs) = z.width

@@ -140,7 +140,7 @@ fn is_among(unit: &TypedUnit, numbers: &[usize], name: &[u8]) -> bool {
     false
 }
 
-// Adds what may go wrong in the functions that need a guard, after what is there.
+// Adds what may go wrong in the functions that need a guard, after the lines that are there already.
 fn add_places(
     alloc: Global,
     lines: &mut Vec<Unsure>,
@@ -181,7 +181,7 @@ fn has_line(lines: &[Unsure], name: &[u8]) -> bool {
     false
 }
 
-// A line for each function that needs a guard and has none yet.
+// A line for each function that needs a guard and has no line yet.
 fn add_others(
     alloc: Global,
     lines: &mut Vec<Unsure>,

@@ -34,7 +34,7 @@ data_first base offset bytes text cells h few low others = record {
   contents = ap (λ found. found >>= λ rest. Some (cells_from (base + offset) bytes ++ rest)) others.contents;
 }
 
--- a record before a text moves the base address of the text
+-- a record of an upper half, put before a text, moves the base address of the text
 base_first : (base upper : ℕ) (text : List ℕ) (cells : List AddressedByte) → upper < 65536 → Tells (65536 * upper) text cells →
     Tells base (record_line 4 0 (to_be_bytes w16 upper) ++ text) cells
 base_first base upper text cells low others =

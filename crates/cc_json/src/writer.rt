@@ -20,8 +20,8 @@ pub enum LineKind {
     Told,
 }
 
-/// A writer of lines. Each line becomes an object of JSON on a line of its own. An incomplete line becomes an object when it is
-/// flushed.
+/// A writer of lines. Each line becomes an object of JSON on a line of its own. An incomplete line becomes an object when the
+/// writer is flushed.
 #[derive(Drop)]
 pub struct InJson<W: Drop> {
     alloc: Global,

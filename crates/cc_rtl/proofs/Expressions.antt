@@ -63,7 +63,7 @@ module _ (nodes : Graph) (count : ℕ) where
   pub node_goes : (l : ℕ) (r : Registers) (h : World) (n : rtl.Node) (d : Configuration) → nodes l ≡ Some n → node_move n r h ≡ Goes d → Way (at l r h) 1 d
   node_goes l r h n d e go = (d, ap (λ x. tried x (λ node. node_move node r h)) e ∙ go, (refl, refl))
 
-  -- registers hold the variables
+  -- the registers of the variables hold their words
   abbrev pub Holds : (ℕ → ℕ) → Registers → Type 0
   Holds l r = (x : ℕ) → x < count → r x ≡ l x
 

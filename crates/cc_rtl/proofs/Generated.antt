@@ -103,7 +103,7 @@ module _ (count : ℕ) where
       (TwoHeld a b free (register a free) (register b (taken a free)) n) y o (omega arith)
       (λ more (free'', k, held_b, stands) held_a. (taken a free, next.entry, free'', k, held_a, held_grows _ _ more count b _ _ (into_grows _ _ more count b) (taken a free) (register b (taken a free)) free'' next.entry k held_b, more _ _ stands))
 
-  -- the claim with another count, or with a larger limit
+  -- `Right` also holds of a claim that follows, with an equal limit
   weaker : (g : Places) (m : Made) (c most : ℕ) (P Q : Graph → ℕ → Type 0) → Right g m c P → c ≡ most → (P (place_at m.places) m.entry → Q (place_at m.places) m.entry) → Right g m most Q
   weaker g m c most P Q x le f = record { rest = x.rest; prefix = x.prefix; few = let a = x.few in omega arith; claim = f x.claim }
 

@@ -130,7 +130,7 @@ no_deeper measure xs i x lt is =
     let at_place : x ≡ get_or xs (length xs - 1 - i) x = is ∙ get_or-reverse xs i x (omega arith) in
     subst (λ y. measure y ≤ most measure xs) (sym at_place) (at_most measure xs (length xs - 1 - i) x (omega arith))
 
--- the statement that an iterator gives next
+-- the statements that are left begin with the one that an iterator gives next
 pub next_left : (all : List Statement) (i : ℕ) (s : Statement) → i < length all → s ≡ get_or all i s → drop i all ≡ s ∷ drop (i + 1) all
 next_left all i s lt is = drop-cons all i s lt ∙ ap (λ y. y ∷ drop (suc i) all) (sym is) ∙ ap (λ k. s ∷ drop k all) (let k : suc i ≡ i + 1 = omega arith in k)
 

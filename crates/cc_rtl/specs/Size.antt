@@ -1,4 +1,4 @@
--- How many nodes a function of Cminor needs in RTL: what `FunctionTooLarge` is about.
+-- How many nodes a function of Cminor needs in RTL: what decides whether `FunctionTooLarge` comes.
 use Rattle.std.specs.Prelude.{ℕ, suc, ◌+◌, List, [], ◌∷◌, Option, Some, None}
 use Rattle.cc_cminor.specs.Cminor.{Expression, Constant, Local, Unary, Binary, Load, Statement, Skip, Set, Store, Call, Read, Write, Sequence, If, Loop, Block, Exit, Return}
 

@@ -49,7 +49,7 @@ fn room_behind_operands(es: &[Expression], room: u32) -> Option<u32>
     Some(left)
 }
 
-// How much room is left after a node with one operand; then, after one with two.
+// How much room is left after a node with one operand. The next function does the same for two operands.
 fn room_behind_one(e: &Expression, room: u32) -> Option<u32>
     ensures { MatchOption result (room < 1 + operand_nodes (expression_of e.now)) (λ left. left + (1 + operand_nodes (expression_of e.now)) ≡ room) }
 {

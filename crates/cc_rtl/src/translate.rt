@@ -32,8 +32,8 @@ fn parameters_of(pair: &CminorPair) -> u32
 /// Translates a function to RTL. The value of an expression is put directly into the variable that is set, and a condition's
 /// comparison comes directly before its branch; labels ascend in the code's order.
 ///
-/// Fails with `FunctionTooLarge` (22) exactly if the function would have more than 4,096 nodes, for which it must have more
-/// than 3,072 statements and expressions; and with `OutOfMemory` (40) if memory runs out. An error drops the pair.
+/// Fails with `FunctionTooLarge` (22) exactly if the function would have more than 4,096 nodes, which takes more than 3,072
+/// statements and expressions; and with `OutOfMemory` (40) if memory runs out. An error drops the pair.
 pub fn to_rtl(alloc: Global, pair: CminorPair) -> Result<RtlPair, RtlFault>
     ensures mode { IfOk result (λ made. made.mode ≡ pair.mode) }
     ensures unit { IfOk result (λ made. made.unit ≡ pair.unit) }

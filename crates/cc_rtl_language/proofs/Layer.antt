@@ -15,7 +15,7 @@ use Rattle.cc_c_semantics.specs.declared.mode.Mode.{Mode}
 use Rattle.cc_rtl_language.specs.Pair.{KeepsUp, FollowsFunction}
 use Rattle.cc_rtl_language.specs.internal.Moves.{Graph, graph_move}
 
--- what a move preserves of the output so far
+-- a move keeps to the output so far: `IsLayer` for this one move
 abbrev Layered : (o : List ℕ) → Move Configuration → Type 0
 Layered o (Goes d) = IsPrefixOf o (rtl_output d)
 Layered o (Calls q resume) = (q.world.output ≡ o) × ((a : Answer) → rtl_output (resume a) ≡ a.world.output)

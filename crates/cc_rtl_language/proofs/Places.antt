@@ -35,7 +35,7 @@ pub length_labelled : (ns : List (Entry Node)) → length (labelled_of ns) ≡ l
 length_labelled [] = refl
 length_labelled (n ∷ ns) = ap suc (length_labelled ns)
 
--- what is under a label
+-- the node at a label is the one that the list has under that label
 pub node_of_label : (es : List (Entry Node)) (l : ℕ) → node_at (labelled_of es) l ≡ option_map node_of (item_at l es)
 node_of_label [] l = refl
 node_of_label (e ∷ es) l =

@@ -20,7 +20,7 @@ reads (Write from next) = from ∷ []
 reads (Branch from _ _) = from ∷ []
 reads (Return from) = from ∷ []
 
--- the register of a pure node, which only puts a word into it, unless it goes wrong
+-- the register of a pure node, one that only puts a word into this register, unless the node goes wrong
 abbrev pub pure_result : Node → Option ℕ
 pure_result (Const to word next) = Some to
 pure_result (Move to from next) = Some to
@@ -77,7 +77,7 @@ as_nop (Binary operator to left right next) = Nop next
 as_nop (Load width object to index next) = Nop next
 as_nop node = node
 
--- A nop is pure too, and has no result.
+-- Whether a node is a nop, which is pure too and has no result.
 abbrev pub is_nop : Node → Bool
 is_nop (Nop next) = true
 is_nop node = false

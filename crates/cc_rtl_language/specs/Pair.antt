@@ -26,7 +26,7 @@ pub record Pair : Type 0 where
 abbrev pub tree_of : Pair → List External
 tree_of p = (source p.unit).externals
 
--- a call is that of a function of the unit, with as many arguments as this function has parameters
+-- if the node is a call, it calls a function of the unit, with as many arguments as this function has parameters
 abbrev pub IsCallOf : List External → Node → Type 0
 IsCallOf unit (Nop next) = Unit {0}
 IsCallOf unit (Const to word next) = Unit {0}

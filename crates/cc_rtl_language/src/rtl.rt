@@ -18,8 +18,8 @@ use std::alloc::{AllocError, Global};
 use std::marker::Model;
 
 /// A function: how many parameters it has (the first pseudo-registers), the label of the node that it begins with, and its nodes.
-/// There are at most 4,096 nodes, whose labels are the numbers from 0 on. Each node leads to nodes, and the first is a nop that
-/// no node leads to. Clauses see these parts.
+/// There are at most 4,096 nodes, whose labels are the numbers from 0 on. Each node leads to nodes, and the one at the entry is a
+/// nop that no node leads to. Clauses see these parts.
 pub struct Rtl {
     parameters: u32,
     entry: u32,

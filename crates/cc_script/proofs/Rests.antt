@@ -42,7 +42,7 @@ consumed_on (Some bytes) (Some rest) None prefix back one two = two
 consumed_on (Some bytes) (Some rest) (Some later) prefix back one two =
     one ∙ (ap (λ (l : List ℕ). prefix ++ l) two ∙ sym (append_assoc prefix back later))
 
--- no bytes are handed out
+-- if what is left stays as it is, no bytes were handed out
 pub consumed_none : (before : Option (List ℕ)) → Consumes before before []
 consumed_none None = tt
 consumed_none (Some bytes) = refl

@@ -90,7 +90,7 @@ module _ {C : Type 0} (move : C → Move C) (output : C → List ℕ) (effect : 
   covers n b d a (Ended r) e ok m lt = covers_ended b d a r e m (comparable move output effect laws b.0 d.0 b.1 d.1 start)
   covers n b d a Wrong e ok m lt = absurd ok
 
-  -- the cut (k, j) is covered by the source at k + j + 1 steps
+  -- the cut (k, j) is covered by the source at rate * (k + j + 1) + 1 steps
   abbrev bound : ℕ × ℕ → ℕ
   bound b = suc (rate * suc (b.0 + b.1))
 

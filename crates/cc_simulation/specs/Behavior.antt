@@ -1,5 +1,5 @@
 -- What a bounded run shows, and when one behavior follows another. A behavior is a function from a bound to an outcome. A bound
--- is a number of steps of the source, a number of instructions, or a number of moves and one of steps in calls.
+-- is a number of steps of the source, a number of instructions, or a number of moves with a number of steps in calls.
 use Rattle.std.specs.Prelude.{◌≡◌, ℕ, ◌^◌, ◌<◌, ◌≤◌, List, [], ◌∷◌, ◌++◌}
 
 -- each number is a word

@@ -23,8 +23,8 @@ Later more (Gives a left) z = z ≡ Gives a (left + more)
 Later more (Unfinished o) z = IsPrefixOf o (written_by z)
 Later more (Failed o) z = z ≡ Failed o
 
--- a unit's meaning: `call n opened f ws h` is a call of function f within n steps while this many calls are open; `body` is what
--- the function does after the call's own step
+-- a unit's meaning: `call n opened f ws h` is a call of function f within n steps while `opened` calls are open; `body` is what the
+-- function does after the call's own step
 pub record Meaning : Type 0 where
   -- how many functions there are, and how many parameters each has
   pub functions : ℕ

@@ -5,8 +5,8 @@ use Rattle.cc_simulation.specs.World.{World, Question, Answer, Effect, Gives, Un
 use Rattle.cc_simulation.specs.Run.{Move, run, work}
 use Rattle.cc_simulation.specs.Meaning.{Meaning, most_open, IsCall, call_effect}
 
--- What a run that has done this much must show, given the source's effect within n steps: the same end or the same output so far,
--- and enough work. Each move, and each step in a call, pays for at most `rate` steps of the source, and one rate may be
+-- What a run that has done this much must show, given the source's effect within n steps: the same end or the same output so far, and
+-- enough work. Each move, and each step in a call, pays for at most `rate` steps of the source, and up to `rate` steps may be
 -- outstanding. So a loop cannot be dropped, but a run may be slow. If the source goes wrong, nothing is required.
 abbrev pub Keeps : (rate n : ℕ) → Effect → (done : ℕ) → Outcome Answer → Type 0
 Keeps rate n (Gives a left) done z = (z ≡ record { stop = Ended a; output = a.world.output }) × (n ≤ left + rate * suc done)

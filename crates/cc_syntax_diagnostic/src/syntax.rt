@@ -49,7 +49,7 @@ fn add_list(message: &mut String, list: &[&str]) -> Result<(), AllocError> {
     Ok(())
 }
 
-// The tokens of a text; an empty list if the text has none.
+// The tokens of a text; an empty list if it cannot be split into tokens.
 fn tokens_of(alloc: Global, text: &[u8]) -> Result<Vec<Token>, AllocError> {
     match tokens(alloc, text) {
         Ok(found) => Ok(found),

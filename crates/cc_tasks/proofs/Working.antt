@@ -27,7 +27,7 @@ pub refused_by : {T E U : Type 0} (write : Result T E) (done : U) (a b c : Optio
 refused_by (Ok d) done a b c fault text one two = inr (refl, Appends-kept a b c _ one two)
 refused_by (Err e) done a b c fault text one two = absurd two
 
--- what `tell` promises if an answer was written
+-- if the text of a task's answer was written, what `tell` promises holds
 pub told_answer : (answer : Result Matter Fault) (task : Task) (text : List ℕ) (a b : Option (List ℕ)) (it : Answer) → Answers task text it → Writes a b (answer_text it) answer → IfOk answer (λ m. matter_status m ≡ answer_status it)
     → TellsOf task text a b answer
 told_answer (Ok matter) task text a b it is written same = (record { answer = it; answers = is; written = written }, same)
@@ -102,7 +102,7 @@ of_fault task input a b status OutOfMemory (inr is) it = inr (it, (OutOfMemory, 
 of_fault task input a b status Read (inl e) it = absurd (cc)
 of_fault task input a b status Read (inr is) it = inr (it, (Read, is))
 
--- the status of a task that was done, and whether all is written
+-- a task that was done was performed, with that status, and with all written if `written` says so
 pub performed : (answer : Result Matter Fault) (task : Task) (input a b : Option (List ℕ)) (status : ℕ) (written : Bool) → IsDoneFor task input a b answer → status ≡ status_of answer → written ≡ written_of answer
     → IsPerformed task input a b status written
 performed (Ok matter) task input a b status written is it whole = subst (λ (w : Bool). IsPerformed task input a b status w) (sym whole) (inl (is.0, it ∙ is.1))

@@ -84,7 +84,7 @@ fn further_of(alloc: Global, text: &[u8], fault: &Fault) -> Vec<Diagnostic> {
 }
 
 /// The explanation of a fault of a text: its place, what was found there and what was expected. After a fault of scope or type
-/// come the further ones; with the first, at most twenty. Diagnostics for which memory runs out are left out.
+/// come the further errors; with the first, at most twenty. Diagnostics for which memory runs out are left out.
 pub fn explanation_of_fault(alloc: Global, text: &[u8], fault: &Fault) -> Explanation {
     let words = words_of_task(fault.number());
     if words.is_some() {

@@ -54,7 +54,8 @@ impl From<AllocError> for Fault {
 }
 
 impl Fault {
-    /// The number of the fault: 1 to 7, 11 to 22, 24, 25, 40, 53, 54 or 59.
+    /// The number of the fault: 1 to 7, 11 to 22, 24, 25, 40, 53, 54 or 59; or 26 to 28 of a `LinkFault`,
+    /// which no task has.
     pub fn number(&self) -> u32
         ensures { result ≡ fault_number self.now }
     {

@@ -28,7 +28,7 @@ fn refuse_unread<W: Write, E: Write>(
 }
 
 /// The texts of the files with these names. `None` if a file could not be read: then 53 is written, and the explanation says
-/// which file it was and why. The error is lack of memory.
+/// which file it was and why. `Err` if memory runs out.
 pub fn read_or_refuse<R: AllocGlobal + Input, F: Files, W: Write, E: Write>(
     rt: &R,
     files: &F,

@@ -48,7 +48,7 @@ pub enum Event<'a> {
     Write(usize, u32),
 }
 
-/// How often each instruction ran, and each function was entered.
+/// How often each instruction ran, and how often each function was entered.
 #[derive(Drop)]
 pub struct Counts {
     pub instructions: Vec<u64>,

@@ -48,7 +48,7 @@ module _ (moves : List Move) (origins : List ℕ) (m : Move) (to : IsPlace (targ
   abbrev next : List ℕ
   next = set origins (number (target m)) (get_or origins (number (source m)) 0)
 
-  -- the table's entry for a location is now its old entry for the location with which the move replaces it
+  -- the new entry of a location is the old entry of the location that an equation on it has before the move
   said : (e : Equation) → IsPlace e.location → IsPlace (before_move m e).location × (get_or next (number e.location) 0 ≡ get_or origins (number (before_move m e).location) 0)
   said e h = go (same_location (target m) e.location) refl
     where
@@ -111,7 +111,7 @@ sent_more from origins old new r c h more = record { there = there; only = only 
 abbrev Columns : (old : Table) (r c : ℕ) → (i j : ℕ) → Type 0
 Columns old r c i j = ((i < r) ⊎ ((i ≡ r) × (j < c))) × IsTrue (has old i j)
 
--- one more column: its bit is set, or its bit is clear
+-- `AreSent` holds with one more column, if its bit is set; then, if its bit is clear
 pub column_sent : (old : Table) (origins : List ℕ) (r c : ℕ) (mid new : Table) → has old r c ≡ true → ((i j : ℕ) → has new i j ≡ ((r == i && get_or origins c 0 == j) || has mid i j))
     → AreSent (Columns old r c) origins mid → AreSent (Columns old r (c + 1)) origins new
 column_sent old origins r c mid new set more h = sent_as (λ i k. Columns old r c i k ⊎ ((i ≡ r) × (k ≡ c))) (Columns old r (c + 1)) origins new to from (sent_more (Columns old r c) origins mid new r c h more)

@@ -79,7 +79,7 @@ made count (Block a) exit exits g = made count a exit (exit ∷ exits) g
 made count (Exit k) exit exits g = record { entry = get_or exits k exit; places = g }
 made count (Return e) exit exits g = operand e count (pushed (rtl.Return (register e count)) g)
 
--- the whole function: return, 0 before it, the body, and the entry
+-- the whole function, made from its end: the return, the constant 0 before it, the body, and the entry
 abbrev pub made_function : (count : ℕ) → Statement → Made
 made_function count body =
     let b = made count body 1 [] (Some (rtl.Return count) ∷ Some (rtl.Const count 0 0) ∷ []) in

@@ -7,7 +7,7 @@ use Rattle.cc_rtl_language.specs.Code.{node_of}
 use Rattle.cc_rtl_language.specs.declared.node.Node as declared
 use Rattle.cc_rtl.specs.internal.Generate.{Places, Made, register, taken, made_function, nodes_back, labelled_from}
 
--- the places; the last one comes first in the list that has them
+-- the places of a list's entries, the last place first in that list
 abbrev pub places_of : List (Entry (Option declared.Node)) → Places
 places_of [] = []
 places_of (e ∷ es) = places_of es ++ option_map node_of e.item ∷ []

@@ -147,7 +147,7 @@ pub fn operands(
     }
 }
 
-/// Adds the registers that hold arguments.
+/// Adds the register that holds each argument.
 pub fn hold(held: &mut SmallVec<u32, 8>, es: &[Expression], free: u32) -> Result<(), AllocError>
     requires registers { free + 1 + operands_nodes (expressions_of es.now) < 2 ^ 32 }
     requires numbers { ExpressionsBelow most_variables (expressions_of es.now) }

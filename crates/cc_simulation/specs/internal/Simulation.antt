@@ -19,7 +19,7 @@ module _ {C D : Type 0} (old : C → Move C) (old_output : C → List ℕ) (new 
     pub way : Way new new_output moves d to
     pub related : Related c to
 
-  -- at most `wide` moves of the new language, then the same call, and after every answer the two runs are related
+  -- at most `wide` moves of the new language lead to the same call, and after every answer the two runs are related
   pub record Asks (Related : C → D → Type 0) (wide : ℕ) (q : Question) (resume : Answer → C) (d : D) : Type 0 where
     pub moves : ℕ
     pub to : D
@@ -29,7 +29,7 @@ module _ {C D : Type 0} (old : C → Move C) (old_output : C → List ℕ) (new 
     pub calls : new to ≡ Calls q resume'
     pub related : (a : Answer) → Related (resume a) (resume' a)
 
-  -- at most `wide` moves of the new language, then the same return, with the same output
+  -- at most `wide` moves of the new language lead to the same return, with the same output
   pub record Ending (wide : ℕ) (r : Answer) (o : List ℕ) (d : D) : Type 0 where
     pub moves : ℕ
     pub to : D

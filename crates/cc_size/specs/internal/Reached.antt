@@ -33,7 +33,7 @@ pub record FoundUpTo (bodies : List (List PieceItem)) (caller called : ℕ) (fou
   pub each : (it : Recursion) → Contains found it → IsCyclic bodies it
   pub all : (it : Recursion) (cycle : IsCyclic bodies it) → length cycle.way ≤ length bodies → (it.caller < caller) ⊎ ((it.caller ≡ caller) × (it.called < called)) → Contains found it
 
--- a list of this call, if it is part of a cycle; else the empty list
+-- the list with this call alone, if it is part of a cycle; else the empty list
 abbrev pub added : (is : Bool) → (caller called : ℕ) → List Recursion
 added true f g = record { caller = f; called = g } ∷ []
 added false f g = []

@@ -8,7 +8,7 @@ use Rattle.cc_findings.specs.declared.sizing.CyclicCall.{CyclicCall}
 use Rattle.cc_findings.proofs.Placing.{each_more}
 use Rattle.cc_findings.proofs.sizing.cycles.Goals as goal
 
--- what is read past the end
+-- the call that is read past the end of a list
 abbrev none : Recursion
 none = record { caller = 0; called = 0 }
 

@@ -8,7 +8,7 @@ use Rattle.cc_findings.specs.declared.sizing.SizedFunction.{SizedFunction}
 use Rattle.cc_findings.proofs.Placing.{place_next, each_more}
 use Rattle.cc_findings.proofs.sizing.functions.Goals as goal
 
--- what is read past the end
+-- the size that is read past the end of a list
 abbrev none : FunctionSize
 none = record { words = 0; frame = 0; stack = 0; calls = 0 }
 
