@@ -50,10 +50,14 @@ impl Shape<'_> {
 
 /// The places to which each node leads. `Err` if memory runs out.
 pub fn next_places(alloc: Global, rtl: &Rtl) -> Result<Vec<Next>, AllocError> {
-    let mut all = Vec::with_capacity(alloc, rtl.len())?;
-    for at in 0..rtl.len() {
-        let (first, second) = labels(rtl.node(at));
-        all.push([place_of(rtl, first), place_of(rtl, second)])?;
+    let graph = rtl.graph(alloc)?;
+    let mut all = Vec::with_capacity(alloc, graph.len())?;
+    for at in 0..graph.len() {
+        all.push(match graph.successors(at) {
+            [] => [None, None],
+            [next] => [Some(*next), None],
+            [nonzero, zero, ..] => [Some(*nonzero), Some(*zero)],
+        })?;
     }
     Ok(all)
 }
@@ -78,33 +82,6 @@ fn lead_to(sole: &mut [Option<usize>], is_led_to: &mut [bool], at: usize, place:
     {
         *before = if *is_led_to { None } else { Some(at) };
         *is_led_to = true;
-    }
-}
-
-// The place that has this label: a place and its label are the same number.
-fn place_of(rtl: &Rtl, label: Option<u32>) -> Option<usize> {
-    let place = label? as usize;
-    if place < rtl.len() { Some(place) } else { None }
-}
-
-fn labels(node: &Node) -> (Option<u32>, Option<u32>) {
-    match node {
-        Node::Nop { next }
-        | Node::Const { next, .. }
-        | Node::Move { next, .. }
-        | Node::Unary { next, .. }
-        | Node::Binary { next, .. }
-        | Node::Load { next, .. }
-        | Node::Store { next, .. }
-        | Node::Call { next, .. }
-        | Node::Read { next, .. }
-        | Node::Write { next, .. } => (Some(*next), None),
-        Node::Branch {
-            if_nonzero,
-            if_zero,
-            ..
-        } => (Some(*if_nonzero), Some(*if_zero)),
-        Node::Return { .. } => (None, None),
     }
 }
 

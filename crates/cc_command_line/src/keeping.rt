@@ -11,7 +11,7 @@ use crate::given::{
 };
 use crate::refused::Refused;
 use crate::row::{Form, Row, Word};
-use crate::unit::{AT_RULE, MOST_COMMANDS};
+use crate::unit::COMMANDS;
 use cc_task::Kind;
 use clap::ArgMatches;
 use std::alloc::Global;
@@ -267,7 +267,7 @@ pub(crate) fn log_of(alloc: Global, given: &ArgMatches<'_>) -> Result<Work, Refu
 pub(crate) fn restore_of(alloc: Global, given: &ArgMatches<'_>) -> Result<Work, Refused>
     ensures { IfOk result IsAllowed }
 {
-    let number = number_of(given, "K", 1, MOST_COMMANDS, AT_RULE)?;
+    let number = number_of(given, "K", COMMANDS)?;
     let Unit { disk, name } = unit_of(alloc, given)?;
     Ok(Work::Keep(Keeping::Restore(Restoring { disk, name, number })))
 }

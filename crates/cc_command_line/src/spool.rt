@@ -6,8 +6,8 @@ ghost use Rattle.cc_command_line.specs.Work.{IsAllowed};
 use crate::command_line::Work;
 use crate::files::FILE;
 use crate::given::{
-    ALL_CHECKED, DISK, FORMAT, WORKERS, area_if_given, kind_of, number_if_given, number_of,
-    path_of, workers_of,
+    ALL_CHECKED, Allowed, DISK, FORMAT, WORKERS, area_if_given, kind_of, number_if_given,
+    number_of, path_of, workers_of,
 };
 use crate::refused::Refused;
 use crate::row::{Form, Row, Word};
@@ -15,33 +15,21 @@ use cc_task::Kind;
 use clap::ArgMatches;
 use std::alloc::{AllocError, Global};
 
-/// A server has at most this many clients: scripts that are run at a time.
-const MOST_CLIENTS: u64 = 64;
+/// How many clients a server has: scripts that are run at a time.
+const CLIENTS: Allowed = Allowed(1, 64, "N is a decimal number from 1 to 64");
 
-/// A server keeps answers for at most this many days.
-const MOST_DAYS: u64 = 3650;
+/// For how many days a server keeps answers.
+const DAYS: Allowed = Allowed(1, 3650, "DAYS is a decimal number from 1 to 3650");
 
-/// The number of bytes above which a server removes old answers is at least this: 1 MiB.
-const LEAST_DONE: u64 = 1_048_576;
+/// Up to how many bytes a server keeps answers before it removes old ones: from 1 MiB to 1 TiB.
+const DONE_BYTES: Allowed = Allowed(
+    1_048_576,
+    1_099_511_627_776,
+    "BYTES is a decimal number from 1048576 to 1099511627776",
+);
 
-/// The number of bytes above which a server removes old answers is at most this: 1 TiB.
-const MOST_DONE: u64 = 1_099_511_627_776;
-
-/// A script may be at work for at most this many seconds while others wait.
-const MOST_PATIENCE: u64 = 86_400;
-
-/// A script waits for a server for at most this many seconds.
-const MOST_WAIT: u64 = 86_400;
-
-const CLIENTS_RULE: &str = "N is a decimal number from 1 to 64";
-
-const KEEP_RULE: &str = "DAYS is a decimal number from 1 to 3650";
-
-const DONE_RULE: &str = "BYTES is a decimal number from 1048576 to 1099511627776";
-
-const PATIENCE_RULE: &str = "SECONDS is a decimal number from 1 to 86400";
-
-const WAIT_RULE: &str = "SECONDS is a decimal number from 1 to 86400";
+/// How many seconds a script may be at work while others wait, and how many a script waits for a server.
+const SECONDS: Allowed = Allowed(1, 86_400, "SECONDS is a decimal number from 1 to 86400");
 
 const WAS_RULE: &str =
     "`update NAME` takes --was OLDFILE, a file with the source that is to be replaced, and no other line does";
@@ -210,10 +198,10 @@ fn limits_of(given: &ArgMatches<'_>) -> Result<Limits, Refused>
     ensures { IfOk result (λ limits. (1 ≤ limits.clients) × (limits.clients ≤ 64) × (1 ≤ limits.keep) × (limits.keep ≤ 3650)
         × (1048576 ≤ limits.done) × (limits.done ≤ 1099511627776) × (1 ≤ limits.patience) × (limits.patience ≤ 86400)) }
 {
-    let clients = number_of(given, "clients", 1, MOST_CLIENTS, CLIENTS_RULE)?;
-    let keep = number_of(given, "keep", 1, MOST_DAYS, KEEP_RULE)?;
-    let done = number_of(given, "done", LEAST_DONE, MOST_DONE, DONE_RULE)?;
-    let patience = number_of(given, "patience", 1, MOST_PATIENCE, PATIENCE_RULE)?;
+    let clients = number_of(given, "clients", CLIENTS)?;
+    let keep = number_of(given, "keep", DAYS)?;
+    let done = number_of(given, "done", DONE_BYTES)?;
+    let patience = number_of(given, "patience", SECONDS)?;
     Ok(Limits {
         clients: clients as usize,
         keep: keep as u32,
@@ -253,7 +241,7 @@ pub(crate) fn serve_of(alloc: Global, given: &ArgMatches<'_>) -> Result<Work, Re
 fn wait_of(given: &ArgMatches<'_>) -> Result<Option<u32>, Refused>
     ensures { IfOk result (λ wait. IfSome wait (λ seconds. (1 ≤ seconds) × (seconds ≤ 86400))) }
 {
-    match number_if_given(given, "wait", 1, MOST_WAIT, WAIT_RULE) {
+    match number_if_given(given, "wait", SECONDS) {
         Ok(Some(seconds)) => Ok(Some(seconds as u32)),
         Ok(None) => Ok(None),
         Err(refused) => Err(refused),

@@ -1,15 +1,10 @@
 // Which units are copied.
 
-ghost use Rattle.std.specs.Prelude.{◌≡◌, Some, IfOk, IfErr, OnOk};
-ghost use Rattle.std.specs.Arc.{arc_value};
-ghost use Rattle.cc_library.specs.Apply.{after};
-ghost use Rattle.cc_library.specs.declared.command.Change.TheVariants as command;
+ghost use Rattle.std.specs.Prelude.{IfOk, IfErr};
 ghost use Rattle.cc_copy.specs.Choice.{IsChosen, IsNotChosen};
 
-use cc_library::{LibraryCommand, Name, SharedUnit, UnitMap};
-use cc_unit::StoredUnit;
-use std::alloc::{AllocError, Global};
-use std::sync::Arc;
+use cc_library::{Name, UnitMap};
+use std::alloc::Global;
 
 /// Why no units were chosen.
 #[derive(Clone, Copy, Debug, Drop)]
@@ -18,17 +13,6 @@ pub enum ChooseFault {
     Absent(usize),
     /// 40: memory ran out.
     OutOfMemory,
-}
-
-// Adds this unit under this name to a map, if the name has no unit in it.
-fn add(chosen: &mut UnitMap, name: &Name, unit: &Arc<StoredUnit>) -> Result<(), AllocError>
-    ensures { OnOk result (chosen.new ≡ after chosen.old (command.Add name.now (arc_value unit.now))) }
-{
-    let unit = SharedUnit::new(Arc::try_clone(unit)?);
-    let command = LibraryCommand::Add(name.clone()?, unit);
-    let answer = chosen.apply(&command);
-    drop(command);
-    answer
 }
 
 /// The units with these names in a map; each name must have one.
@@ -45,7 +29,7 @@ pub fn choose(alloc: Global, units: &UnitMap, names: &[Name]) -> Result<UnitMap,
             drop(chosen);
             return Err(ChooseFault::Absent(i));
         };
-        match add(&mut chosen, name, unit) {
+        match chosen.add(name, unit) {
             Ok(()) => {}
             Err(_) => {
                 drop(chosen);

@@ -4,11 +4,10 @@ use super::cover::perform_cover;
 use super::inputs::{BadInput, inputs_of};
 use super::trace::perform_trace;
 use cc_answers::{Stands, Telling, write_fault_line};
-use cc_sources::{INPUT, NamedText, tell_unread, write_name};
+use cc_sources::{INPUT, NamedText, NoText, read_named, tell_unread, write_name};
 use cc_tasks::read_or_refuse;
 use std::alloc::{AllocError, Global};
-use std::fs::File;
-use std::io::{self, Input, Read, Write};
+use std::io::{self, Input, Write};
 use std::rt::Files;
 
 /// A file of inputs has at most this many bytes.
@@ -31,42 +30,6 @@ enum NoInputs {
     OutOfMemory,
 }
 
-// The bytes of a reader, up to one more than a file of inputs may have.
-fn read_lines<R: Read>(alloc: Global, reader: &mut R) -> Result<Vec<u8>, NoInputs> {
-    let mut text = Vec::new(alloc);
-    let mut piece = [0u8; 4096];
-    while text.len() < MOST_READ {
-        let room = piece.len().min(MOST_READ - text.len());
-        let count = match reader.read(&mut piece[..room]) {
-            Ok(count) => count,
-            Err(why) => return Err(NoInputs::Unread(why)),
-        };
-        if count == 0 {
-            break;
-        }
-        if text.extend_from_slice(&piece[..count]).is_err() {
-            return Err(NoInputs::OutOfMemory);
-        }
-    }
-    Ok(text)
-}
-
-// The bytes of the file with this name, or of standard input.
-fn read_named<R: Input, F: Files>(
-    rt: &R,
-    files: &F,
-    alloc: Global,
-    name: &str,
-) -> Result<Vec<u8>, NoInputs> {
-    if name == INPUT {
-        return read_lines(alloc, &mut rt.reader());
-    }
-    match File::open(files, name) {
-        Ok(mut file) => read_lines(alloc, &mut file),
-        Err(why) => Err(NoInputs::Unread(why)),
-    }
-}
-
 // Whether the program with these file names comes on standard input.
 fn is_on_input(names: &[String]) -> bool {
     names.is_empty() || names.iter().any(|name| name.as_str() == INPUT)
@@ -83,9 +46,10 @@ fn inputs_in<R: Input, F: Files>(
     if name == INPUT && is_on_input(names) {
         return Err(NoInputs::Taken);
     }
-    let lines = match read_named(rt, files, alloc, name) {
+    let lines = match read_named(rt, files, alloc, name, MOST_READ) {
         Ok(lines) => lines,
-        Err(why) => return Err(why),
+        Err(NoText::Unread(why)) => return Err(NoInputs::Unread(why)),
+        Err(NoText::OutOfMemory) => return Err(NoInputs::OutOfMemory),
     };
     if lines.len() > MOST_BYTES {
         return Err(NoInputs::TooLong);

@@ -1,29 +1,13 @@
 // The differences between two maps.
 
 ghost use Rattle.std.specs.Prelude.{◌≡◌, ◌↔◌, [], true, IfOk, OnOk};
-ghost use Rattle.std.specs.Arc.{arc_value};
 ghost use Rattle.std.specs.FinMap as map;
-ghost use Rattle.cc_library.specs.Apply.{after};
-ghost use Rattle.cc_library.specs.declared.command.Change.TheVariants as command;
 ghost use Rattle.cc_diff.specs.internal.Names.{HasNameToo};
 ghost use Rattle.cc_diff.specs.Diff.{HasNamesOf, IsDiff};
 
 use crate::difference::{DiffLine, push_lines};
-use cc_library::{LibraryCommand, Name, SharedUnit, UnitMap};
-use cc_unit::StoredUnit;
+use cc_library::{Name, UnitMap};
 use std::alloc::{AllocError, Global};
-use std::sync::Arc;
-
-// Adds this unit with this name to a map, if the map has no unit with the name.
-fn add(both: &mut UnitMap, name: &Name, unit: &Arc<StoredUnit>) -> Result<(), AllocError>
-    ensures { OnOk result (both.new ≡ after both.old (command.Add name.now (arc_value unit.now))) }
-{
-    let unit = SharedUnit::new(Arc::try_clone(unit)?);
-    let command = LibraryCommand::Add(name.clone()?, unit);
-    let answer = both.apply(&command);
-    drop(command);
-    answer
-}
 
 // Adds the unit that the other map has with this name, if the map has no unit with the name.
 #[tactic(auto, using(crate::proofs::Names::added_on))]
@@ -32,7 +16,7 @@ fn add_name(both: &mut UnitMap, other: &UnitMap, name: &Name) -> Result<(), Allo
     ensures { OnOk result (HasNameToo both.old name.now both.new) }
 {
     match other.get(name) {
-        Some(unit) => add(both, name, unit),
+        Some(unit) => both.add(name, unit),
         None => Ok(()),
     }
 }

@@ -10,9 +10,9 @@ use std::alloc::AllocError;
 /// The three kinds of command.
 #[derive(Clone, Copy)]
 pub enum Kind {
-    Add,
-    Replace,
-    Withdraw,
+    Add = 1,
+    Replace = 2,
+    Withdraw = 3,
 }
 
 impl Kind {
@@ -20,11 +20,7 @@ impl Kind {
     pub fn number(&self) -> u8
         ensures { result ≡ kind_number self.now }
     {
-        match self {
-            Kind::Add => 1,
-            Kind::Replace => 2,
-            Kind::Withdraw => 3,
-        }
+        *self as u8
     }
 }
 

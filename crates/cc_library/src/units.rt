@@ -10,6 +10,7 @@ ghost use Rattle.cc_journal.specs.Format.{records, room_of};
 ghost use Rattle.cc_library.specs.Apply.{apply, after, refusal};
 ghost use Rattle.cc_library.specs.Compact.{adds_of, compacted};
 ghost use Rattle.cc_library.specs.Recovered.{AreSpelled};
+ghost use Rattle.cc_library.specs.declared.command.Change.TheVariants as change;
 ghost use Rattle.cc_library.specs.internal.Halves.{begun, finished, undone};
 
 use crate::body::{framed_body, length_with};
@@ -174,8 +175,21 @@ impl UnitMap {
         }
     }
 
-    // Takes the memory that an accepted command needs, so that the command can then be finished or undone without more. If memory runs
-    // out, the map stays as it was.
+    /// Adds a unit under a name, unless the name has one. The unit is shared. Err: memory ran out, or the unit already has as many
+    /// owners as it can have; the map stays as it was.
+    pub fn add(&mut self, name: &Name, unit: &Arc<StoredUnit>) -> Result<(), AllocError>
+        ensures ok { OnOk result (self.new ≡ after self.old (change.Add name.now (arc_value unit.now))) }
+        ensures leaves { OnErr result (self.new ≡ self.old) }
+    {
+        let unit = SharedUnit::new(Arc::try_clone(unit)?);
+        let command = LibraryCommand::Add(name.clone()?, unit);
+        let answer = self.apply(&command);
+        drop(command);
+        answer
+    }
+
+    // Takes the memory that an accepted command needs, so that it can be finished or undone without memory. If memory runs out, the map
+    // stays as it was.
     pub(crate) fn begin(&mut self, command: &LibraryCommand) -> Result<(), AllocError>
         ensures ok { OnOk result (self.new ≡ begun self.old command.now) }
         ensures err { OnErr result (self.new ≡ self.old) }

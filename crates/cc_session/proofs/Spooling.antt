@@ -30,7 +30,18 @@ done_by mode played end script begun answer old new how is grows = (ends_by mode
 
 -- ---- scripts in turn
 
--- if a spool is unchanged, `HasDone` holds, with no script
+-- Equations in turn, and a list that gets one more element at some step. The caller gives the values between them by name. If
+-- they were inferred, they would be written out whole: a spool after several calls is a large term.
+pub after_two : {T : Type 0} (x y z : T) → x ≡ y → y ≡ z → x ≡ z
+after_two x y z one two = one ∙ two
+
+pub one_more_first : {T : Type 0} (before asked next given : List T) (x : T) → given ≡ next → next ≡ asked ++ x ∷ [] → asked ≡ before → given ≡ before ++ x ∷ []
+one_more_first {T} before asked next given x last more first = last ∙ (more ∙ ap (λ (l : List T). l ++ x ∷ []) first)
+
+pub one_more_last : {T : Type 0} (before asked next given : List T) (x : T) → given ≡ next ++ x ∷ [] → next ≡ asked → asked ≡ before → given ≡ before ++ x ∷ []
+one_more_last {T} before asked next given x more last first = more ∙ ap (λ (l : List T). l ++ x ∷ []) (last ∙ first)
+
+-- nothing was done
 pub done_same : (mode : Mode) → (x y : Given) (h : MemberView) → y.taken ≡ x.taken → y.ended ≡ x.ended → HasDone mode x h y h
 done_same mode x y h taken ended = record {
   scripts = [];

@@ -18,7 +18,7 @@ use std::sync::atomic::{AtomicBool, AtomicU64, Ordering};
 /// or on the number of scripts that were taken.
 ///
 /// At least one script is done in each generation, whatever these numbers are.
-#[derive(Clone, Copy, Debug, Drop, PartialEq, Eq)]
+#[derive(Clone, Copy, Drop)]
 pub struct Bounds {
     /// If the history holds this many bytes, the generation ends at the first moment at which no script is being done.
     pub ends: u64,

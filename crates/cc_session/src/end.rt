@@ -1,7 +1,7 @@
 // How a session, or serving, ended.
 
 /// How a session, or serving, ended.
-#[derive(Clone, Copy, Debug, Drop, PartialEq, Eq)]
+#[derive(Clone, Copy, Drop, PartialEq, Eq)]
 pub enum SessionEnd {
     /// The script, or each spool, was done to its end, and the service was ended.
     Finished,

@@ -5,12 +5,12 @@
 // with the hint. A hint is ignored if it was refused, if memory ran out for it, or if its worker is gone. So the answers and
 // their order are the same as if the sources were compiled one by one.
 
-ghost use Rattle.std.specs.Prelude.{◌≡◌, IfSome};
+ghost use Rattle.std.specs.Prelude.{◌≡◌, IfOk, IfSome};
 
 use cc_disk::Disk;
 use cc_link::Mode;
 use cc_script::{Dialect, LINE_BYTES, ScriptCommand, command_of};
-use cc_service::{Client, Named, Prepared, Service};
+use cc_service::{Client, Named, Prepared, Service, ServiceFault};
 use std::alloc::Global;
 use std::collections::VecDeque;
 use std::sync::Wait;
@@ -130,8 +130,29 @@ impl<N: Named + Send + Sync + 'static> Hints<N> {
         None
     }
 
-    // Hands the sources of the next commands to the workers, for a script that was read up to here. `held` is the part of the
-    // rest that has been read already.
+    // A text that the workers have, for a source that was read up to here: as it was handed in before its turn, or is now.
+    pub(crate) fn begun<H: Wait, D: Disk>(
+        &mut self,
+        rt: &H,
+        alloc: Global,
+        service: &Service<N, D>,
+        client: &mut Client<N>,
+        mode: Mode,
+        at: usize,
+        source: &[u8],
+    ) -> Result<Prepared<N>, ServiceFault>
+        ensures text { IfOk result (λ prepared. prepared.text ≡ source.now) }
+        ensures mode { IfOk result (λ prepared. prepared.mode ≡ mode) }
+        ensures member { client.new.member ≡ client.old.member }
+    {
+        match self.take(mode, at, source) {
+            Some(prepared) => Ok(prepared),
+            None => service.prepare_in(rt, alloc, client, mode, source),
+        }
+    }
+
+    // Hands the sources of the next commands to the workers, for a script that was read up to here, unless some client waits for
+    // them. `held` is the part of the rest that has been read already.
     pub(crate) fn look_ahead<H: Wait, D: Disk>(
         &mut self,
         rt: &H,
@@ -144,6 +165,9 @@ impl<N: Named + Send + Sync + 'static> Hints<N> {
     )
         ensures { client.new.member ≡ client.old.member }
     {
+        if service.is_busy() {
+            return;
+        }
         self.looked = self.looked.max(at);
         for _ in 0..MOST_SOURCES {
             if self.is_full() {

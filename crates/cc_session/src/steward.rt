@@ -4,7 +4,7 @@ use crate::end::SessionEnd;
 use std::io::Write;
 
 /// Why the clients of a generation took no further script.
-#[derive(Clone, Copy, Debug, Drop, PartialEq, Eq)]
+#[derive(Clone, Copy, Drop, PartialEq, Eq)]
 pub enum GenerationEnd {
     /// Each spool is over.
     Over,
@@ -15,7 +15,7 @@ pub enum GenerationEnd {
 }
 
 /// What a generation did, from the opening of its service to the end.
-#[derive(Clone, Copy, Debug, Drop, PartialEq, Eq)]
+#[derive(Clone, Copy, Drop, PartialEq, Eq)]
 pub struct Generation {
     /// The number of scripts that were taken. Each was done, and its answer handed over.
     pub scripts: u64,

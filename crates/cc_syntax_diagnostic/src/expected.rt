@@ -164,7 +164,10 @@ impl Prefix {
         } else {
             self.add_beginning(alloc, &mut words)?
         };
-        self.add(alloc, others.phrases(), &mut words)?;
+        if let Others::All = others {
+            self.add(alloc, &STARTS, &mut words)?;
+        }
+        self.add(alloc, others.ends(), &mut words)?;
         Ok(words)
     }
 }
@@ -188,11 +191,11 @@ enum Others {
 }
 
 impl Others {
-    fn phrases(self) -> &'static [Phrase] {
+    // What is reported last.
+    fn ends(self) -> &'static [Phrase] {
         match self {
             Others::BlockEnd => &BLOCK_END,
-            Others::Ends => &ENDS,
-            Others::All => &OTHERS,
+            Others::Ends | Others::All => &ENDS,
         }
     }
 }
@@ -236,7 +239,7 @@ static BLOCK_END: [Phrase; 1] = [Phrase {
     candidates: &["}"],
 }];
 
-static OTHERS: [Phrase; 11] = [
+static STARTS: [Phrase; 5] = [
     Phrase {
         words: "'while'",
         candidates: &["while"],
@@ -256,30 +259,6 @@ static OTHERS: [Phrase; 11] = [
     Phrase {
         words: "'{'",
         candidates: &["{"],
-    },
-    Phrase {
-        words: "','",
-        candidates: &[","],
-    },
-    Phrase {
-        words: "';'",
-        candidates: &[";"],
-    },
-    Phrase {
-        words: "')'",
-        candidates: &[")"],
-    },
-    Phrase {
-        words: "']'",
-        candidates: &["]"],
-    },
-    Phrase {
-        words: "'}'",
-        candidates: &["}"],
-    },
-    Phrase {
-        words: "':'",
-        candidates: &[":"],
     },
 ];
 
