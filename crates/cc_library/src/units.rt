@@ -188,8 +188,8 @@ impl UnitMap {
         answer
     }
 
-    // Takes the memory that an accepted command needs, so that it can be finished or undone without memory. If memory runs out, the map
-    // stays as it was.
+    // Takes the memory that an accepted command needs, so that the command can then be finished or undone without more. If memory runs
+    // out, the map stays as it was.
     pub(crate) fn begin(&mut self, command: &LibraryCommand) -> Result<(), AllocError>
         ensures ok { OnOk result (self.new ≡ begun self.old command.now) }
         ensures err { OnErr result (self.new ≡ self.old) }

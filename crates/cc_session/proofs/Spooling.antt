@@ -41,7 +41,7 @@ one_more_first {T} before asked next given x last more first = last ∙ (more �
 pub one_more_last : {T : Type 0} (before asked next given : List T) (x : T) → given ≡ next ++ x ∷ [] → next ≡ asked → asked ≡ before → given ≡ before ++ x ∷ []
 one_more_last {T} before asked next given x more last first = more ∙ ap (λ (l : List T). l ++ x ∷ []) (last ∙ first)
 
--- nothing was done
+-- if a spool is unchanged, nothing was done
 pub done_same : (mode : Mode) → (x y : Given) (h : MemberView) → y.taken ≡ x.taken → y.ended ≡ x.ended → HasDone mode x h y h
 done_same mode x y h taken ended = record {
   scripts = [];

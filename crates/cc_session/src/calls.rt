@@ -55,7 +55,7 @@ pub(crate) struct Player<'a, N: Named, H, D: Disk, P> {
 }
 
 impl<'a, N: Named + Send + Sync + 'static, H: Wait, D: Disk, P: Patience> Player<'a, N, H, D, P> {
-    // Puts a unit of this source, whatever was handed in before.
+    // Puts a unit compiled from this source, regardless of what was handed in before.
     fn put_anew<W: Write, E: Write>(
         &self,
         client: &mut Client<N>,
@@ -419,7 +419,7 @@ impl<'a, N: Named + Send + Sync + 'static, H: Wait, D: Disk, P: Patience> Player
         }
     }
 
-    // Compacts the library. This is no client's call.
+    // Compacts the library. This is not a call of a client.
     fn compact<W: Write, E: Write>(
         &self,
         answers: &mut W,

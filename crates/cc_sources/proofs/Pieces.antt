@@ -5,13 +5,13 @@ use Rattle.std.specs.Io.KnownBytes.{Consumes, IsAtEnd}
 use lib.Seq.{take-append_seam}
 use Rattle.std.specs.Prelude.{IfSome}
 
--- the text if as many bytes were read as may be read
+-- if as many bytes were read as may be read, they are the reader's text
 pub read_full : (most : ℕ) (a b : Option (List ℕ)) (text : List ℕ) → Consumes a b text → length text ≡ most → IfSome a (λ all. text ≡ take most all)
 read_full most None b text one full = tt
 read_full most (Some x) None text one full = absurd one
 read_full most (Some x) (Some y) text one full = sym (ap (take most) one ∙ (ap (λ (n : ℕ). take n (text ++ y)) (sym full) ∙ take-append_seam text y))
 
--- the text if all bytes of the reader were read, and they are not too many
+-- if all bytes of the reader were read, and they are not too many, they are the reader's text
 pub read_whole : (most : ℕ) (a b : Option (List ℕ)) (text : List ℕ) → Consumes a b text → IsAtEnd b → length text ≤ most → IfSome a (λ all. text ≡ take most all)
 read_whole most None b text one over few = tt
 read_whole most (Some x) None text one over few = absurd one

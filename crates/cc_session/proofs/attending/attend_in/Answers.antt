@@ -1,4 +1,4 @@
--- What was done so far, and then no script or one more.
+-- After what was done so far, no script is done, or one more.
 use Rattle.std.proofs.Common.{ℕ, List, Option, ap, refl, subst}
 use Rattle.cc_script.specs.Reading.{Ahead}
 use Rattle.cc_script.specs.declared.command.Dialect.TheVariants.{Served}
