@@ -37,8 +37,8 @@ pub fn formatted(alloc: Global) -> Result<MemoryDisk, Fail> {
     Ok(disk)
 }
 
-/// The 26 bytes of the worked row: a header, one open record with the body 01 03 01 61, and a closed gate.
-pub const ROW: [u8; 26] = [
+/// The 26 bytes of the worked row: header, one open record with the body 01 03 01 61, the closed gate.
+pub const ROW: &[u8] = &[
     0x00, 0x43, 0x43, 0x4c, 0x49, 0x42, 0x30, 0x31, 0x40, 0x00, 0x00, 0x00, 0x00, 0x00, 0x00, 0x00,
     0xa5, 0x04, 0x00, 0x00, 0x00, 0x01, 0x03, 0x01, 0x61, 0x00,
 ];

@@ -8,7 +8,7 @@
 #[cfg(test)]
 mod certificates;
 #[cfg(test)]
-mod helpers;
+pub mod helpers;
 #[cfg(test)]
 mod hostile;
 #[cfg(test)]

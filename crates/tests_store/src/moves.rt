@@ -4,7 +4,7 @@ use crate::helpers::{formatted, holds, number, one_body, opened};
 use cc_disk::{Disk, FuseDisk, FuseMode, MemoryDisk};
 use std::alloc::Global;
 use std::test::Fail;
-use tests_texts::verdict::{each_passes, passes};
+use tests_texts::verdict::row_passes;
 
 // How many device calls opening a journal with one record makes: a sync, a read of the header, and a read ahead of the records.
 const OPENING: u64 = 3;
@@ -67,16 +67,14 @@ fn survives(alloc: Global, moved: bool, calls: u64, mode: FuseMode) -> Result<bo
     Ok(quiet && done == (calls == 4) && is_right(alloc, &disk, done)?)
 }
 
-// Whether a rewrite from either area leaves the right records.
-fn survives_in_each(alloc: Global, row: &(u64, FuseMode)) -> Result<bool, Fail> {
-    Ok(survives(alloc, false, row.0, row.1)? && survives(alloc, true, row.0, row.1)?)
-}
-
 #[test]
 fn every_failure_of_a_rewrite(rt: HostRuntime) -> Result<(), Fail> {
     for mode in [FuseMode::Once, FuseMode::Before, FuseMode::Within] {
-        let rows = [(0, mode), (1, mode), (2, mode), (3, mode), (4, mode)];
-        each_passes(rt.alloc(), &rows, survives_in_each)?;
+        for calls in 0..5usize {
+            for moved in [false, true] {
+                row_passes(calls, survives(rt.alloc(), moved, calls as u64, mode))?;
+            }
+        }
     }
     Ok(())
 }
@@ -92,7 +90,7 @@ fn each_value_of_a_torn_area_byte(rt: HostRuntime) -> Result<(), Fail> {
     let alloc = rt.alloc();
     let (disk, _, _) = rewritten(alloc, false, 2, FuseMode::Within)?;
     for byte in 0..=255u8 {
-        passes(is_torn(alloc, &disk, byte))?;
+        row_passes(byte as usize, is_torn(alloc, &disk, byte))?;
     }
     Ok(())
 }

@@ -4,7 +4,7 @@ use crate::helpers::{ROW, SIZE, are_bodies, disk_of, part};
 use cc_journal::Journal;
 use std::alloc::Global;
 use std::test::Fail;
-use tests_texts::verdict::passes;
+use tests_texts::verdict::row_passes;
 
 // The next byte of a sequence that looks random but is the same in each run.
 fn next_byte(state: &mut u64) -> u8 {
@@ -61,7 +61,7 @@ fn is_read(alloc: Global, bytes: &[u8]) -> Result<bool, Fail> {
     };
     let mut bodies = Vec::new(alloc);
     let fits = bodies_in(part(bytes, start, start + 64), &mut bodies)?;
-    let number = if part(bytes, 1, 16) != part(&ROW, 1, 16) {
+    let number = if part(bytes, 1, 16) != part(ROW, 1, 16) {
         38
     } else if fits {
         0
@@ -74,17 +74,12 @@ fn is_read(alloc: Global, bytes: &[u8]) -> Result<bool, Fail> {
     }
 }
 
-// Whether the next random disk is read as the format says.
-fn is_next_read(alloc: Global, state: &mut u64) -> Result<bool, Fail> {
-    let bytes = random_disk(alloc, state)?;
-    is_read(alloc, &bytes)
-}
-
 #[test]
 fn random_bytes_are_read_as_the_format_says(rt: HostRuntime) -> Result<(), Fail> {
     let mut state = 1u64;
-    for _ in 0..10_000u32 {
-        passes(is_next_read(rt.alloc(), &mut state))?;
+    for number in 0..10_000usize {
+        let bytes = random_disk(rt.alloc(), &mut state)?;
+        row_passes(number, is_read(rt.alloc(), &bytes))?;
     }
     Ok(())
 }

@@ -2,7 +2,7 @@
 
 ghost use Rattle.std.specs.Prelude.{◌≡◌, None, IfOk};
 
-use cc_disk::{Disk, MemoryDisk};
+use cc_disk::{Disk, FuseDisk, FuseMode, MemoryDisk};
 use cc_journal::format;
 use cc_library::{Edit, Library, LibraryCommand, LibraryFault, Name, SharedUnit};
 use cc_rv32::image::{Code, Globals, Image};
@@ -43,6 +43,15 @@ pub fn unit(alloc: Global, source: &[u8], word: u32) -> Result<StoredUnit, Fail>
 /// The unit of this code word, with an empty source.
 pub fn word_unit(alloc: Global, word: u32) -> Result<Arc<StoredUnit>, Fail> {
     Ok(Arc::new(alloc, unit(alloc, &[], word)?)?)
+}
+
+/// Whether a unit has that certificate.
+pub fn has_certificate(unit: &StoredUnit, wanted: Option<&[u8]>) -> bool {
+    match (&unit.certificate, wanted) {
+        (None, None) => true,
+        (Some(certificate), Some(bytes)) => certificate.bytes() == bytes,
+        _ => false,
+    }
 }
 
 /// The name that consists of this letter.
@@ -151,7 +160,20 @@ pub fn opened<D: Disk + Drop>(alloc: Global, disk: D) -> Result<Library<D>, Fail
     }
 }
 
-/// The first code word of the unit under this name, if there is one.
+/// A library with `a` added, on a disk of 144 bytes whose calls, those of opening first, meet a fuse once this many have passed.
+pub fn with_a(
+    alloc: Global,
+    passes: u64,
+    mode: FuseMode,
+) -> Result<Library<FuseDisk<MemoryDisk>>, Fail> {
+    let mut library = opened(alloc, formatted(alloc, 64)?)?;
+    if does(alloc, &mut library, Step::Add(b'a', 1))? != 0 {
+        return Err(Fail::from("not added"));
+    }
+    opened(alloc, FuseDisk::new(library.into_disk(), passes, mode))
+}
+
+/// The first code word of the unit under that name, if there is one.
 fn word_of<D: Disk>(library: &Library<D>, letter: u8) -> Result<Option<u32>, Fail> {
     Ok(
         library

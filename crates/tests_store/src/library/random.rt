@@ -6,7 +6,7 @@ use cc_disk::MemoryDisk;
 use cc_library::Library;
 use std::alloc::Global;
 use std::test::Fail;
-use tests_texts::verdict::passes;
+use tests_texts::verdict::row_passes;
 
 // A command on `a` or `b`, with the byte of its kind and the code word of its unit.
 #[derive(Clone, Copy)]
@@ -91,8 +91,8 @@ fn is_fold(alloc: Global, state: &mut u64) -> Result<bool, Fail> {
 #[test]
 fn random_records_stand_for_their_fold(rt: HostRuntime) -> Result<(), Fail> {
     let mut state = 1u64;
-    for _ in 0..10_000u32 {
-        passes(is_fold(rt.alloc(), &mut state))?;
+    for number in 0..10_000usize {
+        row_passes(number, is_fold(rt.alloc(), &mut state))?;
     }
     Ok(())
 }
@@ -126,8 +126,8 @@ fn keeps_its_names(alloc: Global, mut library: Library<MemoryDisk>) -> Result<bo
 #[test]
 fn random_bytes_are_opened_or_refused(rt: HostRuntime) -> Result<(), Fail> {
     let mut state = 2u64;
-    for _ in 0..10_000u32 {
-        passes(is_opened_or_refused(rt.alloc(), &mut state))?;
+    for number in 0..10_000usize {
+        row_passes(number, is_opened_or_refused(rt.alloc(), &mut state))?;
     }
     Ok(())
 }

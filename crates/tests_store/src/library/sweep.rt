@@ -8,7 +8,7 @@ use cc_disk::{FuseDisk, FuseMode, MemoryDisk};
 use cc_library::Library;
 use std::alloc::Global;
 use std::test::Fail;
-use tests_texts::verdict::passes;
+use tests_texts::verdict::{passes, row_passes};
 
 // Three device calls to open an empty library, and four for each change and for `compact`.
 const CALLS: u64 = 23;
@@ -88,7 +88,7 @@ fn survives(alloc: Global, calls: u64, mode: FuseMode) -> Result<bool, Fail> {
 fn every_failure_and_a_crash(rt: HostRuntime) -> Result<(), Fail> {
     for calls in 0..CALLS + 1 {
         for mode in [FuseMode::Once, FuseMode::Before, FuseMode::Within] {
-            passes(survives(rt.alloc(), calls, mode))?;
+            row_passes(calls as usize, survives(rt.alloc(), calls, mode))?;
         }
     }
     Ok(())
@@ -123,32 +123,27 @@ fn run_over(alloc: Global, passes: u64, mode: FuseMode) -> Result<Ran, Fail> {
     })
 }
 
+// Whether a run goes on after one failure.
 fn goes_on(alloc: Global, calls: u64) -> Result<bool, Fail> {
     let ran = run_over(alloc, calls, FuseMode::Once)?;
     let right = ran.stopped == 0 && ran.count == 5 && ran.failed == usize::from(calls < CALLS);
     Ok(right && refusal(alloc, ran.disk) == 0)
 }
 
-#[test]
-fn a_run_goes_on_after_one_failure(rt: HostRuntime) -> Result<(), Fail> {
-    for calls in 3..CALLS + 1 {
-        passes(goes_on(rt.alloc(), calls))?;
-    }
-    Ok(())
-}
-
-#[test]
-fn a_run_stops_where_its_disk_is_not_opened_again(rt: HostRuntime) -> Result<(), Fail> {
-    for calls in 3..CALLS {
-        passes(stops(rt.alloc(), calls))?;
-    }
-    Ok(())
-}
-
+// Whether a run stops if its disk is not opened again.
 fn stops(alloc: Global, calls: u64) -> Result<bool, Fail> {
     let ran = run_over(alloc, calls, FuseMode::Before)?;
     // The last number is that of the step that met the fuse.
     let done = ran.count.saturating_sub(1);
     let right = ran.stopped == 35 && ran.failed == 1 && done as u64 == calls.saturating_sub(3) / 4;
     Ok(right && is_right(alloc, &ran.disk, done)?)
+}
+
+#[test]
+fn runs_over_a_fuse(rt: HostRuntime) -> Result<(), Fail> {
+    for calls in 3..CALLS {
+        row_passes(calls as usize, goes_on(rt.alloc(), calls))?;
+        row_passes(calls as usize, stops(rt.alloc(), calls))?;
+    }
+    passes(goes_on(rt.alloc(), CALLS))
 }
