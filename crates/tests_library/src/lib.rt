@@ -5,4 +5,18 @@
 #![tactic(auto)]
 
 #[cfg(test)]
-mod tests;
+mod calls;
+#[cfg(test)]
+mod copies;
+#[cfg(test)]
+mod differences;
+#[cfg(test)]
+mod helpers;
+#[cfg(test)]
+mod logs;
+#[cfg(test)]
+mod measures;
+#[cfg(test)]
+mod watches;
+#[cfg(test)]
+mod words;

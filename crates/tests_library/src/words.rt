@@ -3,8 +3,6 @@
 use cc_command_line::{Keeping, Wanted, Work, line};
 use cc_task::Kind;
 use std::alloc::Global;
-use std::test::Fail;
-use tests_texts::verdict::row_passes;
 
 // What a command line asks for, as text.
 fn asked(alloc: Global, words: &'static [&'static str]) -> Option<String> {
@@ -95,20 +93,17 @@ static ASKED: [(&[&str], &str); 14] = [
     (&["cclib", "image", "d", "n", "--at", "1"], "part d n 1"),
 ];
 
-fn is_asked(alloc: Global, words: &'static [&'static str], wanted: &str) -> bool {
-    match asked(alloc, words) {
-        Some(text) => text.as_str() == wanted,
-        None => false,
-    }
-}
-
 #[test]
-fn what_is_asked_for(rt: HostRuntime) -> Result<(), Fail> {
-    for number in 0..ASKED.len() {
-        let (words, wanted) = ASKED[number];
-        row_passes(number, Ok(is_asked(rt.alloc(), words, wanted)))?;
+fn what_is_asked_for(rt: HostRuntime) {
+    for (words, wanted) in ASKED.iter() {
+        let found = asked(rt.alloc(), words);
+        let is_right = match &found {
+            Some(text) => text.as_str() == *wanted,
+            None => false,
+        };
+        drop(found);
+        assert!(rt; is_right);
     }
-    Ok(())
 }
 
 static REFUSED: [&[&str]; 18] = [
@@ -133,9 +128,8 @@ static REFUSED: [&[&str]; 18] = [
 ];
 
 #[test]
-fn what_is_refused(rt: HostRuntime) -> Result<(), Fail> {
-    for number in 0..REFUSED.len() {
-        row_passes(number, Ok(line(rt.alloc(), REFUSED[number]).is_err()))?;
+fn what_is_refused(rt: HostRuntime) {
+    for words in REFUSED.iter() {
+        assert!(rt; line(rt.alloc(), words).is_err());
     }
-    Ok(())
 }
