@@ -22,7 +22,7 @@ pub enum Step {
     Check,
     /// LTL with a slot for each value.
     Spill,
-    /// The validator on the LTL of `Colour`.
+    /// The validator on the LTL of `Spill`.
     Validate,
     /// The validator on LTL that was handed in.
     Judge,

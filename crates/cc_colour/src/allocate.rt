@@ -95,7 +95,7 @@ fn is_cheap_to_cut(graph: &Graph, web: &Web) -> bool {
 }
 
 // Like `coloured_whole`, but with some webs cut; if none is cut, the pieces are the whole webs. If more webs should be cut, they
-// are marked, and the answer is None. If there are too many pieces, the answer is None, and no web is marked any more.
+// are marked, and the answer is None. If there are too many pieces, all marks are cleared and the answer is None.
 fn coloured_cut(
     alloc: Global,
     whole: Known<'_>,

@@ -346,7 +346,8 @@ module _ (form : FormTree) (cs : List Activation) (total : ℕ) (layout : Layout
       done_after form cs total layout c c most most (Reaches form cs total c w most q) Never Never (Reaches form cs total c w most q) (Leaves form cs total c v most b) (Leaves form cs total c v most k) (part t) (leads_refl form c) (omega arith)
       (λ u y. y) (λ u y. absurd y) (λ u y. absurd y) (f p vs t st h)
 
-  -- the instructions of a part that only falls through, and then of a statement, do what both do
+  -- the instructions of a part that only falls through, followed by those of a statement, do what the part and then the
+  -- statement do
   first_then : (v w : Environment) (x : Exits) (most : ℕ) (code others : List Instruction) (part : State → Run Flow) (rest : State → Run Flow)
       → ((p : ℕ) (vs : List ℕ) (t : State) → Stands form.code p code → Fits v total most vs t → Meets form (conf p vs [] cs t) (Acted form cs total (conf p vs [] cs t) w most (p + length code)) (part t))
       → (extra : List (List ℕ)) → w.locals ≡ extra ++ v.locals → w.layout ≡ v.layout → StatementDoes w w x most others rest → ListDoes v x most (code ++ others) (λ t. then_do (part t) (λ flow u. rest u))

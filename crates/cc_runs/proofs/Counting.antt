@@ -62,7 +62,7 @@ counted image words steps done left parts before (inr ended) =
       bound = λ going. absurd (ended (sym (ap (λ (b : Behavior). b.outcome) same) ∙ going));
     }
 
--- a machine that has executed as many instructions as the count has the output and the result of the run
+-- once a machine has executed exactly the counted number of instructions, its output and result are those of the run
 pub whole : (image : Image) (words : List ℕ) (steps done left : ℕ) (m : Simulation) (outcome : MachineOutcome) → done + left ≡ steps → IsCount image steps words done → IsAfter image words done m
     → outcome ≡ (machine_behavior image words done).outcome → (r : CountedRun) → r.run.output.items ≡ m.output → (r.run.outcome ≡ outcome) × (r.executed ≡ Some (steps - left))
     → IsCounted image true steps words r

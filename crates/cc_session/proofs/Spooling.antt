@@ -30,7 +30,7 @@ done_by mode played end script begun answer old new how is grows = (ends_by mode
 
 -- ---- scripts in turn
 
--- Equations in turn, and a list that gets one more element at some step. The caller gives the values between them by name. If
+-- Chains of equations, and chains in which a list gains one element at one step. The caller names the intermediate values. If
 -- they were inferred, they would be written out whole: a spool after several calls is a large term.
 pub after_two : {T : Type 0} (x y z : T) → x ≡ y → y ≡ z → x ≡ z
 after_two x y z one two = one ∙ two

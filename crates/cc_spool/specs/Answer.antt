@@ -12,7 +12,7 @@ framed source = codes "source " ++ decimal (length source) ++ 10 ∷ source ++ 1
 
 -- ---- byte by byte
 
--- the number with one more digit appended, at most 4294967295
+-- the number with one more digit appended, or 4294967295 if that is less
 abbrev pub with_digit : (number byte : ℕ) → ℕ
 with_digit number byte = min (10 * number + (byte - 48)) 4294967295
 

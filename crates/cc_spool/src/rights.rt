@@ -139,9 +139,9 @@ fn take(layout: &mut FolderLayout, process: u32) -> Result<Option<Held>, Refusal
 ///
 /// What is missing is made: the folder with 0755; `cur` with 0700, `new` and `tmp` with 3777, `done` with 0755. If the folder has the
 /// set-group-id bit, `cur` gets 2700 and the others 2770. What is there keeps its rights. Then everything that a server does in the
-/// folder is tried. An `Err` if one of these calls is refused, which leaves what was made; if a part is there but `lock` is not; or,
-/// checked before `lock` is opened, if the folder belongs to another user, if its path is a link that belongs to another user except
-/// root, or if everybody may write to the folder.
+/// folder is tried. Three things give an `Err`. First, checked before `lock` is opened: the folder belongs to another user, its path
+/// is a link that belongs to another user except root, or everybody may write to it. Second: a part is there but `lock` is not.
+/// Third: the system refuses a call; what was made until then stays.
 pub fn take_folder(layout: &mut FolderLayout, process: u32) -> io::Result<Option<Held>> {
     Ok(take(layout, process)?)
 }

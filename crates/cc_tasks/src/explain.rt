@@ -141,9 +141,9 @@ fn stopping_cause(alloc: Global, text: &[u8], words: &[u32], steps: u64) -> Opti
     }
 }
 
-/// The explanation of a run of an image that goes on. If the image is checked, and the program goes wrong within the same number
-/// of steps (at most 100,000,000), it is the place at which the image has stopped; otherwise it is the warnings of the text. The
-/// program is interpreted to find that out.
+/// The explanation for an image's run that ends as `going`. If the image is checked, and the program goes wrong within the same
+/// number of steps (at most 100,000,000), it is the place at which the image has stopped; otherwise it is the warnings of the
+/// text. The program is interpreted to find that out.
 pub fn explanation_of_going(alloc: Global, task: &Task, text: &[u8]) -> Explanation {
     let (steps, words) = match task {
         Task::Run(Kind::Checked, steps, words) | Task::RunCounted(Kind::Checked, steps, words) => {

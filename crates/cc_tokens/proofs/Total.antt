@@ -1,5 +1,5 @@
--- Each text can be cut up to its end or up to an error: the rest begins with the next piece or with the
--- error.
+-- Each text can be cut into pieces as far as its end or an error: what is left begins with the next piece or
+-- with the error.
 use Rattle.std.proofs.Common.{ℕ, suc, zero, ◌+◌, ◌≤◌, ◌⊎◌, List, [], ◌∷◌, ◌++◌, length, refl, ap, arith, inl, inr, ⊎_elim, length-append}
 use Rattle.std.specs.List.{flat_map}
 use Rattle.cc_tokens.specs.declared.lexical_error.LexicalError.{LexicalError}

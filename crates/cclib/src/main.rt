@@ -199,8 +199,9 @@ fn goes_deep(work: &Work) -> bool {
     !matches!(work, Work::Submit(_))
 }
 
-/// Does the work that was asked for; `names` are the files of its program, if it comes in files. The answers of work that can be
-/// printed as JSON, except a task's, go to `answers`, which a person may see. All other answers go to standard output.
+/// Does the work that was asked for; `names` are the files of its program, if it comes in files. If the work's answer can be
+/// printed as JSON, it goes to `answers`, which may be a terminal, unless the work is a task. All other answers go to standard
+/// output.
 pub(crate) fn do_work<R, A: Write + Drop, E: Write + Drop>(
     rt: &R,
     files: &HostRuntime,

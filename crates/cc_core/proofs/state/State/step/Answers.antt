@@ -1,5 +1,4 @@
--- A step begins at contents that are reached, and these meet what a step requires; after an error the contents are the
--- same.
+-- A step begins at reachable contents, which meet what a step requires; an error leaves the contents unchanged.
 use Rattle.cc_core.proofs.Runs.{Reached-step}
 use Rattle.cc_core.proofs.Sound.{reached_IsSound, sound_ready}
 use Rattle.cc_core.proofs.Whole.{lawful}
